@@ -1,0 +1,2 @@
+-- The laws of bits.
+pub mod TableBits

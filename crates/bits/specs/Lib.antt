@@ -1,0 +1,2 @@
+-- The specs of bits.
+pub mod Bits

@@ -1,0 +1,1 @@
+// Bits and numbers: definitions in specs/, their laws in proofs/. No code.

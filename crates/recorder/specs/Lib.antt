@@ -1,0 +1,6 @@
+-- The specs of recorder.
+pub mod Record
+pub mod Writer
+pub mod Lists
+pub mod Evaluate
+pub mod Read

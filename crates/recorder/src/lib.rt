@@ -1,0 +1,47 @@
+// The recorder, in place of the simulator's ModuleBuilder: counters and three lent lists.
+use refusal::Refusal;
+
+// The number of an expression.
+pub struct ExprId(pub u32);
+
+// The number of a signal.
+pub struct SignalId(pub u32);
+
+impl ExprId {
+    pub const ZERO: ExprId = ExprId(0);
+
+    pub const ONE: ExprId = ExprId(1);
+}
+
+// How far a list is written: its words and its records.
+pub struct Tape {
+    pub used: usize,
+    pub count: u32,
+}
+
+pub struct Tapes {
+    pub signals: Tape,
+    pub exprs: Tape,
+    pub stmts: Tape,
+}
+
+// Where a record went: its number and the tape behind it.
+pub enum Put {
+    At(u32, Tape),
+    Full,
+}
+
+pub enum Emitted {
+    Done(ExprId, Tapes),
+    Refused(Refusal),
+}
+
+pub enum Declared {
+    Done(SignalId, Tapes),
+    Refused(Refusal),
+}
+
+pub enum Stated {
+    Done(Tapes),
+    Refused(Refusal),
+}

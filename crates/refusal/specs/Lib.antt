@@ -1,0 +1,2 @@
+-- The specs of refusal.
+pub mod Refusal
