@@ -1,6 +1,7 @@
 -- The specs of netlist.
 pub mod Netlist
 pub mod Reader
+pub mod Fields
 pub mod Shape
 pub mod ReaderFits
 pub mod ReaderLaws
