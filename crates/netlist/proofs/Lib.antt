@@ -1,0 +1,2 @@
+-- The proofs of netlist.
+pub mod FieldLaws
