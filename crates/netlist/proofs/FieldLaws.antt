@@ -8,13 +8,20 @@ use native.Mathlib.Nat.{add-zero}
 use native.Mathlib.Omega.{arith}
 use lib.ListN.{length, getD}
 use lib.Dec.{ltb, leb, eqb}
+use borrow.Author.Tests.{leb-true, eqb-true}
+use Rattle.settle.specs.Tests.{and-left, and-right}
 use Rattle.netlist.specs.declared.Bit.{Bit}
 use Rattle.netlist.specs.Netlist.{bitOf, Control, Reset, SecondPort, Cell, Port, Netlist}
 use Rattle.netlist.specs.Reader
 use Rattle.netlist.specs.Reader.{Limits, Read, netlist, refused, Step, got, fault, Parser, andThen, _>>=_, done, many, judged, fetched, closed, shiftOf, shiftFits}
 use Rattle.netlist.specs.Fields
+use Rattle.netlist.specs.Shape.{FitsCell, FitsPort, Each, Row, each-at}
+use Rattle.netlist.specs.ReaderLaws.{Parts, parts, Went, went, At, many-at, trailerAt, portCountOf, cellsAtOf, cellCountOf}
+use Rattle.netlist.specs.ReaderFits.{Outcome, Sound, many-sound, cell-sound, port-sound}
+use Rattle.netlist.specs.Placed.{portPlace, cellPlace, Laid, PortPlaced, CellPlaced}
+use Rattle.netlist.proofs.RecordLaws.{end-after}
 use Rattle.netlist.specs.Fields.{recordsAt, endAt, after, whenSet, sizeIf, wordAt, bitAt, bitsAt, wiresAt, controlAt, optionalControlAt, resetAt, optionalResetAt}
-use Rattle.netlist.specs.Fields.{lut4At, pfumxAt, l6mux21At, ccu2cAt, multiplierAt, flipFlopAt, firstSize, secondSize, secondPortAt, blockRamAt, distributedRamAt, ioAt, jtaggAt, pllAt, kindsAt, cellAt, blockRamSize, pllSize, sizesAt, cellSize, cellEnd, cellsAt, portAt, portSize, portEnd, portsAt}
+use Rattle.netlist.specs.Fields.{lut4At, pfumxAt, l6mux21At, ccu2cAt, multiplierAt, flipFlopAt, firstSize, secondSize, secondPortAt, blockRamAt, distributedRamAt, ioAt, jtaggAt, pllAt, kindsAt, cellAt, blockRamSize, pllSize, sizesAt, cellSize, cellEnd, cellsAt, portAt, portSize, portEnd, portsAt, layoutOf, netlistAt}
 
 -- a step that got something got this, and ends there
 abbrev pub Gives : {A : Type 0} → Step A → A → ℕ → Type 0
@@ -38,11 +45,6 @@ gives-many p value next h zero i = (refl, refl)
 gives-many p value next h (suc n) i =
     gives-bind p (λ a. many n p >>= (λ l. done (a ∷ l))) i (next i) (endAt next n (next i)) (value i) (value i ∷ recordsAt value next n (next i)) (h i)
     (gives-bind (many n p) (λ l. done (value i ∷ l)) (next i) (endAt next n (next i)) (endAt next n (next i)) (recordsAt value next n (next i)) (value i ∷ recordsAt value next n (next i)) (gives-many p value next h n (next i)) (refl, refl))
-
-pub end-after : (n i : ℕ) → endAt after n i ≡ i + n
-unfolding endAt
-end-after zero i = omega arith
-end-after (suc n) i = end-after n (i + 1) ∙ omega arith
 
 module _ (limits : Limits) (words : List ℕ) (end : ℕ) where
   gives-word : (ok : ℕ → Bool) (i j : ℕ) → j ≡ i + 1 → Gives (Reader.word limits words end ok i) (wordAt words i) j
@@ -269,3 +271,92 @@ module _ (limits : Limits) (words : List ℕ) (end : ℕ) where
 
   pub port-law : (i j : ℕ) (p : Port) → Reader.readPort limits words end i ≡ got p j → (p ≡ portAt words i) × (j ≡ portEnd words i)
   port-law i j p e = gives-got _ _ _ p j (gives-port i) e
+
+  -- a section that was read: its records, and its end
+  pub record Section {A : Type 0} (p : Parser A) (value : ℕ → A) (next : ℕ → ℕ) (count start : ℕ) (l : List A) : Type 0 where
+    pub all : many count p start ≡ got l end
+    pub list : l ≡ recordsAt value next count start
+    pub last : endAt next count start ≡ end
+
+  section : {A : Type 0} (p : Parser A) (value : ℕ → A) (next : ℕ → ℕ) (count start : ℕ) (l : List A) (j : ℕ) → ((i : ℕ) → Gives (p i) (value i) (next i))
+      → (many count p >>= (λ r. Reader.sectionEnd limits words end r)) start ≡ got l j → Section p value next count start l
+  section {A} p value next count start l j g e =
+      let w = went (many count p start) (λ r. Reader.sectionEnd limits words end r) l j e in
+      let h = gives-got _ _ _ (w .value) (w .next) (gives-many p value next g count start) (w .first) in
+      let c = ends (w .value) (w .next) l j (eqb (w .next) end) refl (w .rest) in
+      record {
+        all = w .first ∙ ap (λ (r : List A). got r (w .next)) (c .0) ∙ ap (λ (n : ℕ). got l n) (c .1);
+        list = sym (c .0) ∙ h .0;
+        last = sym (h .1) ∙ c .1;
+      }
+    where
+      ends : (r : List A) (m : ℕ) (l : List A) (j : ℕ) (b : Bool) → eqb m end ≡ b → closed b r m ≡ got l j → (r ≡ l) × (m ≡ end)
+      ends r m l j true q e = (cc, eqb-true m end q)
+      ends r m l j false q e = let z : _≡_ {A = ℕ} 0 1 = cc in absurd (omega arith)
+
+  -- record k of a section stands where the k before it end, and is inside
+  pub record Stands {A : Type 0} (p : Parser A) (value : ℕ → A) (next : ℕ → ℕ) (fits : A → Type 0) (i : ℕ) : Type 0 where
+    pub read : p i ≡ got (value i) (next i)
+    pub inside : next i ≤ end
+    pub fit : fits (value i)
+
+  stands : {A : Type 0} (p : Parser A) (value : ℕ → A) (next : ℕ → ℕ) (fits : A → Type 0) (count start : ℕ) (l : List A) → ((i : ℕ) → Gives (p i) (value i) (next i))
+      → Sound limits words end fits p → many count p start ≡ got l end → start ≤ end → (k : ℕ) → k < count → Stands p value next fits (endAt next k start)
+  stands {A} p value next fits count start l g s e hs k hk =
+      let a = many-at p (value start) count start end l e k hk in
+      let b = gives-got _ _ _ _ _ (gives-many p value next g k start) (a .before) in
+      subst (λ (n : ℕ). Stands p value next fits n) (b .1) (at (a .place) (a .after) _ (a .here) (inside (a .before)))
+    where
+      inside : {r : List A} {m : ℕ} → many k p start ≡ got r m → m ≤ end
+      inside {r} {m} q = (subst (λ (t : Step (List A)). Outcome limits words end (Row fits k) start t) q ((many-sound limits words end k s) .at start hs)) .1
+
+      at : (m n : ℕ) (x : A) → p m ≡ got x n → m ≤ end → Stands p value next fits m
+      at m n x q h =
+          let o = subst (λ (t : Step A). Outcome limits words end fits m t) q (s .at m h) in
+          let v = gives-got _ _ _ x n (g m) q in
+          record { read = q ∙ ap (λ (y : A). got y n) (v .0) ∙ ap (λ (y : ℕ). got (value m) y) (v .1); inside = subst (λ (y : ℕ). y ≤ end) (v .1) (o .1); fit = subst fits (v .0) (o .2) }
+
+module _ (limits : Limits) (words : List ℕ) (n : Netlist) (read : Reader.readWords limits words ≡ netlist n) where
+  ports-section : Section limits words (cellsAtOf words) (Reader.readPort limits words (cellsAtOf words)) (portAt words) (portEnd words) (portCountOf words) 0 (n .ports)
+  ports-section = section limits words (cellsAtOf words) _ _ _ _ _ _ _ (gives-port limits words (cellsAtOf words)) (parts limits words n read .ports)
+
+  cells-section : Section limits words (trailerAt words) (Reader.readCell limits words (trailerAt words)) (cellAt words) (cellEnd words) (cellCountOf words) (cellsAtOf words) (n .cells)
+  cells-section = section limits words (trailerAt words) _ _ _ _ _ _ _ (gives-cell limits words (trailerAt words)) (parts limits words n read .cells)
+
+  -- the netlist that was read is the one that the words say
+  pub netlist-law : n ≡ netlistAt words
+  unfolding netlistAt layoutOf
+  netlist-law = ap (λ (ps : List Port). record { ports = ps; cells = n .cells }) (ports-section .list) ∙ ap (λ (cs : List Cell). record { ports = portsAt words 0 (portCountOf words); cells = cs }) (cells-section .list)
+
+  pub laid : Laid limits words
+  unfolding layoutOf
+  laid =
+      let p = parts limits words n read in
+      let z = eqb (wordAt words (trailerAt words)) 0 in
+      let a = leb (portCountOf words) (limits .ports) in
+      let s = leb (cellsAtOf words) (trailerAt words) in
+      let b = leb (cellCountOf words) (limits .cells) in
+      let e3 = and-left (z && a && s) b (p .trailer) in
+      let e2 = and-left (z && a) s e3 in
+      let long = p .long in
+      record {
+        trailer = omega arith;
+        zero = eqb-true _ 0 (and-left z a e2);
+        ports = leb-true _ _ (and-right z a e2);
+        cells = leb-true _ _ (and-right (z && a && s) b (p .trailer));
+        start = leb-true _ _ (and-right (z && a) s e3);
+        portsEnd = ports-section .last;
+        cellsEnd = cells-section .last;
+      }
+
+  pub port-placed : (k : ℕ) → k < layoutOf words .ports → PortPlaced limits words (portPlace words k)
+  unfolding layoutOf
+  port-placed k h =
+      let s = stands limits words (cellsAtOf words) _ _ _ (FitsPort limits) (portCountOf words) 0 (n .ports) (gives-port limits words (cellsAtOf words)) (port-sound limits words (cellsAtOf words)) (ports-section .all) (omega arith) k h in
+      record { read = s .read; inside = s .inside; fits = s .fit }
+
+  pub cell-placed : (k : ℕ) → k < layoutOf words .cells → CellPlaced limits words (cellPlace words k)
+  unfolding layoutOf
+  cell-placed k h =
+      let s = stands limits words (trailerAt words) _ _ _ (FitsCell limits) (cellCountOf words) (cellsAtOf words) (n .cells) (gives-cell limits words (trailerAt words)) (cell-sound limits words (trailerAt words)) (cells-section .all) (laid .start) k h in
+      record { read = s .read; inside = s .inside; fits = s .fit }

@@ -1,2 +1,3 @@
--- The proofs of netlist.
+-- The laws of netlist.
+pub mod RecordLaws
 pub mod FieldLaws
