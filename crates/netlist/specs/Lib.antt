@@ -2,6 +2,7 @@
 pub mod Netlist
 pub mod Reader
 pub mod Fields
+pub mod FieldForms
 pub mod Placed
 pub mod Shape
 pub mod ReaderFits
