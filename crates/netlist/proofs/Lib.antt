@@ -2,3 +2,4 @@
 pub mod RecordLaws
 pub mod FieldLaws
 pub mod WordLaws
+pub mod WalkLaws

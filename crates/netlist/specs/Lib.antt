@@ -8,3 +8,4 @@ pub mod Shape
 pub mod ReaderFits
 pub mod ReaderLaws
 pub mod ReaderChecks
+pub mod Walk

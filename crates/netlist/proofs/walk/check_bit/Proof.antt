@@ -1,0 +1,26 @@
+use borrow.Author.Needs.{needs}
+use Rattle.netlist.proofs.walk.check_bit.Statement.{statement}
+use Rattle.netlist.proofs.walk.check_bit.Tie as tie
+use Rattle.netlist.proofs.walk.check_bit.Reads as reads
+use Rattle.netlist.proofs.walk.check_bit.Lts as lts
+use Rattle.netlist.proofs.fields.wide.Reads as wide-reads
+use Rattle.netlist.proofs.walk.check_below.Reads as check-below-reads
+
+-- src/walk.rt:124:36
+wide-requires : tie.Need-wide-requires
+wide-requires c κs = search needs
+
+-- src/walk.rt:124:32
+add-check-below : tie.Need-add-check-below
+add-check-below c = search needs
+
+-- src/walk.rt:124:5
+check-below-requires : tie.Need-check-below-requires
+check-below-requires c κs = search needs
+
+-- src/walk.rt:121:1
+returns : tie.Need-returns
+returns c = ?
+
+pub check-bit-spec : {M : Type 1} → statement M
+check-bit-spec = tie.close (tie.spec wide-requires add-check-below check-below-requires returns)

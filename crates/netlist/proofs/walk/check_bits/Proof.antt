@@ -1,0 +1,26 @@
+use borrow.Author.Needs.{needs}
+use Rattle.netlist.proofs.walk.check_bits.Statement.{statement}
+use Rattle.netlist.proofs.walk.check_bits.Tie as tie
+use Rattle.netlist.proofs.walk.check_bits.Reads as reads
+use Rattle.netlist.proofs.walk.check_bits.Lts as lts
+use Rattle.netlist.proofs.fields.wide.Reads as wide-reads
+use Rattle.netlist.proofs.walk.check_run.Reads as check-run-reads
+
+-- src/walk.rt:130:41
+wide-requires : tie.Need-wide-requires
+wide-requires c κs = search needs
+
+-- src/walk.rt:130:37
+add-check-run : tie.Need-add-check-run
+add-check-run c = search needs
+
+-- src/walk.rt:130:5
+check-run-requires : tie.Need-check-run-requires
+check-run-requires c κs = search needs
+
+-- src/walk.rt:127:1
+returns : tie.Need-returns
+returns c = ?
+
+pub check-bits-spec : {M : Type 1} → statement M
+check-bits-spec = tie.close (tie.spec wide-requires add-check-run check-run-requires returns)

@@ -1,0 +1,22 @@
+use borrow.Author.Needs.{needs}
+use Rattle.netlist.proofs.walk.check_control.Statement.{statement}
+use Rattle.netlist.proofs.walk.check_control.Tie as tie
+use Rattle.netlist.proofs.walk.check_control.Reads as reads
+use Rattle.netlist.proofs.walk.check_control.Lts as lts
+use Rattle.netlist.proofs.walk.check_below.Reads as check-below-reads
+use Rattle.netlist.proofs.walk.check_bit.Reads as check-bit-reads
+
+-- src/walk.rt:136:9
+check-bit-requires : tie.Need-check-bit-requires
+check-bit-requires c κs = search needs
+
+-- src/walk.rt:137:5
+check-below-requires : tie.Need-check-below-requires
+check-below-requires c κs = search needs
+
+-- src/walk.rt:133:1
+returns : tie.Need-returns
+returns c = ?
+
+pub check-control-spec : {M : Type 1} → statement M
+check-control-spec = tie.close (tie.spec check-bit-requires check-below-requires returns)

@@ -1,0 +1,48 @@
+use borrow.Author.Needs.{needs}
+use Rattle.netlist.proofs.walk.check_optional_control.Statement.{statement}
+use Rattle.netlist.proofs.walk.check_optional_control.Tie as tie
+use Rattle.netlist.proofs.walk.check_optional_control.Reads as reads
+use Rattle.netlist.proofs.walk.check_optional_control.Lts as lts
+use Rattle.netlist.proofs.walk.check_below.Reads as check-below-reads
+use Rattle.netlist.proofs.walk.check_control.Reads as check-control-reads
+use Rattle.netlist.proofs.walk.last.Reads as last-reads
+
+-- src/walk.rt:143:9
+check-below-requires : tie.Need-check-below-requires
+check-below-requires c κs = search needs
+
+-- src/walk.rt:144:8
+last-requires : tie.Need-last-requires
+last-requires c κs = search needs
+
+-- src/walk.rt:145:13
+check-below-requires-2 : tie.Need-check-below-requires-2
+check-below-requires-2 c κs = search needs
+
+-- src/walk.rt:146:9
+check-below-requires-3 : tie.Need-check-below-requires-3
+check-below-requires-3 c κs = search needs
+
+-- src/walk.rt:146:9
+returns : tie.Need-returns
+returns c = ?
+
+-- src/walk.rt:148:5
+check-control-requires : tie.Need-check-control-requires
+check-control-requires c κs = search needs
+
+-- src/walk.rt:140:1
+returns-2 : tie.Need-returns-2
+returns-2 c = ?
+
+pub check-optional-control-spec : {M : Type 1} → statement M
+check-optional-control-spec =
+    tie.close
+    (tie.spec
+    check-below-requires
+    last-requires
+    check-below-requires-2
+    check-below-requires-3
+    returns
+    check-control-requires
+    returns-2)

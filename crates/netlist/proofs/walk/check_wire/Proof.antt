@@ -1,0 +1,22 @@
+use borrow.Author.Needs.{needs}
+use Rattle.netlist.proofs.walk.check_wire.Statement.{statement}
+use Rattle.netlist.proofs.walk.check_wire.Tie as tie
+use Rattle.netlist.proofs.walk.check_wire.Reads as reads
+use Rattle.netlist.proofs.walk.check_wire.Lts as lts
+use Rattle.netlist.proofs.fields.wide.Reads as wide-reads
+use Rattle.netlist.proofs.walk.check_below.Reads as check-below-reads
+
+-- src/walk.rt:112:32
+wide-requires : tie.Need-wide-requires
+wide-requires c κs = search needs
+
+-- src/walk.rt:112:5
+check-below-requires : tie.Need-check-below-requires
+check-below-requires c κs = search needs
+
+-- src/walk.rt:109:1
+returns : tie.Need-returns
+returns c = ?
+
+pub check-wire-spec : {M : Type 1} → statement M
+check-wire-spec = tie.close (tie.spec wide-requires check-below-requires returns)

@@ -1,0 +1,22 @@
+use borrow.Author.Needs.{needs}
+use Rattle.netlist.proofs.walk.check_wires.Statement.{statement}
+use Rattle.netlist.proofs.walk.check_wires.Tie as tie
+use Rattle.netlist.proofs.walk.check_wires.Reads as reads
+use Rattle.netlist.proofs.walk.check_wires.Lts as lts
+use Rattle.netlist.proofs.fields.wide.Reads as wide-reads
+use Rattle.netlist.proofs.walk.check_run.Reads as check-run-reads
+
+-- src/walk.rt:118:37
+wide-requires : tie.Need-wide-requires
+wide-requires c κs = search needs
+
+-- src/walk.rt:118:5
+check-run-requires : tie.Need-check-run-requires
+check-run-requires c κs = search needs
+
+-- src/walk.rt:115:1
+returns : tie.Need-returns
+returns c = ?
+
+pub check-wires-spec : {M : Type 1} → statement M
+check-wires-spec = tie.close (tie.spec wide-requires check-run-requires returns)
