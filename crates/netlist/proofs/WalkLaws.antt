@@ -204,3 +204,18 @@ module _ (limits : Limits) (words : List ℕ) (end : ℕ) {w r1 : Walk} (x : ℕ
       → Passed r3 (Reader.flag limits words end) r4 → Passed r4 (Reader.flag limits words end) r5 → Passed w (Reader.optionalReset limits words end) r5
   optional-reset-present z a b c d =
       choose-present (Reader.resetIf limits words end) z (λ n. then-go _ Zero a (λ p. then-go _ 0 b (λ q. then-go _ 0 c (λ s. then-go _ 0 d (λ t. passed-done _ _)))))
+
+-- WIRES AND BITS: the bound is the limits'
+
+module _ (limits : Limits) (words : List ℕ) (end : ℕ) {w r : Walk} (b : ℕ) (bound : b ≡ limits .wires) where
+  pub wire-passed : Passed w (Reader.below base words end b) r → Passed w (Reader.wire limits words end) r
+  wire-passed h = subst (λ (n : ℕ). Passed w (Reader.below base words end n) r) bound h
+
+  pub wires-passed : (n : ℕ) → Passed w (many n (Reader.below base words end b)) r → Passed w (many n (Reader.wire limits words end)) r
+  wires-passed n h = subst (λ (m : ℕ). Passed w (many n (Reader.below base words end m)) r) bound h
+
+  pub bit-passed : Passed w (Reader.below base words end (2 + b)) r → Passed w (Reader.bit limits words end) r
+  bit-passed h = passed-map bitOf 0 (subst (λ (n : ℕ). Passed w (Reader.below base words end (2 + n)) r) bound h)
+
+  pub bits-passed : (n : ℕ) → Passed w (many n (Reader.below base words end (2 + b))) r → Passed w (many n (Reader.bit limits words end)) r
+  bits-passed n h = passed-many-map (Reader.below base words end (2 + limits .wires)) bitOf n (subst (λ (m : ℕ). Passed w (many n (Reader.below base words end (2 + m))) r) bound h)

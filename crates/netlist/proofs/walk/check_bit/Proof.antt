@@ -1,3 +1,4 @@
+use Rattle.netlist.proofs.WalkLaws.{bit-passed}
 use borrow.Author.Needs.{needs}
 use Rattle.netlist.proofs.walk.check_bit.Statement.{statement}
 use Rattle.netlist.proofs.walk.check_bit.Tie as tie
@@ -20,7 +21,9 @@ check-below-requires c κs = search needs
 
 -- src/walk.rt:121:1
 returns : tie.Need-returns
-returns c = ?
+returns c =
+    let a = c .before .before .before .args in
+    bit-passed (a .limits) (a .words .now) (a .end) _ (c .before .wide .ensures) (c .check-below .ensures)
 
 pub check-bit-spec : {M : Type 1} → statement M
 check-bit-spec = tie.close (tie.spec wide-requires add-check-below check-below-requires returns)

@@ -1,3 +1,4 @@
+use Rattle.netlist.proofs.WalkLaws.{bits-passed}
 use borrow.Author.Needs.{needs}
 use Rattle.netlist.proofs.walk.check_bits.Statement.{statement}
 use Rattle.netlist.proofs.walk.check_bits.Tie as tie
@@ -20,7 +21,9 @@ check-run-requires c κs = search needs
 
 -- src/walk.rt:127:1
 returns : tie.Need-returns
-returns c = ?
+returns c =
+    let a = c .before .before .before .args in
+    bits-passed (a .limits) (a .words .now) (a .end) _ (c .before .wide .ensures) (a .count) (c .check-run .ensures)
 
 pub check-bits-spec : {M : Type 1} → statement M
 check-bits-spec = tie.close (tie.spec wide-requires add-check-run check-run-requires returns)

@@ -1,3 +1,4 @@
+use Rattle.netlist.proofs.WalkLaws.{optional-reset-absent, optional-reset-present}
 use borrow.Author.Needs.{needs}
 use Rattle.netlist.proofs.walk.check_optional_reset.Statement.{statement}
 use Rattle.netlist.proofs.walk.check_optional_reset.Tie as tie
@@ -33,7 +34,9 @@ check-below-requires-5 c κs = search needs
 
 -- src/walk.rt:159:9
 returns : tie.Need-returns
-returns c = ?
+returns c =
+    let a = c .before .before .before .before .before .before .before .before .args in
+    optional-reset-absent (a .limits) (a .words .now) (a .end) _ (c .before .before .before .before .before .before .check-below .ensures) (c .before .before .before .before .before .last .ensures) (c .before .before .before .before .if1 .taken) (c .before .before .before .check-below2 .ensures) (c .before .before .check-below3 .ensures) (c .before .check-below4 .ensures) (c .check-below5 .ensures)
 
 -- src/walk.rt:161:9
 check-bit-requires : tie.Need-check-bit-requires
@@ -53,7 +56,9 @@ check-below-requires-8 c κs = search needs
 
 -- src/walk.rt:151:1
 returns-2 : tie.Need-returns-2
-returns-2 c = ?
+returns-2 c =
+    let a = c .before .before .before .before .before .before .before .before .args in
+    optional-reset-present (a .limits) (a .words .now) (a .end) _ (c .before .before .before .before .before .before .check-below .ensures) (c .before .before .before .before .before .last .ensures) (c .before .before .before .before .if1 .left) (c .before .before .before .check-bit .ensures) (c .before .before .check-below6 .ensures) (c .before .check-below7 .ensures) (c .check-below8 .ensures)
 
 pub check-optional-reset-spec : {M : Type 1} → statement M
 check-optional-reset-spec =

@@ -1,3 +1,4 @@
+use Rattle.netlist.proofs.WalkLaws.{wire-passed}
 use borrow.Author.Needs.{needs}
 use Rattle.netlist.proofs.walk.check_wire.Statement.{statement}
 use Rattle.netlist.proofs.walk.check_wire.Tie as tie
@@ -16,7 +17,9 @@ check-below-requires c κs = search needs
 
 -- src/walk.rt:109:1
 returns : tie.Need-returns
-returns c = ?
+returns c =
+    let a = c .before .before .before .args in
+    wire-passed (a .limits) (a .words .now) (a .end) _ (c .before .wide .ensures) (c .check-below .ensures)
 
 pub check-wire-spec : {M : Type 1} → statement M
 check-wire-spec = tie.close (tie.spec wide-requires check-below-requires returns)

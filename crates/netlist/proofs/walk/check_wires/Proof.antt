@@ -1,3 +1,4 @@
+use Rattle.netlist.proofs.WalkLaws.{wires-passed}
 use borrow.Author.Needs.{needs}
 use Rattle.netlist.proofs.walk.check_wires.Statement.{statement}
 use Rattle.netlist.proofs.walk.check_wires.Tie as tie
@@ -16,7 +17,9 @@ check-run-requires c κs = search needs
 
 -- src/walk.rt:115:1
 returns : tie.Need-returns
-returns c = ?
+returns c =
+    let a = c .before .before .before .args in
+    wires-passed (a .limits) (a .words .now) (a .end) _ (c .before .wide .ensures) (a .count) (c .check-run .ensures)
 
 pub check-wires-spec : {M : Type 1} → statement M
 check-wires-spec = tie.close (tie.spec wide-requires check-run-requires returns)
