@@ -3,3 +3,5 @@ pub mod RecordLaws
 pub mod FieldLaws
 pub mod WordLaws
 pub mod WalkLaws
+pub mod RamLaws
+pub mod CellLaws

@@ -3,6 +3,8 @@ use mathlib.Core.Option.{Option, none, some}
 use Rattle.netlist.specs.Netlist.{Control, Reset}
 use Rattle.netlist.specs.declared.fields.OptionalControl as oc
 use Rattle.netlist.specs.declared.fields.OptionalReset as orr
+use Rattle.netlist.specs.declared.ram.Shift as sh
+use Prim.Native.Nat.{ℕ}
 
 abbrev pub presence : oc.OptionalControl → Option Control
 presence oc.the-variants.Absent = none
@@ -11,3 +13,7 @@ presence (oc.the-variants.Present c) = some c
 abbrev pub resetPresence : orr.OptionalReset → Option Reset
 resetPresence orr.the-variants.Absent = none
 resetPresence (orr.the-variants.Present r) = some r
+
+abbrev pub shiftGiven : sh.Shift → Option ℕ
+shiftGiven sh.the-variants.NotAllowed = none
+shiftGiven (sh.the-variants.By n) = some n

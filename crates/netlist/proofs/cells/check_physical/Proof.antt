@@ -1,0 +1,34 @@
+use Rattle.netlist.proofs.WalkLaws.{passed-test}
+use Prim.Native.Nat.{ℕ}
+use mathlib.Core.Path.{_≡_, refl, sym, ap, _∙_}
+use Rattle.netlist.specs.Reader.{base, shiftOf, shiftFits}
+use borrow.Author.Needs.{needs}
+use Rattle.netlist.proofs.cells.check_physical.Statement.{statement}
+use Rattle.netlist.proofs.cells.check_physical.Tie as tie
+use Rattle.netlist.proofs.cells.check_physical.Reads as reads
+use Rattle.netlist.proofs.cells.check_physical.Lts as lts
+use Rattle.netlist.proofs.ram.shift_fits.Reads as shift-fits-reads
+use Rattle.netlist.proofs.walk.check_word.Reads as check-word-reads
+use Rattle.netlist.proofs.walk.peek.Reads as peek-reads
+
+-- src/cells.rt:81:32
+peek-requires : tie.Need-peek-requires
+peek-requires c κs = search needs
+
+-- src/cells.rt:81:9
+shift-fits-requires : tie.Need-shift-fits-requires
+shift-fits-requires c κs = search needs
+
+-- src/cells.rt:82:5
+check-word-requires : tie.Need-check-word-requires
+check-word-requires c κs = search needs
+
+-- src/cells.rt:78:1
+returns : tie.Need-returns
+returns c =
+    let a = c .before .before .before .before .args in
+    passed-test base (a .words .now) (a .end) (λ x. shiftFits (a .depth) (shiftOf x)) _ (c .before .shift-fits .ensures ∙ ap (λ (n : ℕ). shiftFits (a .depth) (shiftOf n)) (c .before .before .peek .ensures)) (c .check-word .ensures)
+
+pub check-physical-spec : {M : Type 1} → statement M
+check-physical-spec =
+    tie.close (tie.spec peek-requires shift-fits-requires check-word-requires returns)
