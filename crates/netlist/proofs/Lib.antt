@@ -5,3 +5,4 @@ pub mod WordLaws
 pub mod WalkLaws
 pub mod RamLaws
 pub mod CellLaws
+pub mod SectionLaws

@@ -5,7 +5,7 @@ use Prim.Native.Nat.{ℕ, zero, suc, _+_, _-_}
 use lib.ListN.{length, getD}
 use Rattle.netlist.specs.declared.Bit.{Bit}
 use Rattle.netlist.specs.declared.Layout.{Layout}
-use Rattle.netlist.specs.Netlist.{bitOf, Control, Reset, SecondPort, Cell, Port, Netlist}
+use Rattle.netlist.specs.Netlist.{bitOf, Control, Reset, SecondPort, BlockRam, Cell, Port, Netlist}
 use Rattle.netlist.specs.Netlist.{lut4, pfumx, l6mux21, ccu2c, multiplier, flipFlop, blockRam, distributedRam, io, jtagg, pll}
 
 -- so many records from an index on, each beginning where the one before ends; and where the last one ends
@@ -114,10 +114,10 @@ module _ (words : List ℕ) where
     output = wiresAt (s + (24 + width)) width;
   }
 
-  abbrev pub blockRamAt : ℕ → Cell
-  blockRamAt i =
+  abbrev pub ramAt : ℕ → BlockRam
+  ramAt i =
       let width = wordAt (i + 2) in
-      blockRam (record {
+      record {
         depth = wordAt (i + 1);
         width = width;
         physical = wordAt (i + 3);
@@ -131,7 +131,10 @@ module _ (words : List ℕ) where
         second = whenSet (wordAt (i + 42)) (secondPortAt (i + firstSize width) width);
         input = bitsAt (i + 43) width;
         output = wiresAt (i + (43 + width)) width;
-      })
+      }
+
+  abbrev pub blockRamAt : ℕ → Cell
+  blockRamAt i = blockRam (ramAt i)
 
   abbrev pub distributedRamAt : ℕ → Cell
   distributedRamAt i = distributedRam (record {

@@ -9,3 +9,4 @@ pub mod ReaderFits
 pub mod ReaderLaws
 pub mod ReaderChecks
 pub mod Walk
+pub mod Checks

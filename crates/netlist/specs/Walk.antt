@@ -1,6 +1,6 @@
 -- What a parser means to code that only checks: where it ends, or the refusal. The values are forgotten.
 use mathlib.Core.Path.{_≡_}
-use mathlib.Core.List.{List}
+use mathlib.Core.List.{List, []}
 use mathlib.Core.Bool.{Bool, true, false}
 use Prim.Native.Nat.{ℕ, _-_}
 use lib.Dec.{eqb}
@@ -8,7 +8,8 @@ use Rattle.refusal.specs.declared.Refusal.{Refusal}
 use Rattle.refusal.specs.declared.Refusal.the-variants.{WordCount, WordValue}
 use Rattle.netlist.specs.declared.walk.Walk.{Walk}
 use Rattle.netlist.specs.declared.walk.Walk.the-variants.{At, Refused}
-use Rattle.netlist.specs.Reader.{Step, got, fault, Parser}
+use Rattle.netlist.specs.Reader
+use Rattle.netlist.specs.Reader.{base, Step, got, fault, Parser}
 use Rattle.netlist.specs.Fields.{wordAt}
 
 -- a parser's faults are 4 and 5
@@ -34,3 +35,7 @@ peekOf words (Refused x) = 0
 abbrev pub lastOf : List ℕ → Walk → ℕ
 lastOf words (At i) = wordAt words (i - 1)
 lastOf words (Refused x) = 0
+
+-- the section must end here
+abbrev pub endsAt : ℕ → Parser ℕ
+endsAt end = Reader.sectionEnd base [] end 0

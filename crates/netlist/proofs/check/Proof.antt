@@ -1,0 +1,79 @@
+use borrow.Author.Needs.{needs}
+use Rattle.netlist.proofs.check.Statement.{statement}
+use Rattle.netlist.proofs.check.Tie as tie
+use Rattle.netlist.proofs.check.Reads as reads
+use Rattle.netlist.proofs.check.Lts as lts
+use Rattle.netlist.proofs.fields.wide.Reads as wide-reads
+use Rattle.netlist.proofs.fields.word.Reads as word-reads
+use Rattle.netlist.proofs.sections.check_sections.Reads as check-sections-reads
+use Rattle.netlist.proofs.trailer_fits.Reads as trailer-fits-reads
+
+-- src/lib.rt:92:9
+returns : tie.Need-returns
+returns c = ?
+
+-- src/lib.rt:95:9
+word-requires : tie.Need-word-requires
+word-requires c κs = search needs
+
+-- src/lib.rt:96:29
+add-word : tie.Need-add-word
+add-word c = search needs
+
+-- src/lib.rt:96:9
+word-requires-2 : tie.Need-word-requires-2
+word-requires-2 c κs = search needs
+
+-- src/lib.rt:97:34
+add-word-2 : tie.Need-add-word-2
+add-word-2 c = search needs
+
+-- src/lib.rt:97:22
+word-requires-3 : tie.Need-word-requires-3
+word-requires-3 c κs = search needs
+
+-- src/lib.rt:97:9
+wide-requires : tie.Need-wide-requires
+wide-requires c κs = search needs
+
+-- src/lib.rt:98:29
+add-word-3 : tie.Need-add-word-3
+add-word-3 c = search needs
+
+-- src/lib.rt:98:9
+word-requires-4 : tie.Need-word-requires-4
+word-requires-4 c κs = search needs
+
+-- src/lib.rt:99:8
+trailer-fits-requires : tie.Need-trailer-fits-requires
+trailer-fits-requires c κs = search needs
+
+-- src/lib.rt:100:9
+check-sections-requires : tie.Need-check-sections-requires
+check-sections-requires c κs = ?
+
+-- src/lib.rt:100:9
+returns-2 : tie.Need-returns-2
+returns-2 c = ?
+
+-- src/lib.rt:87:1
+returns-3 : tie.Need-returns-3
+returns-3 c = ?
+
+pub check-spec : {M : Type 1} → statement M
+check-spec =
+    tie.close
+    (tie.spec
+    returns
+    word-requires
+    add-word
+    word-requires-2
+    add-word-2
+    word-requires-3
+    wide-requires
+    add-word-3
+    word-requires-4
+    trailer-fits-requires
+    check-sections-requires
+    returns-2
+    returns-3)

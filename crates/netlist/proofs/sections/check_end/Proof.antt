@@ -1,0 +1,28 @@
+use borrow.Author.Needs.{needs}
+use Rattle.netlist.proofs.sections.check_end.Statement.{statement}
+use Rattle.netlist.proofs.sections.check_end.Tie as tie
+use Rattle.netlist.proofs.sections.check_end.Reads as reads
+use Rattle.netlist.proofs.sections.check_end.Lts as lts
+
+-- src/sections.rt:37:18
+enum-known-w : tie.Need-enum-known-w
+enum-known-w c = search needs
+
+-- src/sections.rt:38:9
+enum-told : tie.Need-enum-told
+enum-told c = search needs
+
+-- src/sections.rt:38:9
+returns : tie.Need-returns
+returns c = search needs
+
+-- src/sections.rt:41:9
+returns-2 : tie.Need-returns-2
+returns-2 c = ?
+
+-- src/sections.rt:34:1
+returns-3 : tie.Need-returns-3
+returns-3 c = ?
+
+pub check-end-spec : {M : Type 1} → statement M
+check-end-spec = tie.close (tie.spec enum-known-w enum-told returns returns-2 returns-3)

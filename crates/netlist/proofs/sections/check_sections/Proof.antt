@@ -1,0 +1,80 @@
+use borrow.Author.Needs.{needs}
+use Rattle.netlist.proofs.sections.check_sections.Statement.{statement}
+use Rattle.netlist.proofs.sections.check_sections.Tie as tie
+use Rattle.netlist.proofs.sections.check_sections.Reads as reads
+use Rattle.netlist.proofs.sections.check_sections.Lts as lts
+use Rattle.netlist.proofs.fields.wide.Reads as wide-reads
+use Rattle.netlist.proofs.sections.check_cells.Reads as check-cells-reads
+use Rattle.netlist.proofs.sections.check_ports.Reads as check-ports-reads
+
+-- src/sections.rt:117:58
+wide-requires : tie.Need-wide-requires
+wide-requires c κs = search needs
+
+-- src/sections.rt:117:9
+check-ports-requires : tie.Need-check-ports-requires
+check-ports-requires c κs = search needs
+
+-- src/sections.rt:118:26
+enum-known-ports : tie.Need-enum-known-ports
+enum-known-ports c = search needs
+
+-- src/sections.rt:119:9
+returns : tie.Need-returns
+returns c = ?
+
+enum-told : tie.Need-enum-told
+enum-told c = search needs
+
+-- src/sections.rt:121:70
+wide-requires-2 : tie.Need-wide-requires-2
+wide-requires-2 c κs = search needs
+
+-- src/sections.rt:121:9
+check-cells-requires : tie.Need-check-cells-requires
+check-cells-requires c κs = search needs
+
+-- src/sections.rt:123:26
+enum-known-walk : tie.Need-enum-known-walk
+enum-known-walk c = search needs
+
+-- src/sections.rt:124:9
+returns-2 : tie.Need-returns-2
+returns-2 c = ?
+
+enum-told-2 : tie.Need-enum-told-2
+enum-told-2 c = search needs
+
+-- src/sections.rt:127:24
+enum-known-six : tie.Need-enum-known-six
+enum-known-six c = search needs
+
+-- src/sections.rt:128:9
+returns-3 : tie.Need-returns-3
+returns-3 c = ?
+
+enum-told-3 : tie.Need-enum-told-3
+enum-told-3 c = search needs
+
+-- src/sections.rt:113:1
+returns-4 : tie.Need-returns-4
+returns-4 c = ?
+
+pub check-sections-spec : {M : Type 1} → statement M
+check-sections-spec =
+    tie.close
+    (tie.spec
+    wide-requires
+    check-ports-requires
+    enum-known-ports
+    returns
+    enum-told
+    wide-requires-2
+    check-cells-requires
+    enum-known-walk
+    returns-2
+    enum-told-2
+    enum-known-six
+    returns-3
+    enum-told-3
+    returns-4)

@@ -1,0 +1,33 @@
+use borrow.Author.Needs.{needs}
+use Rattle.netlist.proofs.sections.first_of.Statement.{statement}
+use Rattle.netlist.proofs.sections.first_of.Tie as tie
+use Rattle.netlist.proofs.sections.first_of.Reads as reads
+use Rattle.netlist.proofs.sections.first_of.Lts as lts
+use Rattle.netlist.proofs.sections.one_clock.Reads as one-clock-reads
+
+enum-told : tie.Need-enum-told
+enum-told c = search needs
+
+-- src/sections.rt:87:9
+enum-told-2 : tie.Need-enum-told-2
+enum-told-2 c = search needs
+
+-- src/sections.rt:87:9
+returns : tie.Need-returns
+returns c = search needs
+
+-- src/sections.rt:89:8
+one-clock-requires : tie.Need-one-clock-requires
+one-clock-requires c κs = search needs
+
+-- src/sections.rt:90:9
+returns-2 : tie.Need-returns-2
+returns-2 c = ?
+
+-- src/sections.rt:83:1
+returns-3 : tie.Need-returns-3
+returns-3 c = ?
+
+pub first-of-spec : {M : Type 1} → statement M
+first-of-spec =
+    tie.close (tie.spec enum-told enum-told-2 returns one-clock-requires returns-2 returns-3)

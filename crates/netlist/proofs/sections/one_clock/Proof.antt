@@ -1,0 +1,88 @@
+use borrow.Author.Needs.{needs}
+use Rattle.netlist.proofs.sections.one_clock.Statement.{statement}
+use Rattle.netlist.proofs.sections.one_clock.Tie as tie
+use Rattle.netlist.proofs.sections.one_clock.Reads as reads
+use Rattle.netlist.proofs.sections.one_clock.Lts as lts
+use Rattle.netlist.proofs.fields.ahead.Reads as ahead-reads
+use Rattle.netlist.proofs.fields.field.Reads as field-reads
+use Rattle.netlist.proofs.fields.wide.Reads as wide-reads
+
+-- src/sections.rt:67:8
+field-requires : tie.Need-field-requires
+field-requires c κs = search needs
+
+-- src/sections.rt:68:9
+returns : tie.Need-returns
+returns c = ?
+
+-- src/sections.rt:70:8
+field-requires-2 : tie.Need-field-requires-2
+field-requires-2 c κs = search needs
+
+-- src/sections.rt:71:9
+returns-2 : tie.Need-returns-2
+returns-2 c = ?
+
+-- src/sections.rt:73:22
+field-requires-3 : tie.Need-field-requires-3
+field-requires-3 c κs = search needs
+
+-- src/sections.rt:73:9
+wide-requires : tie.Need-wide-requires
+wide-requires c κs = search needs
+
+-- src/sections.rt:74:35
+add-ahead : tie.Need-add-ahead
+add-ahead c = search needs
+
+-- src/sections.rt:74:35
+add-ahead-2 : tie.Need-add-ahead-2
+add-ahead-2 c = search needs
+
+-- src/sections.rt:74:9
+ahead-requires : tie.Need-ahead-requires
+ahead-requires c κs = search needs
+
+-- src/sections.rt:75:9
+field-requires-4 : tie.Need-field-requires-4
+field-requires-4 c κs = search needs
+
+-- src/sections.rt:76:8
+field-requires-5 : tie.Need-field-requires-5
+field-requires-5 c κs = search needs
+
+-- src/sections.rt:77:9
+returns-3 : tie.Need-returns-3
+returns-3 c = ?
+
+-- src/sections.rt:79:9
+field-requires-6 : tie.Need-field-requires-6
+field-requires-6 c κs = search needs
+
+-- src/sections.rt:80:5
+field-requires-7 : tie.Need-field-requires-7
+field-requires-7 c κs = search needs
+
+-- src/sections.rt:64:1
+returns-4 : tie.Need-returns-4
+returns-4 c = ?
+
+pub one-clock-spec : {M : Type 1} → statement M
+one-clock-spec =
+    tie.close
+    (tie.spec
+    field-requires
+    returns
+    field-requires-2
+    returns-2
+    field-requires-3
+    wide-requires
+    add-ahead
+    add-ahead-2
+    ahead-requires
+    field-requires-4
+    field-requires-5
+    returns-3
+    field-requires-6
+    field-requires-7
+    returns-4)
