@@ -26,6 +26,7 @@ use Rattle.netlist.specs.Netlist.{bitOf, Cell, Port, Netlist, SecondPort
 use Rattle.netlist.specs.Reader
 use Rattle.netlist.specs.Reader.{Limits, base, Read, netlist, refused, Step, got, fault, Parser, andThen, _>>=_, done, many, closed, sameBit, clocksAgree, oneClock, firstNot, clocked, withCells, withPorts, trailerFits, sections, withTrailer, readWords}
 use Rattle.netlist.specs.ReaderLaws.{many-last, many-more, many-fault, many-faulty, Went, went}
+use Rattle.netlist.specs.Shape.{Row, FitsPort, FitsCell}
 use Rattle.netlist.specs.ReaderFits.{Outcome, Sound, ports-sound, cells-sound}
 use Rattle.netlist.specs.Fields.{wordAt, bitAt, whenSet, firstSize, secondPortAt, ramAt, blockRamAt, pllAt, kindsAt, cellAt, layoutOf, netlistAt}
 use Rattle.netlist.specs.Walk.{refusalOf, walkOf, along, Passed, endsAt}
@@ -201,3 +202,205 @@ first-more {A} ok (x ∷ l) a i = go (ok x) (first-more ok l a (suc i))
         → elim b [ true ↦ firstNot ok (l ++ (a ∷ [])) (suc i) | false ↦ some i ] ≡ firstOf (elim b [ true ↦ firstNot ok l (suc i) | false ↦ some i ]) (ok a) (i + suc (length l))
     go true e = e ∙ ap (λ (n : ℕ). firstOf (firstNot ok l (suc i)) (ok a) n) shift
     go false e = refl
+
+-- THE LOOP over cells: the walk, and the first cell with 6
+
+module _ (limits : Limits) (words : List ℕ) (end start : ℕ) where
+  abbrev cell : Parser Cell
+  cell = Reader.readCell limits words end
+
+  pub record CellsGone (k i : ℕ) (six : fo.Found) : Type 0 where
+    pub list : List Cell
+    pub read : many k cell start ≡ got list i
+    pub count : length list ≡ k
+    pub first : found six ≡ firstNot oneClock list 0
+
+  gone : (k i : ℕ) (six : fo.Found) → CellsGone k i six → Gone cell start k i
+  gone k i six g = record { list = g .list; read = g .read }
+
+  pub cells-start : CellsGone 0 start fo.the-variants.Nothing
+  cells-start = record { list = []; read = refl; count = refl; first = refl }
+
+  pub cells-more : (k i j : ℕ) (w : Walk) (six six′ : fo.Found) → CellsGone k i six → Passed (At i) cell w → w ≡ At j → found six′ ≡ firstOf (found six) (oneClock (cellAt words i)) k → CellsGone (k + 1) j six′
+  cells-more k i j w six six′ g h e f =
+      let t = took (cell i) w j (h .is) e in
+      let v = cell-law limits words end i j (t .value) (t .is) in
+      subst (λ (n : ℕ). CellsGone n j six′) (sym (add-one k)) (record {
+        list = g .list ++ (t .value ∷ []);
+        read = many-more cell start k i j (g .list) (t .value) (g .read) (t .is);
+        count = length-append (g .list) (t .value ∷ []) ∙ ap (λ (n : ℕ). n + 1) (g .count) ∙ add-one k;
+        first =
+            f ∙ ap (λ (o : Option ℕ). firstOf o (oneClock (cellAt words i)) k) (g .first) ∙ ap (λ (c : Cell). firstOf (firstNot oneClock (g .list) 0) (oneClock c) k) (sym (v .0))
+            ∙ ap (λ (n : ℕ). firstOf (firstNot oneClock (g .list) 0) (oneClock (t .value)) n) (sym (g .count) ∙ sym (zero-plus (length (g .list)))) ∙ sym (first-more oneClock (g .list) (t .value) 0);
+      })
+    where
+      zero-plus : (n : ℕ) → 0 + n ≡ n
+      zero-plus n = omega arith
+
+  pub cells-stop : (k i count : ℕ) (w : Walk) (x : Refusal) (six : fo.Found) → CellsGone k i six → k < count → Passed (At i) cell w → w ≡ Refused x → CellsChecked limits words end start count (record { walk = w; six = six })
+  cells-stop k i count w x six g l h e = record { walk = e0; six = λ cells j q. let z : _≡_ {A = ℕ} 0 1 = clash cells j q in absurd (omega arith) }
+    where
+      e0 : w ≡ walkOf (Reader.readCells limits words end count start)
+      e0 = gone-stop cell start (λ r. Reader.sectionEnd limits words end r) k i count w x (gone k i six g) l h e .is
+
+      clash : (cells : List Cell) (j : ℕ) → Reader.readCells limits words end count start ≡ got cells j → _≡_ {A = ℕ} 0 1
+      clash cells j q = let f : Refused x ≡ At j = sym e ∙ e0 ∙ ap walkOf q in cc
+
+  pub cells-end : (k i count : ℕ) (r : Walk) (six : fo.Found) → CellsGone k i six → k ≤ count → count ≤ k → Passed (At i) (endsAt end) r → CellsChecked limits words end start count (record { walk = r; six = six })
+  cells-end k i count r six g a b h = record {
+    walk = gone-end cell start (λ l. Reader.sectionEnd limits words end l) k i count r (gone k i six g) a b (λ l. any-end limits words end i r l h) .is;
+    six = λ cells j q. g .first ∙ ap (λ (l : List Cell). firstNot oneClock l 0) (same cells j (eqb i end) (sym read ∙ q));
+  }
+    where
+      eq : count ≡ k
+      eq = omega arith
+
+      read : Reader.readCells limits words end count start ≡ closed (eqb i end) (g .list) i
+      read = ap (λ (s : Step (List Cell)). andThen s (λ l. Reader.sectionEnd limits words end l)) (ap (λ (n : ℕ). many n cell start) eq ∙ g .read)
+
+      same : (cells : List Cell) (j : ℕ) (t : Bool) → closed t (g .list) i ≡ got cells j → g .list ≡ cells
+      same cells j true q = cc
+      same cells j false q = let z : _≡_ {A = ℕ} 0 1 = cc in absurd (omega arith)
+
+-- THE ANSWER
+
+numbered : (n q : ℕ) → 4 ≤ n → n ≤ 5 → (numberOf (refusalOf n q) ≡ n) × (placeOf (refusalOf n q) ≡ q)
+numbered n q a b = go (eqb n 4) refl
+  where
+    go : (t : Bool) → eqb n 4 ≡ t → (numberOf (elim t [ true ↦ WordCount q | false ↦ WordValue q ]) ≡ n) × (placeOf (elim t [ true ↦ WordCount q | false ↦ WordValue q ]) ≡ q)
+    go true e = let z = eqb-true n 4 e in (sym z, refl)
+    go false e = let z = eqb-false n 4 e in (omega arith, refl)
+
+refused-as : (n q : ℕ) (x : Refusal) → refusalOf n q ≡ x → 4 ≤ n → n ≤ 5 → refused n q ≡ refused (numberOf x) (placeOf x)
+refused-as n q x e a b =
+    let h = numbered n q a b in
+    ap (λ (m : ℕ). refused m q) (sym (h .0) ∙ ap numberOf e) ∙ ap (λ (m : ℕ). refused (numberOf x) m) (sym (h .1) ∙ ap placeOf e)
+
+module _ (limits : Limits) (words : List ℕ) (l : Layout) (pc cc : ℕ) (hp : pc ≡ l .ports) (hc : cc ≡ l .cells) (inside : l .start ≤ l .end) (w : Walk)
+    (ports : Passed (At 0) (Reader.readPorts limits words (l .start) pc) w) where
+  ports-is : w ≡ walkOf (Reader.readPorts limits words (l .start) (l .ports) 0)
+  ports-is = ports .is ∙ ap (λ (n : ℕ). walkOf (Reader.readPorts limits words (l .start) n 0)) hp
+
+  pub ports-refused : (x : Refusal) → w ≡ Refused x → sectionsOf limits words l ≡ refused (numberOf x) (placeOf x)
+  ports-refused x e =
+      let t = met (Reader.readPorts limits words (l .start) (l .ports) 0) w x ports-is e in
+      let o = subst (λ (s : Step (List Port)). Outcome limits words (l .start) (Row (FitsPort limits) (l .ports)) 0 s) (t .is) ((ports-sound limits words (l .start) (l .ports)) .at 0 zero-le) in
+      ap (λ (s : Step (List Port)). withPorts limits words (l .start) (l .end) (l .cells) s) (t .is) ∙ refused-as (t .number) (t .place) x (t .same) (o .0) (o .1)
+
+  module _ (i : ℕ) (at : w ≡ At i) (r : Cells) (cells : CellsChecked limits words (l .end) (l .start) cc r) where
+    ps : Took (Reader.readPorts limits words (l .start) (l .ports) 0) i
+    ps = took (Reader.readPorts limits words (l .start) (l .ports) 0) w i ports-is at
+
+    to-cells : sectionsOf limits words l ≡ withCells (ps .value) (Reader.readCells limits words (l .end) (l .cells) (l .start))
+    to-cells = ap (λ (s : Step (List Port)). withPorts limits words (l .start) (l .end) (l .cells) s) (ps .is)
+
+    cells-is : r .walk ≡ walkOf (Reader.readCells limits words (l .end) (l .cells) (l .start))
+    cells-is = cells .walk ∙ ap (λ (n : ℕ). walkOf (Reader.readCells limits words (l .end) n (l .start))) hc
+
+    pub cells-refused : (x : Refusal) → r .walk ≡ Refused x → sectionsOf limits words l ≡ refused (numberOf x) (placeOf x)
+    cells-refused x e =
+        let t = met (Reader.readCells limits words (l .end) (l .cells) (l .start)) (r .walk) x cells-is e in
+        let o = subst (λ (s : Step (List Cell)). Outcome limits words (l .end) (Row (FitsCell limits) (l .cells)) (l .start) s) (t .is) ((cells-sound limits words (l .end) (l .cells)) .at (l .start) inside) in
+        to-cells ∙ ap (λ (s : Step (List Cell)). withCells (ps .value) s) (t .is) ∙ refused-as (t .number) (t .place) x (t .same) (o .0) (o .1)
+
+    module _ (j : ℕ) (to : r .walk ≡ At j) where
+      cs : Took (Reader.readCells limits words (l .end) (l .cells) (l .start)) j
+      cs = took (Reader.readCells limits words (l .end) (l .cells) (l .start)) (r .walk) j cells-is to
+
+      six-is : found (r .six) ≡ firstNot oneClock (cs .value) 0
+      six-is = cells .six (cs .value) j (ap (λ (n : ℕ). Reader.readCells limits words (l .end) n (l .start)) hc ∙ cs .is)
+
+      to-clocks : sectionsOf limits words l ≡ clocked (record { ports = ps .value; cells = cs .value }) (found (r .six))
+      to-clocks =
+          to-cells ∙ ap (λ (s : Step (List Cell)). withCells (ps .value) s) (cs .is)
+          ∙ ap (λ (o : Option ℕ). clocked (record { ports = ps .value; cells = cs .value }) o) (sym six-is)
+
+      pub six-refused : (k : ℕ) → r .six ≡ fo.the-variants.Cell k → sectionsOf limits words l ≡ refused 6 k
+      six-refused k e = to-clocks ∙ ap (λ (s : fo.Found). clocked (record { ports = ps .value; cells = cs .value }) (found s)) e
+
+      pub accepted : r .six ≡ fo.the-variants.Nothing → Reads (sectionsOf limits words l)
+      accepted e = record { value = record { ports = ps .value; cells = cs .value }; is = to-clocks ∙ ap (λ (s : fo.Found). clocked (record { ports = ps .value; cells = cs .value }) (found s)) e }
+
+-- THE TRAILER
+
+module _ (limits : Limits) (end at ports start cells : ℕ) where
+  pub not-zero : (at ≡ 0 → ⊥) → false ≡ trailerFits limits end at ports start cells
+  not-zero h = sym (ap (λ (b : Bool). b && leb ports (limits .ports) && leb start end && leb cells (limits .cells)) (ne-eqb at 0 h))
+
+  module _ (zero : at ≡ 0) where
+    z : trailerFits limits end at ports start cells ≡ (leb ports (limits .ports) && leb start end && leb cells (limits .cells))
+    z = ap (λ (b : Bool). b && leb ports (limits .ports) && leb start end && leb cells (limits .cells)) (eq-eqb at 0 zero)
+
+    pub many-ports : limits .ports < ports → false ≡ trailerFits limits end at ports start cells
+    many-ports h = sym (z ∙ ap (λ (b : Bool). b && leb start end && leb cells (limits .cells)) (lt-leb ports (limits .ports) h))
+
+    module _ (few : ports ≤ limits .ports) where
+      y : trailerFits limits end at ports start cells ≡ (leb start end && leb cells (limits .cells))
+      y = z ∙ ap (λ (b : Bool). b && leb start end && leb cells (limits .cells)) (le-leb ports (limits .ports) few)
+
+      pub start-past : end < start → false ≡ trailerFits limits end at ports start cells
+      start-past h = sym (y ∙ ap (λ (b : Bool). b && leb cells (limits .cells)) (lt-leb start end h))
+
+      pub start-inside : start ≤ end → leb cells (limits .cells) ≡ trailerFits limits end at ports start cells
+      start-inside h = sym (y ∙ ap (λ (b : Bool). b && leb cells (limits .cells)) (le-leb start end h))
+
+module _ (limits : Limits) (words : List ℕ) where
+  pub too-short : length words < 4 → readWords limits words ≡ refused 3 0
+  too-short h = ap (λ (b : Bool). withTrailer limits words (length words - 4) b) (lt-leb 4 (length words) h)
+
+  module _ (long : 4 ≤ length words) (at ports start cells : ℕ) (p : at ≡ wordAt words (length words - 4)) (q : ports ≡ wordAt words (length words - 4 + 1)) (r : start ≡ wordAt words (length words - 4 + 2))
+      (s : cells ≡ wordAt words (length words - 4 + 3)) where
+    fits : trailerFits limits (length words - 4) at ports start cells
+        ≡ trailerFits limits (length words - 4) (wordAt words (length words - 4)) (wordAt words (length words - 4 + 1)) (wordAt words (length words - 4 + 2)) (wordAt words (length words - 4 + 3))
+    fits =
+        ap (λ (x : ℕ). trailerFits limits (length words - 4) x ports start cells) p ∙ ap (λ (x : ℕ). trailerFits limits (length words - 4) (wordAt words (length words - 4)) x start cells) q
+        ∙ ap (λ (x : ℕ). trailerFits limits (length words - 4) (wordAt words (length words - 4)) (wordAt words (length words - 4 + 1)) x cells) r
+        ∙ ap (λ (x : ℕ). trailerFits limits (length words - 4) (wordAt words (length words - 4)) (wordAt words (length words - 4 + 1)) (wordAt words (length words - 4 + 2)) x) s
+
+    to-sections : (b : Bool) → b ≡ trailerFits limits (length words - 4) at ports start cells
+        → readWords limits words ≡ sections limits words (length words - 4) (wordAt words (length words - 4 + 1)) (wordAt words (length words - 4 + 2)) (wordAt words (length words - 4 + 3)) b
+    to-sections b e =
+        ap (λ (t : Bool). withTrailer limits words (length words - 4) t) (le-leb 4 (length words) long)
+        ∙ ap (λ (t : Bool). sections limits words (length words - 4) (wordAt words (length words - 4 + 1)) (wordAt words (length words - 4 + 2)) (wordAt words (length words - 4 + 3)) t) (sym (e ∙ fits))
+
+    pub bad-trailer : (b : Bool) → b ≡ trailerFits limits (length words - 4) at ports start cells → b ≡ false → readWords limits words ≡ refused 3 0
+    bad-trailer b e f =
+        to-sections b e ∙ ap (λ (t : Bool). sections limits words (length words - 4) (wordAt words (length words - 4 + 1)) (wordAt words (length words - 4 + 2)) (wordAt words (length words - 4 + 3)) t) f
+
+    -- the trailer's test holds: its parts
+    pub inside-of : (b : Bool) → b ≡ trailerFits limits (length words - 4) at ports start cells → b ≡ true → start ≤ length words - 4
+    inside-of b e t =
+        let u = eqb at 0 && leb ports (limits .ports) in
+        leb-true start (length words - 4) (and-right u (leb start (length words - 4)) (and-left (u && leb start (length words - 4)) (leb cells (limits .cells)) (sym e ∙ t)))
+
+    pub answers : (b : Bool) → b ≡ trailerFits limits (length words - 4) at ports start cells → b ≡ true → (c : ck.Checked)
+        → SectionsChecked limits words (record { ports = ports; start = start; cells = cells; end = length words - 4 }) c → Checks limits words c
+    unfolding layoutOf
+    answers b e t c = go c
+      where
+        l : Layout
+        l = record { ports = ports; start = start; cells = cells; end = length words - 4 }
+
+        laid-out : l ≡ layoutOf words
+        laid-out =
+            ap (λ (x : ℕ). record { ports = x; start = start; cells = cells; end = length words - 4 }) q
+            ∙ ap (λ (x : ℕ). record { ports = wordAt words (length words - 4 + 1); start = x; cells = cells; end = length words - 4 }) r
+            ∙ ap (λ (x : ℕ). record { ports = wordAt words (length words - 4 + 1); start = wordAt words (length words - 4 + 2); cells = x; end = length words - 4 }) s
+
+        whole : readWords limits words ≡ sectionsOf limits words l
+        whole =
+            to-sections b e ∙ ap (λ (u : Bool). sections limits words (length words - 4) (wordAt words (length words - 4 + 1)) (wordAt words (length words - 4 + 2)) (wordAt words (length words - 4 + 3)) u) t
+            ∙ sym (ap (λ (x : Layout). sectionsOf limits words x) laid-out)
+
+        go : (c : ck.Checked) → SectionsChecked limits words (record { ports = ports; start = start; cells = cells; end = length words - 4 }) c → Checks limits words c
+        go (ck.the-variants.Netlist x) h =
+            let n = h .0 in
+            let read = whole ∙ n .is in
+            (read ∙ ap netlist (netlist-law limits words (n .value) read), h .1 ∙ laid-out)
+        go (ck.the-variants.Refused x) h = whole ∙ h
+
+pub first-found : (six : fo.Found) (n : ℕ) (ok : Bool) (k : ℕ) → six ≡ fo.the-variants.Cell n → found six ≡ firstOf (found six) ok k
+first-found six n ok k e = ap found e ∙ sym (ap (λ (s : fo.Found). firstOf (found s) ok k) e)
+
+pub first-next : (six : fo.Found) (ok : Bool) (k : ℕ) (b : Bool) → six ≡ fo.the-variants.Nothing → ok ≡ b → firstOf none b k ≡ firstOf (found six) ok k
+first-next six ok k b e h = sym (ap (λ (s : fo.Found). firstOf (found s) ok k) e ∙ ap (λ (t : Bool). firstOf none t k) h)

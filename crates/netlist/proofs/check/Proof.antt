@@ -1,3 +1,5 @@
+use mathlib.Core.Path.{_≡_, refl, sym, ap, _∙_}
+use Rattle.netlist.proofs.SectionLaws.{too-short, bad-trailer, inside-of, answers}
 use borrow.Author.Needs.{needs}
 use Rattle.netlist.proofs.check.Statement.{statement}
 use Rattle.netlist.proofs.check.Tie as tie
@@ -10,7 +12,9 @@ use Rattle.netlist.proofs.trailer_fits.Reads as trailer-fits-reads
 
 -- src/lib.rt:92:9
 returns : tie.Need-returns
-returns c = ?
+returns c =
+    let a = c .before .before .args in
+    too-short (a .limits) (a .words .now) (c .if1 .taken)
 
 -- src/lib.rt:95:9
 word-requires : tie.Need-word-requires
@@ -50,15 +54,21 @@ trailer-fits-requires c κs = search needs
 
 -- src/lib.rt:100:9
 check-sections-requires : tie.Need-check-sections-requires
-check-sections-requires c κs = ?
+check-sections-requires c κs =
+    let a = c .before .before .before .before .before .before .before .before .before .args in
+    inside-of (a .limits) (a .words .now) (c .before .before .before .before .before .before .before .if1 .left) _ _ _ _ (c .before .before .before .before .before .before .word .ensures) (c .before .before .before .before .before .word2 .ensures) (c .before .before .before .wide .ensures ∙ c .before .before .before .before .word3 .ensures) (c .before .before .word4 .ensures) _ (c .before .trailer-fits .ensures) (c .if2 .taken)
 
 -- src/lib.rt:100:9
 returns-2 : tie.Need-returns-2
-returns-2 c = ?
+returns-2 c =
+    let a = c .before .before .before .before .before .before .before .before .before .before .args in
+    answers (a .limits) (a .words .now) (c .before .before .before .before .before .before .before .before .if1 .left) _ _ _ _ (c .before .before .before .before .before .before .before .word .ensures) (c .before .before .before .before .before .before .word2 .ensures) (c .before .before .before .before .wide .ensures ∙ c .before .before .before .before .before .word3 .ensures) (c .before .before .before .word4 .ensures) _ (c .before .before .trailer-fits .ensures) (c .before .if2 .taken) (c .check-sections .result) (c .check-sections .ensures)
 
 -- src/lib.rt:87:1
 returns-3 : tie.Need-returns-3
-returns-3 c = ?
+returns-3 c =
+    let a = c .before .before .before .before .before .before .before .before .before .args in
+    bad-trailer (a .limits) (a .words .now) (c .before .before .before .before .before .before .before .if1 .left) _ _ _ _ (c .before .before .before .before .before .before .word .ensures) (c .before .before .before .before .before .word2 .ensures) (c .before .before .before .wide .ensures ∙ c .before .before .before .before .word3 .ensures) (c .before .before .word4 .ensures) _ (c .before .trailer-fits .ensures) (c .if2 .left)
 
 pub check-spec : {M : Type 1} → statement M
 check-spec =

@@ -1,3 +1,5 @@
+use mathlib.Core.Path.{_≡_, refl, sym, ap, _∙_}
+use Rattle.netlist.proofs.SectionLaws.{ports-refused, cells-refused, six-refused, accepted}
 use borrow.Author.Needs.{needs}
 use Rattle.netlist.proofs.sections.check_sections.Statement.{statement}
 use Rattle.netlist.proofs.sections.check_sections.Tie as tie
@@ -21,7 +23,9 @@ enum-known-ports c = search needs
 
 -- src/sections.rt:119:9
 returns : tie.Need-returns
-returns c = ?
+returns c =
+    let a = c .before .before .before .before .before .before .args in
+    ports-refused (a .limits) (a .words .now) (a .layout) _ (a .layout .cells) (c .before .before .before .before .wide .ensures) refl (c .before .before .before .before .before .before .pre) _ (c .before .before .before .check-ports .ensures) _ (c .before .ports .given .1)
 
 enum-told : tie.Need-enum-told
 enum-told c = search needs
@@ -40,7 +44,9 @@ enum-known-walk c = search needs
 
 -- src/sections.rt:124:9
 returns-2 : tie.Need-returns-2
-returns-2 c = ?
+returns-2 c =
+    let a = c .before .before .before .before .before .before .before .before .before .before .args in
+    cells-refused (a .limits) (a .words .now) (a .layout) _ (c .before .before .before .before .wide2 .result) (c .before .before .before .before .before .before .before .before .wide .ensures) (c .before .before .before .before .wide2 .ensures) (c .before .before .before .before .before .before .before .before .before .before .pre) _ (c .before .before .before .before .before .before .before .check-ports .ensures) _ (c .before .before .before .before .before .enum-told .given .1) _ (c .before .before .before .check-cells .ensures) _ (c .before .walk .given .1)
 
 enum-told-2 : tie.Need-enum-told-2
 enum-told-2 c = search needs
@@ -51,14 +57,18 @@ enum-known-six c = search needs
 
 -- src/sections.rt:128:9
 returns-3 : tie.Need-returns-3
-returns-3 c = ?
+returns-3 c =
+    let a = c .before .before .before .before .before .before .before .before .before .before .before .before .args in
+    six-refused (a .limits) (a .words .now) (a .layout) _ (c .before .before .before .before .before .before .wide2 .result) (c .before .before .before .before .before .before .before .before .before .before .wide .ensures) (c .before .before .before .before .before .before .wide2 .ensures) (c .before .before .before .before .before .before .before .before .before .before .before .before .pre) _ (c .before .before .before .before .before .before .before .before .before .check-ports .ensures) _ (c .before .before .before .before .before .before .before .enum-told .given .1) _ (c .before .before .before .before .before .check-cells .ensures) _ (c .before .before .before .enum-told2 .given .1) _ (c .before .six .given .1)
 
 enum-told-3 : tie.Need-enum-told-3
 enum-told-3 c = search needs
 
 -- src/sections.rt:113:1
 returns-4 : tie.Need-returns-4
-returns-4 c = ?
+returns-4 c =
+    let a = c .before .before .before .before .before .before .before .before .before .before .before .args in
+    (accepted (a .limits) (a .words .now) (a .layout) _ (c .before .before .before .before .before .wide2 .result) (c .before .before .before .before .before .before .before .before .before .wide .ensures) (c .before .before .before .before .before .wide2 .ensures) (c .before .before .before .before .before .before .before .before .before .before .before .pre) _ (c .before .before .before .before .before .before .before .before .check-ports .ensures) _ (c .before .before .before .before .before .before .enum-told .given .1) _ (c .before .before .before .before .check-cells .ensures) _ (c .before .before .enum-told2 .given .1) (c .enum-told3 .given .1), refl)
 
 pub check-sections-spec : {M : Type 1} → statement M
 check-sections-spec =

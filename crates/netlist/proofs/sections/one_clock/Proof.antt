@@ -1,3 +1,5 @@
+use mathlib.Core.Path.{_≡_, refl, sym, ap, _∙_}
+use Rattle.netlist.proofs.SectionLaws.{clock-other, clock-single, clock-differs, clock-same}
 use borrow.Author.Needs.{needs}
 use Rattle.netlist.proofs.sections.one_clock.Statement.{statement}
 use Rattle.netlist.proofs.sections.one_clock.Tie as tie
@@ -13,7 +15,9 @@ field-requires c κs = search needs
 
 -- src/sections.rt:68:9
 returns : tie.Need-returns
-returns c = ?
+returns c =
+    let a = c .before .before .before .args in
+    clock-other (a .words .now) (a .at) _ (c .before .field .ensures) (c .if1 .taken)
 
 -- src/sections.rt:70:8
 field-requires-2 : tie.Need-field-requires-2
@@ -21,7 +25,9 @@ field-requires-2 c κs = search needs
 
 -- src/sections.rt:71:9
 returns-2 : tie.Need-returns-2
-returns-2 c = ?
+returns-2 c =
+    let a = c .before .before .before .before .before .args in
+    clock-single (a .words .now) (a .at) _ (c .before .before .before .field .ensures) (c .before .before .if1 .left) _ (c .before .field2 .ensures) (c .if2 .taken)
 
 -- src/sections.rt:73:22
 field-requires-3 : tie.Need-field-requires-3
@@ -53,7 +59,9 @@ field-requires-5 c κs = search needs
 
 -- src/sections.rt:77:9
 returns-3 : tie.Need-returns-3
-returns-3 c = ?
+returns-3 c =
+    let a = c .before .before .before .before .before .before .before .before .before .before .before .args in
+    clock-differs (a .words .now) (a .at) _ (c .before .before .before .before .before .before .before .before .before .field .ensures) (c .before .before .before .before .before .before .before .before .if1 .left) _ _ _ (c .before .before .before .before .before .before .before .field2 .ensures) (c .before .before .before .before .before .before .if2 .left) (c .before .before .before .before .wide .ensures ∙ c .before .before .before .before .before .field3 .ensures) (c .before .before .before .ahead .ensures) _ _ (c .before .before .field4 .ensures) (c .before .field5 .ensures) (c .if3 .taken)
 
 -- src/sections.rt:79:9
 field-requires-6 : tie.Need-field-requires-6
@@ -65,7 +73,9 @@ field-requires-7 c κs = search needs
 
 -- src/sections.rt:64:1
 returns-4 : tie.Need-returns-4
-returns-4 c = ?
+returns-4 c =
+    let a = c .before .before .before .before .before .before .before .before .before .before .before .before .before .args in
+    clock-same (a .words .now) (a .at) _ (c .before .before .before .before .before .before .before .before .before .before .before .field .ensures) (c .before .before .before .before .before .before .before .before .before .before .if1 .left) _ _ _ (c .before .before .before .before .before .before .before .before .before .field2 .ensures) (c .before .before .before .before .before .before .before .before .if2 .left) (c .before .before .before .before .before .before .wide .ensures ∙ c .before .before .before .before .before .before .before .field3 .ensures) (c .before .before .before .before .before .ahead .ensures) _ _ _ _ (c .before .before .before .before .field4 .ensures) (c .before .before .before .field5 .ensures) (c .before .before .if3 .left) (c .before .field6 .ensures) (c .field7 .ensures)
 
 pub one-clock-spec : {M : Type 1} → statement M
 one-clock-spec =
