@@ -10,3 +10,4 @@ pub mod ReaderLaws
 pub mod ReaderChecks
 pub mod Walk
 pub mod Checks
+pub mod Records
