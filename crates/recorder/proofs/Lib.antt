@@ -1,0 +1,3 @@
+-- The laws of recorder that other crates cite.
+pub mod Wrote
+pub mod Room
