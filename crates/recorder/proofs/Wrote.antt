@@ -92,6 +92,10 @@ module _ {A B : Type 0} {l : Lists} {t : Tapes} {w : Writer A} {r : Answer A} {l
   pub then-stop : {number place : ℕ} → r ≡ Failed number place → Wrote l t (w >>= k) (Failed number place) l₁
   then-stop d = joined (ap (λ (x : Answer A). chained x l₁ (λ b u l′. writing l′ u (k b))) d)
 
+-- the same where both answer alike, and the first's answer is handed on
+pub then-same : {A : Type 0} {l : Lists} {t : Tapes} {w : Writer A} {r : Answer A} {l₁ : Lists} → Wrote l t w r l₁ → (k : A → Writer A) {number place : ℕ} → r ≡ Failed number place → Wrote l t (w >>= k) r l₁
+then-same {l = l} {t = t} {w = w} {l₁ = l₁} h k d = subst (λ (x : Answer _). Wrote l t (w >>= k) x l₁) (sym d) (then-stop h k d)
+
 -- another name for what is written
 pub wrote-as : {A : Type 0} {l : Lists} {t : Tapes} {w w′ : Writer A} {r : Answer A} {l′ : Lists} → w′ ≡ w → Wrote l t w r l′ → Wrote l t w′ r l′
 wrote-as {l = l} {t = t} {r = r} {l′ = l′} e h = subst (λ (x : Writer _). Wrote l t x r l′) (sym e) h

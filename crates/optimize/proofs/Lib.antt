@@ -1,0 +1,5 @@
+-- The laws of optimize.
+mod Pick
+mod Halves
+mod Table
+mod Lutlaws

@@ -1,0 +1,3 @@
+-- The specs of optimize.
+pub mod Rewrite
+pub mod Lut
