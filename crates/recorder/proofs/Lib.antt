@@ -1,3 +1,5 @@
 -- The laws of recorder that other crates cite.
-pub mod Wrote
+pub mod Events
+pub mod Makes
 pub mod Room
+pub mod Wrote
