@@ -147,4 +147,4 @@ mux-claim σ env s t f b x y base hs ht hf = mux-means σ base hs ht hf
 pub lut-claim : LutMeans
 lut-claim σ env e₁ e₂ e₃ e₄ init a b c d base ha hb hc hd h =
     let n : number (a ∷ b ∷ c ∷ d ∷ []) ≡ digit a + 2 * digit b + 4 * digit c + 8 * digit d = omega arith in
-    means-as (ap (λ (i : ℕ). tableBit init i ∷ []) n) (lut-means σ (e₁ ∷ e₂ ∷ e₃ ∷ e₄ ∷ []) (a ∷ b ∷ c ∷ d ∷ []) init base (ha, hb, hc, hd, tt) (omega arith) h)
+    means-as (ap (λ (i : ℕ). tableBit init i ∷ []) n) (lut-means σ (e₁ ∷ e₂ ∷ e₃ ∷ e₄ ∷ []) (a ∷ b ∷ c ∷ d ∷ []) init base (ha, (hb, (hc, (hd, tt)))) (omega arith) h)
