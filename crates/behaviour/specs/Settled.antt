@@ -3,13 +3,14 @@
 use mathlib.Core.Path.{_≡_, refl, sym, _∙_, ap, ap₂, subst, fun-ext}
 use mathlib.Core.List.{List, [], _∷_, _++_, map, List·Memᴰ as Mem, List·Memᴰ·head as here, List·Memᴰ·tail as there, List·Memᴰ·cases-cons as cases-cons, List·Memᴰ·not-nil as not-nil}
 use mathlib.Core.Logic.{_⊎_, inl, inr}
-use mathlib.Core.Bool.{Bool, true, false, cond}
+use mathlib.Core.Bool.{Bool, true, false}
 use Prim.Native.Nat.{ℕ, zero, suc, _+_, _*_, _≤_, _<_}
 use native.Mathlib.Nat.{le-refl}
 use native.Mathlib.Omega.{arith}
 use native.Mathlib.Decide.{decLt, ℕ-discrete}
 use lib.ListN.{length, getD, List·getD-eq-default}
 use lib.Dec.{eqb}
+use Rattle.bits.specs.Bits.{pick, Bits, number, tableBit}
 use Rattle.settle.specs.Walk.{Way, edge, more, Walk, NoLoop}
 use Rattle.settle.specs.Ground.{Ends, Closed, Lists, below, length-below, mem-below, long-walk-loops}
 use Rattle.settle.specs.Settle.{iterate, sweep, Respects, settled-at, forgets}
@@ -18,7 +19,7 @@ use Rattle.netlist.specs.declared.Bit.{Bit}
 use Rattle.netlist.specs.declared.Bit.the-variants.{Zero, One, Wire}
 use Rattle.netlist.specs.Netlist.{Netlist, Cell, lut4, pfumx, l6mux21, ccu2c, multiplier, flipFlop, blockRam, distributedRam, io, jtagg, pll}
 use Rattle.behaviour.specs.WireMap.{Slot, slots}
-use Rattle.behaviour.specs.Behaviour.{Valuation, value, values, number, bitOfNumber, lookTable, ccuBits, Registers, output, depends, unused, absent}
+use Rattle.behaviour.specs.Behaviour.{Valuation, value, values, lookTable, ccuBits, Registers, output, depends, unused, absent}
 use Rattle.behaviour.specs.Behaviour.{Driver, tickBit, pin, nobody, driver, driverReads, wiresOf, gives, drive, settle, Depends, NoWireLoop}
 
 -- an output hangs only on the bits that it depends on
@@ -51,8 +52,8 @@ module _ (v w : Valuation) where
 
   pub output-agrees : (r : Registers) (c : Cell) (k : ℕ) → Agree (depends c k) → output v r c k ≡ output w r c k
   output-agrees r (lut4 is o t) k h = ap (lookTable t) (values-agree is h)
-  output-agrees r (pfumx a b s o) k h = ap (λ (l : List Bool). cond (getD l 2 false) (getD l 0 false) (getD l 1 false)) (values-agree (a ∷ b ∷ s ∷ []) h)
-  output-agrees r (l6mux21 a b s o) k h = ap (λ (l : List Bool). cond (getD l 2 false) (getD l 1 false) (getD l 0 false)) (values-agree (a ∷ b ∷ s ∷ []) h)
+  output-agrees r (pfumx a b s o) k h = ap (λ (l : List Bool). pick (getD l 2 false) (getD l 0 false) (getD l 1 false)) (values-agree (a ∷ b ∷ s ∷ []) h)
+  output-agrees r (l6mux21 a b s o) k h = ap (λ (l : List Bool). pick (getD l 2 false) (getD l 1 false) (getD l 0 false)) (values-agree (a ∷ b ∷ s ∷ []) h)
   output-agrees r (ccu2c u) k h =
       ap (λ (l : List Bool). getD (ccuBits u l (values v (u .row1)) (value v (u .carryIn))) k false) p0
       ∙ ap (λ (l : List Bool). getD (ccuBits u (values w (u .row0)) l (value v (u .carryIn))) k false) p1
@@ -67,15 +68,15 @@ module _ (v w : Valuation) where
       p2 : values v (u .carryIn ∷ []) ≡ values w (u .carryIn ∷ [])
       p2 = values-agree (u .carryIn ∷ []) (λ y m. h y (mem-right (u .row0) (u .row1 ++ (u .carryIn ∷ [])) (mem-right (u .row1) (u .carryIn ∷ []) m)))
   output-agrees r (multiplier a b o) k h =
-      ap₂ (λ (x y : List Bool). bitOfNumber (number x * number y) k) (values-agree a (λ y m. h y (mem-left a b m))) (values-agree b (λ y m. h y (mem-right a b m)))
+      ap₂ (λ (x y : List Bool). tableBit (number x * number y) k) (values-agree a (λ y m. h y (mem-left a b m))) (values-agree b (λ y m. h y (mem-right a b m)))
   output-agrees r (flipFlop f) k h = refl
   output-agrees r (blockRam m) k h = refl
   output-agrees r (distributedRam m) k h = ap (λ (l : List Bool). getD (getD (r .words) (number l) []) k false) (values-agree (m .readAddress) h)
-  output-agrees r (io p a o t) k h = ap (λ (l : List Bool). cond (getD l 2 false) (getD l 0 false) (getD l 1 false)) (values-agree (Wire p ∷ a ∷ t ∷ []) h)
+  output-agrees r (io p a o t) k h = ap (λ (l : List Bool). pick (getD l 2 false) (getD l 0 false) (getD l 1 false)) (values-agree (Wire p ∷ a ∷ t ∷ []) h)
   output-agrees r (jtagg o) k h = refl
   output-agrees r (pll p) k h = go (eqb k 2) h
     where
-      go : (b : Bool) → Agree (cond b [] (p .reference ∷ [])) → cond b true (value v (p .reference)) ≡ cond b true (value w (p .reference))
+      go : (b : Bool) → Agree (pick b [] (p .reference ∷ [])) → pick b true (value v (p .reference)) ≡ pick b true (value w (p .reference))
       go true h′ = refl
       go false h′ = ap (λ (l : List Bool). getD l 0 false) (values-agree (p .reference ∷ []) h′)
 
@@ -93,7 +94,7 @@ depends-alike (io p a o t) k z m = refl
 depends-alike (jtagg o) k z m = refl
 depends-alike (pll p) k z m = go (eqb k 2) m
   where
-    go : (b : Bool) → Mem z (wiresOf (cond b [] (p .reference ∷ []))) → cond b [] (p .reference ∷ []) ≡ (p .reference ∷ [])
+    go : (b : Bool) → Mem z (wiresOf (pick b [] (p .reference ∷ []))) → pick b [] (p .reference ∷ []) ≡ (p .reference ∷ [])
     go true n = absurd (not-nil n)
     go false n = refl
 
