@@ -1,0 +1,2 @@
+-- The laws of behaviour's definitions.
+pub mod BankLaws
