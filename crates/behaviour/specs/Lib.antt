@@ -5,6 +5,7 @@ pub mod Behaviour
 pub mod Settled
 pub mod LoopTest
 pub mod Registers
+pub mod Runs
 pub mod Checking
 pub mod Netlists
 pub mod Cases

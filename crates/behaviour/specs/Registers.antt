@@ -1,6 +1,6 @@
--- In every run the registers keep their shape: a cell's RAM has its depth, and every word its width. And a run of a list goes tick by tick.
+-- In every run the registers keep their shape: a cell's RAM has its depth, and every word its width.
 use mathlib.Core.Path.{_≡_, refl, sym, _∙_, ap}
-use mathlib.Core.List.{List, [], _∷_, _++_, map}
+use mathlib.Core.List.{List, [], _∷_, map}
 use mathlib.Core.Option.{Option, none, some}
 use mathlib.Core.Bool.{Bool, true, false, _&&_}
 use Prim.Native.Nat.{ℕ, zero, suc}
@@ -129,7 +129,3 @@ run-shaped-from limits n s (t ∷ l) f h = run-shaped-from limits n (step n s t)
 
 pub run-shaped : (limits : Limits) (n : Netlist) (l : List Tick) → Fits limits n → AllShaped (n .cells) ((run n (start n) l) .registers)
 run-shaped limits n l f = run-shaped-from limits n (start n) l f (start-shaped (n .cells))
-
-pub run-append : (n : Netlist) (s : State) (a b : List Tick) → run n s (a ++ b) ≡ run n (run n s a) b
-run-append n s [] b = refl
-run-append n s (t ∷ a) b = run-append n (step n s t) a b
