@@ -12,3 +12,4 @@ pub mod Cases
 pub mod TickChecks
 pub mod MapChecks
 pub mod LoopChecks
+pub mod YosysRows
