@@ -8,6 +8,7 @@ use Prim.Native.Nat.{ℕ, zero, suc}
 use lib.ListN.{length}
 use lib.Dec.{eqb}
 use borrow.Author.Tests.{eqb-true}
+use Rattle.bits.specs.Bits.{pick}
 use Rattle.settle.specs.Walk.{Way, NoLoop}
 use Rattle.settle.specs.Ground.{way-first, grounded-no-loop, ends→grounded}
 use Rattle.settle.specs.Loop.{Reads, mark, mark→ends, ends→mark}
@@ -53,7 +54,7 @@ placed w (Wire x ∷ l) i = go (eqb w x) refl (placeOf w l (suc i)) (placed w l 
     more none h = tt
     more (some k) h = there h
 
-    go : (b : Bool) → eqb w x ≡ b → (o : Option ℕ) → Placed w l o → Placed w (Wire x ∷ l) (elim b [ true ↦ some i | false ↦ o ])
+    go : (b : Bool) → eqb w x ≡ b → (o : Option ℕ) → Placed w l o → Placed w (Wire x ∷ l) (pick b (some i) o)
     go true e o h = here (eqb-true w x e)
     go false e o h = more o h
 

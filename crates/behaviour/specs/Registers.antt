@@ -1,17 +1,18 @@
--- In every run the registers keep their shape: a cell's RAM has its depth, and every word its width. And a run of a list goes tick by tick.
+-- In every run the registers keep their shape: a cell's RAM has its depth, and every word its width.
 use mathlib.Core.Path.{_≡_, refl, sym, _∙_, ap}
-use mathlib.Core.List.{List, [], _∷_, _++_, map}
+use mathlib.Core.List.{List, [], _∷_, map}
 use mathlib.Core.Option.{Option, none, some}
 use mathlib.Core.Bool.{Bool, true, false, _&&_}
 use Prim.Native.Nat.{ℕ, zero, suc}
 use lib.ListN.{length, getD, set, replicate, length-set, length-replicate, length-map}
+use Rattle.bits.specs.Bits.{pick, number}
 use Rattle.netlist.specs.declared.Bit.{Bit}
 use Rattle.netlist.specs.Netlist.{SecondPort, BlockRam, DistributedRam, Cell, Netlist, lut4, pfumx, l6mux21, ccu2c, multiplier, flipFlop, blockRam, distributedRam, io, jtagg, pll}
 use Rattle.netlist.specs.Reader.{Limits}
 use Rattle.netlist.specs.Shape.{Each, FitsOption, FitsCell, FitsSecond, Fits}
 use Rattle.behaviour.specs.WireMap.{slots}
-use Rattle.behaviour.specs.Behaviour.{Valuation, value, values, number, Registers, zeros, unused, initial, address, enabled, written, writtenB, loaded, loadedB, nextRam, nextDistributed, next, commit, settle, on, level}
-use Rattle.behaviour.specs.Behaviour.{Tick, State, start, tick, tickFits, step, run}
+use Rattle.behaviour.specs.Behaviour.{Valuation, value, values, Registers, zeros, unused, initial, address, enabled, written, writtenA, writtenB, loaded, loadedA, loadedB, nextRam, nextDistributed, next, commit, settle, onFired, level}
+use Rattle.behaviour.specs.Behaviour.{Tick, State, start, tick, accepts, step, run}
 
 each-replicate : {A : Type 0} (P : A → Type 0) (n : ℕ) (a : A) → P a → Each P (replicate n a)
 each-replicate P zero a h = tt
@@ -116,10 +117,10 @@ commit-shaped limits fires v (c ∷ cells) [] f h = absurd h
 commit-shaped limits fires v (c ∷ cells) (r ∷ regs) f h = (next-shaped limits fires v c r (f .0) (h .0), commit-shaped limits fires v cells regs (f .1) (h .1))
 
 step-shaped : (limits : Limits) (n : Netlist) (s : State) (t : Tick) → Fits limits n → AllShaped (n .cells) (s .registers) → AllShaped (n .cells) ((step n s t) .registers)
-step-shaped limits n s t f h = go (tickFits n t)
+step-shaped limits n s t f h = go (accepts n t)
   where
-    go : (b : Bool) → AllShaped (n .cells) ((elim b as (λ b. State) [ true ↦ tick n s t | false ↦ s ]) .registers)
-    go true = commit-shaped limits (on (slots n) (t .fired)) (settle (slots n) (n .cells) (map level (t .bits)) (s .registers)) (n .cells) (s .registers) (f .cells) h
+    go : (b : Bool) → AllShaped (n .cells) ((pick b (tick n s t) s) .registers)
+    go true = commit-shaped limits (onFired (slots n) (t .fired)) (settle (slots n) (n .cells) (map level (t .bits)) (s .registers)) (n .cells) (s .registers) (f .cells) h
     go false = h
 
 run-shaped-from : (limits : Limits) (n : Netlist) (s : State) (l : List Tick) → Fits limits n → AllShaped (n .cells) (s .registers) → AllShaped (n .cells) ((run n s l) .registers)
@@ -128,7 +129,3 @@ run-shaped-from limits n s (t ∷ l) f h = run-shaped-from limits n (step n s t)
 
 pub run-shaped : (limits : Limits) (n : Netlist) (l : List Tick) → Fits limits n → AllShaped (n .cells) ((run n (start n) l) .registers)
 run-shaped limits n l f = run-shaped-from limits n (start n) l f (start-shaped (n .cells))
-
-pub run-append : (n : Netlist) (s : State) (a b : List Tick) → run n s (a ++ b) ≡ run n (run n s a) b
-run-append n s [] b = refl
-run-append n s (t ∷ a) b = run-append n (step n s t) a b
