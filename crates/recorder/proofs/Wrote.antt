@@ -151,3 +151,25 @@ module _ {t : Tapes} {r : Put} {old new : List ℕ} where
           → writing (lists s e old) t (state x) ≡ record { answer = stmtAnswer t (putOf (length old) (t .stmts) (length (stmtWords x))); lists = lists s e (putIn old (t .stmts) (stmtWords x)) }
       go true q = rw q
       go false q = rw q
+
+-- LOOPS: whoever writes what is left has written the whole
+
+pub record Going {A : Type 0} (l₀ : Lists) (t₀ : Tapes) (whole : Writer A) (l : Lists) (t : Tapes) (left : Writer A) : Type 0 where
+  pub ends : (r : Answer A) (l′ : Lists) → Wrote l t left r l′ → Wrote l₀ t₀ whole r l′
+
+module _ {A : Type 0} {l₀ : Lists} {t₀ : Tapes} {whole : Writer A} where
+  pub going-start : {w : Writer A} → whole ≡ w → Going l₀ t₀ whole l₀ t₀ w
+  going-start e = record { ends = λ r l′ h. wrote-as e h }
+
+  module _ {l : Lists} {t : Tapes} {B : Type 0} {w : Writer B} (k : B → Writer A) {left : Writer A} (going-on : Going l₀ t₀ whole l t left) (is : left ≡ (w >>= k)) {r : Answer B} {l₁ : Lists} (h : Wrote l t w r l₁) where
+    pub going-step : {a : B} {u : Tapes} → r ≡ Done a u → Going l₀ t₀ whole l₁ u (k a)
+    going-step d = record { ends = λ q l′ g. going-on .ends q l′ (wrote-as is (then-done h k d g)) }
+
+    pub going-stop : {number place : ℕ} → r ≡ Failed number place → Wrote l₀ t₀ whole (Failed number place) l₁
+    going-stop d = going-on .ends _ _ (wrote-as is (then-stop h k d))
+
+  pub going-same : {l : Lists} {t : Tapes} {w : Writer A} (k : A → Writer A) {left : Writer A} → Going l₀ t₀ whole l t left → left ≡ (w >>= k) → {r : Answer A} {l₁ : Lists} → Wrote l t w r l₁ → {number place : ℕ} → r ≡ Failed number place → Wrote l₀ t₀ whole r l₁
+  going-same k g is {l₁ = l₁} h d = subst (λ (x : Answer A). Wrote l₀ t₀ whole x l₁) (sym d) (going-stop k g is h d)
+
+  pub going-end : {l : Lists} {t : Tapes} {w left : Writer A} {r : Answer A} {l′ : Lists} → Going l₀ t₀ whole l t left → left ≡ w → Wrote l t w r l′ → Wrote l₀ t₀ whole r l′
+  going-end g is h = g .ends _ _ (wrote-as is h)

@@ -55,9 +55,11 @@ loop-again : tie.Need-loop-again Inv-loop μ-loop
 loop-again c =
     let l = c .before .before .loop in
     let a = c .before .before .before .before .before .args in
-    let h : l .k < length (l .bits) = omega arith in
-    (omega arith, simp length-set (omega arith),
-    rw (bits-more (a .words .now) (a .at + a .offset) (l .k), add-one (l .k), take-suc-set (l .bits) (l .k) (c .bit-at .result) h, l .inv .2, c .bit-at .ensures, bit-ahead (a .words .now) (a .at + a .offset) _ (c .before .before .before .ahead .ensures) (l .k)))
+    let h : l .k < length (l .bits) = omega arith in (
+      omega arith,
+      simp length-set (omega arith),
+      rw (bits-more (a .words .now) (a .at + a .offset) (l .k), add-one (l .k), take-suc-set (l .bits) (l .k) (c .bit-at .result) h, l .inv .2, c .bit-at .ensures, bit-ahead (a .words .now) (a .at + a .offset) _ (c .before .before .before .ahead .ensures) (l .k)),
+    )
 
 -- src/fields.rt:80:1
 returns : tie.Need-returns Inv-loop μ-loop

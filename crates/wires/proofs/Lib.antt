@@ -1,0 +1,2 @@
+-- The laws of wires that other crates cite.
+pub mod Laws
