@@ -1,21 +1,20 @@
 -- What an entry of the wire map says, and how the map grows: slots that are added change no entry that is there.
 -- Assumes nothing.
-use mathlib.Core.Path.{_≡_, refl, sym, _∙_, ap, subst}
-use mathlib.Core.Logic.{_⊎_, inl, inr}
+use mathlib.Core.Path.{_≡_, refl, sym, _∙_, ap}
 use mathlib.Core.Bool.{Bool, true, false}
-use mathlib.Core.List.{List, [], _∷_, _++_, map, List·Memᴰ as Mem, List·Memᴰ·head as here, List·Memᴰ·tail as there}
+use mathlib.Core.List.{List, [], _∷_, _++_, map}
 use mathlib.Core.Option.{Option, none, some}
 use Prim.Native.Nat.{ℕ, zero, suc, _+_, _<_}
 use native.Mathlib.Nat.{not-suc-le-zero, le-of-suc-le-suc}
 use native.Mathlib.Omega.{arith}
-use lib.ListN.{length, getD, length-map}
+use lib.ListN.{length, getD}
 use Rattle.bits.specs.Bits.{pick}
 use Rattle.netlist.specs.declared.Bit.{Bit}
 use Rattle.netlist.specs.declared.Bit.the-variants.{Zero, One, Wire}
 use Rattle.netlist.specs.Reader.{sameBit}
 use Rattle.behaviour.specs.Banks.{Member, Bank, cellsOf, outputsOf}
-use Rattle.behaviour.specs.WireMap.{Source, bank, Slot, WireRef, placeOf, heldAt, find, bankSlot}
-use Rattle.behaviour.specs.Behaviour.{Driver, pin, bitSource}
+use Rattle.behaviour.specs.WireMap.{Source, Slot, WireRef, placeOf, heldAt, find, bankSlot}
+use Rattle.behaviour.specs.Behaviour.{pin, bitSource}
 use Rattle.behaviour.proofs.BankLaws.{same-bit-is}
 
 -- GROWING

@@ -2,7 +2,7 @@
 use mathlib.Core.List.{List, [], _∷_, _++_, map}
 use mathlib.Core.Option.{Option, none, some}
 use mathlib.Core.Bool.{Bool, true, false, _&&_}
-use Prim.Native.Nat.{ℕ, zero, suc, _+_, _*_}
+use Prim.Native.Nat.{ℕ, suc, _+_, _*_}
 use lib.ListN.{length, getD, take, drop, set, replicate}
 use lib.Dec.{ltb, eqb}
 use Rattle.bits.specs.Bits.{pick, Bits, number, tableBit, differ, same}
@@ -11,7 +11,7 @@ use Rattle.settle.specs.Settle.{iterate, sweep}
 use Rattle.settle.specs.Loop.{Reads}
 use Rattle.netlist.specs.declared.Bit.{Bit}
 use Rattle.netlist.specs.declared.Bit.the-variants.{Zero, One, Wire}
-use Rattle.netlist.specs.Netlist.{Control, Reset, Ccu2c, FlipFlop, SecondPort, BlockRam, DistributedRam, Pll, Cell, Port, Netlist}
+use Rattle.netlist.specs.Netlist.{Control, Reset, Ccu2c, FlipFlop, SecondPort, BlockRam, DistributedRam, Cell, Port, Netlist}
 use Rattle.netlist.specs.Netlist.{lut4, pfumx, l6mux21, ccu2c, multiplier, flipFlop, blockRam, distributedRam, io, jtagg, pll}
 use Rattle.netlist.specs.Reader.{addressWidth, shiftOf}
 use Rattle.behaviour.specs.WireMap.{Source, inputs, shown, pins, bank, Slot, WireRef, find, slots, tickBits, signalCount, clockSignal}

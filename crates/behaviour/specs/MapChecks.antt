@@ -1,8 +1,7 @@
 -- The wire map of example netlists, as the listings of the Rust over a recorder show it.
-use mathlib.Core.Option.{Option, none, some}
+use mathlib.Core.Option.{some}
 use mathlib.Core.Path.{_≡_, refl}
 use mathlib.Core.List.{List, [], _∷_, map}
-use Prim.Native.Nat.{ℕ}
 use Rattle.behaviour.specs.Banks.{collectFlipFlopBanks, banksFrom, leadersFrom, flipFlopsFrom, bankIn, membersOf}
 use Rattle.behaviour.specs.Checking.{MapRow, mapOf}
 use Rattle.behaviour.specs.Netlists.{and2, ccuAdd, banksRow, ffSwap, ffDivider, ramBothWrite, dramRows, jtaggRow, pllRow, pllShared, constantsShown}

@@ -1,5 +1,5 @@
 -- In every run the registers keep their shape: a cell's RAM has its depth, and every word its width.
-use mathlib.Core.Path.{_≡_, refl, sym, _∙_, ap}
+use mathlib.Core.Path.{_≡_, refl, _∙_, ap}
 use mathlib.Core.List.{List, [], _∷_, map}
 use mathlib.Core.Option.{Option, none, some}
 use mathlib.Core.Bool.{Bool, true, false, _&&_}
@@ -8,11 +8,11 @@ use native.Mathlib.Nat.{not-suc-le-zero, le-of-suc-le-suc}
 use lib.ListN.{length, getD, set, replicate, length-set, length-replicate, length-map}
 use Rattle.bits.specs.Bits.{pick, number}
 use Rattle.netlist.specs.declared.Bit.{Bit}
-use Rattle.netlist.specs.Netlist.{SecondPort, BlockRam, DistributedRam, Cell, Netlist, lut4, pfumx, l6mux21, ccu2c, multiplier, flipFlop, blockRam, distributedRam, io, jtagg, pll}
+use Rattle.netlist.specs.Netlist.{SecondPort, BlockRam, Cell, Netlist, lut4, pfumx, l6mux21, ccu2c, multiplier, flipFlop, blockRam, distributedRam, io, jtagg, pll}
 use Rattle.netlist.specs.Reader.{Limits}
 use Rattle.netlist.specs.Shape.{Each, FitsOption, FitsCell, FitsSecond, Fits}
 use Rattle.behaviour.specs.WireMap.{slots}
-use Rattle.behaviour.specs.Behaviour.{Valuation, value, values, Registers, zeros, unused, absent, initial, address, enabled, written, writtenA, writtenB, loaded, loadedA, loadedB, nextRam, nextDistributed, next, commit, settle, onFired, level}
+use Rattle.behaviour.specs.Behaviour.{Valuation, value, values, Registers, zeros, unused, absent, initial, address, enabled, written, writtenB, loaded, loadedB, nextRam, next, commit, settle, onFired, level}
 use Rattle.behaviour.specs.Behaviour.{Tick, State, start, tick, accepts, step, run}
 
 each-replicate : {A : Type 0} (P : A → Type 0) (n : ℕ) (a : A) → P a → Each P (replicate n a)

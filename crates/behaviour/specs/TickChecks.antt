@@ -1,7 +1,6 @@
 -- Rows of ticks that an independent simulator wrote: model and netlist were both run there, and agreed.
 use mathlib.Core.Path.{_≡_, refl}
 use mathlib.Core.List.{List, [], _∷_, map}
-use Prim.Native.Nat.{ℕ}
 use Rattle.behaviour.specs.Banks.{collectFlipFlopBanks, banksFrom, leadersFrom, flipFlopsFrom, bankIn, membersOf}
 use Rattle.behaviour.specs.Checking.{Row, shownBy, still, fire}
 use Rattle.behaviour.specs.Netlists.{and2, lutTable, lutChain, pfumxRow, l6muxRow, ccuAdd, ccuInject, product, ffPlain, ffFalling, ffEnable, ffSync, ffAsync, ffResetsItself, ffClockMoves, ffSwap, ffConstantClock, ffDivider, ramDepth3, ramPhysical18, ramReadEnable, ramClockEnable, ramBothWrite, dramRows, ioRow, jtaggRow, pllRow, pllShared, pllOwnLocked, constantsShown, refusedTicks, banksRow, ffFiredOutput}
