@@ -324,15 +324,18 @@ pub record State : Type 0 where
 abbrev pub start : Netlist → State
 start n = record { registers = map initial (n .cells); outputs = map (λ (bits : List Bit). zeros (length bits)) (outputPorts (n .ports)) }
 
+-- the input and inout bits are set, and the netlist settles
+abbrev pub settledBy : Netlist → Tick → List Registers → Valuation
+settledBy n t regs = settle (slots n) (n .cells) (map level (t .bits)) regs
+
+abbrev pub committedBy : Netlist → Tick → List Registers → List Registers
+committedBy n t regs = commit (onFired (slots n) (t .fired)) (settledBy n t regs) (n .cells) regs
+
 -- set all input and inout bits, settle, commit, settle again
 abbrev pub tick : Netlist → State → Tick → State
 tick n s t =
-    let held = slots n in
-    let bits = map level (t .bits) in
-    let before = settle held (n .cells) bits (s .registers) in
-    let regs = commit (onFired held (t .fired)) before (n .cells) (s .registers) in
-    let after = settle held (n .cells) bits regs in
-    record { registers = regs; outputs = map (values after) (outputPorts (n .ports)) }
+    let regs = committedBy n t (s .registers) in
+    record { registers = regs; outputs = map (values (settledBy n t regs)) (outputPorts (n .ports)) }
 
 -- 14, of which a netlist has no signal bytes: a wrong count of tick bits, a tick bit not 0 or 1, a fired signal not in the model,
 -- or an edge above 1

@@ -11,7 +11,7 @@ use lib.ListN.{length, getD, List·getD-eq-default}
 use lib.Dec.{eqb}
 use Rattle.bits.specs.Bits.{pick, Bits, number, tableBit}
 use Rattle.settle.specs.Walk.{Way, edge, more, Walk, NoLoop}
-use Rattle.settle.specs.Ground.{Ends, ends-suc, below, length-below, mem-below, long-walk-loops}
+use Rattle.settle.specs.Ground.{Ends, ends-suc, Grounded, ends→grounded, below, length-below, mem-below, long-walk-loops}
 use Rattle.settle.specs.Settle.{iterate, sweep, Respects, settled-at, forgets}
 use Rattle.settle.specs.Loop.{Reads, Under}
 use Rattle.settle.specs.InPlace.{sweepAt, sweeps-level}
@@ -178,6 +178,10 @@ module _ (held : List Slot) (cells : List Cell) where
       let q = long-walk-loops CellEdge (Under (length cells)) (λ a b h e. e .2 .inside) ℕ-discrete (below (length cells)) (λ a h. mem-below (length cells) a h) (length cells) (r .0) (r .2 .0) (r .2 .1) (r .1 .inside) (omega (arith, length-below (length cells))) in
       let u = wire-loop (q .0) (q .2) in
       loopless (u .0) (u .1)
+
+-- every walk over wires ends
+pub wires-grounded : (n : Netlist) → NoWireLoop n → (w : ℕ) → Grounded (Depends n) w
+wires-grounded n loopless w = ends→grounded (Depends n) (suc (length (n .cells))) w (walks-end (slots n) (n .cells) loopless w)
 
 -- no walk of so many edges begins at x, nor one of more
 ends-more : (E′ : ℕ → ℕ → Type 0) (j k : ℕ) → j ≤ k → (x : ℕ) → Ends E′ j x → Ends E′ k x
