@@ -12,9 +12,10 @@ use lib.Dec.{eqb, ltb}
 use lib.ListN.{length, getD, length-append}
 use borrow.Author.Tests.{eq-eqb, ne-eqb, eqb-true, ltb-true, ltb-false}
 use Rattle.bits.specs.Bits.{pick}
+use Rattle.netlist.specs.declared.Reset.{Reset}
 use Rattle.netlist.specs.declared.Bit.{Bit}
 use Rattle.netlist.specs.declared.Bit.the-variants.{Zero, One, Wire}
-use Rattle.netlist.specs.Netlist.{FlipFlop, Reset, Cell, lut4, pfumx, l6mux21, ccu2c, multiplier, flipFlop, blockRam, distributedRam, io, jtagg, pll}
+use Rattle.netlist.specs.Netlist.{FlipFlop, Cell, lut4, pfumx, l6mux21, ccu2c, multiplier, flipFlop, blockRam, distributedRam, io, jtagg, pll}
 use Rattle.netlist.specs.Reader.{sameBit}
 use Rattle.netlist.specs.Shape.{Each}
 use Rattle.behaviour.specs.Banks.{Member, Bank, filterAsync, asyncReset, sameResetControl, sameBank, flipFlopOf, also, flipFlopsFrom, bankIn, joined, leadersFrom, kept, membersOf, banksFrom, flipFlopsOf, leadersOf, collectFlipFlopBanks}

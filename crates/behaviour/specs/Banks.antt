@@ -7,7 +7,8 @@ use Prim.Native.Nat.{ℕ, suc}
 use lib.Dec.{eqb, ltb}
 use lib.ListN.{length}
 use Rattle.bits.specs.Bits.{pick}
-use Rattle.netlist.specs.Netlist.{FlipFlop, Reset, Cell, lut4, pfumx, l6mux21, ccu2c, multiplier, flipFlop, blockRam, distributedRam, io, jtagg, pll}
+use Rattle.netlist.specs.declared.Reset.{Reset}
+use Rattle.netlist.specs.Netlist.{FlipFlop, Cell, lut4, pfumx, l6mux21, ccu2c, multiplier, flipFlop, blockRam, distributedRam, io, jtagg, pll}
 use Rattle.netlist.specs.Reader.{sameBit}
 
 -- a flip-flop and the number of its cell

@@ -9,9 +9,11 @@ use Rattle.bits.specs.Bits.{pick, Bits, number, tableBit, differ, same}
 use Rattle.settle.specs.Walk.{NoLoop}
 use Rattle.settle.specs.Settle.{iterate, sweep}
 use Rattle.settle.specs.Loop.{Reads}
+use Rattle.netlist.specs.declared.Control.{Control}
+use Rattle.netlist.specs.declared.Reset.{Reset}
 use Rattle.netlist.specs.declared.Bit.{Bit}
 use Rattle.netlist.specs.declared.Bit.the-variants.{Zero, One, Wire}
-use Rattle.netlist.specs.Netlist.{Control, Reset, Ccu2c, FlipFlop, SecondPort, BlockRam, DistributedRam, Cell, Port, Netlist}
+use Rattle.netlist.specs.Netlist.{Ccu2c, FlipFlop, SecondPort, BlockRam, DistributedRam, Cell, Port, Netlist}
 use Rattle.netlist.specs.Netlist.{lut4, pfumx, l6mux21, ccu2c, multiplier, flipFlop, blockRam, distributedRam, io, jtagg, pll}
 use Rattle.netlist.specs.Reader.{addressWidth, shiftOf}
 use Rattle.behaviour.specs.WireMap.{Source, inputs, shown, pins, bank, Slot, WireRef, find, slots, tickBits, signalCount, clockSignal}

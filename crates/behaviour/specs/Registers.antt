@@ -7,9 +7,9 @@ use Prim.Native.Nat.{ℕ, zero, suc, _<_}
 use native.Mathlib.Nat.{not-suc-le-zero, le-of-suc-le-suc}
 use lib.ListN.{length, getD, set, replicate, length-set, length-replicate, length-map}
 use Rattle.bits.specs.Bits.{pick, number}
+use Rattle.netlist.specs.declared.Limits.{Limits}
 use Rattle.netlist.specs.declared.Bit.{Bit}
 use Rattle.netlist.specs.Netlist.{SecondPort, BlockRam, Cell, Netlist, lut4, pfumx, l6mux21, ccu2c, multiplier, flipFlop, blockRam, distributedRam, io, jtagg, pll}
-use Rattle.netlist.specs.Reader.{Limits}
 use Rattle.netlist.specs.Shape.{Each, FitsOption, FitsCell, FitsSecond, Fits}
 use Rattle.behaviour.specs.WireMap.{slots}
 use Rattle.behaviour.specs.Behaviour.{Valuation, value, values, Registers, zeros, unused, absent, initial, address, enabled, written, writtenB, loaded, loadedB, nextRam, next, commit, settle, onFired, level}

@@ -1,6 +1,9 @@
 -- The specs of netlist.
 pub mod Netlist
 pub mod Reader
+pub mod Fields
+pub mod FieldForms
+pub mod Placed
 pub mod Shape
 pub mod ReaderFits
 pub mod ReaderLaws

@@ -1,0 +1,4 @@
+-- The laws of netlist.
+pub mod RecordLaws
+pub mod FieldLaws
+pub mod WordLaws

@@ -1,0 +1,35 @@
+use mathlib.Core.Path.{_≡_, refl, sym, ap, _∙_}
+use native.Mathlib.Omega.{arith}
+use Rattle.netlist.specs.Fields.{portSize}
+use borrow.Author.Needs.{needs}
+use Rattle.netlist.proofs.fields.port_end.Statement.{statement}
+use Rattle.netlist.proofs.fields.port_end.Tie as tie
+use Rattle.netlist.proofs.fields.port_end.Reads as reads
+use Rattle.netlist.proofs.fields.port_end.Lts as lts
+use Rattle.netlist.proofs.fields.ahead.Reads as ahead-reads
+use Rattle.netlist.proofs.fields.field.Reads as field-reads
+use Rattle.netlist.proofs.fields.wide.Reads as wide-reads
+
+-- src/fields.rt:155:31
+field-requires : tie.Need-field-requires
+field-requires c κs = search needs
+
+-- src/fields.rt:155:26
+wide-requires : tie.Need-wide-requires
+wide-requires c κs = search needs
+
+-- src/fields.rt:155:22
+add-ahead : tie.Need-add-ahead
+add-ahead c = search needs
+
+-- src/fields.rt:155:5
+ahead-requires : tie.Need-ahead-requires
+ahead-requires c κs = search needs
+
+-- src/fields.rt:152:1
+returns : tie.Need-returns
+unfolding portSize
+returns c = omega arith
+
+pub port-end-spec : {M : Type 1} → statement M
+port-end-spec = tie.close (tie.spec field-requires wide-requires add-ahead ahead-requires returns)
