@@ -2,7 +2,7 @@
 use mathlib.Core.List.{List, [], _∷_, _++_, map}
 use mathlib.Core.Option.{Option, none, some}
 use mathlib.Core.Bool.{Bool, true, false, _&&_}
-use Prim.Native.Nat.{ℕ, zero, suc, _+_, _*_}
+use Prim.Native.Nat.{ℕ, suc, _+_, _*_}
 use lib.ListN.{length, getD, take, drop, set, replicate}
 use lib.Dec.{ltb, eqb}
 use Rattle.bits.specs.Bits.{pick, Bits, number, tableBit, differ, same}
@@ -13,7 +13,7 @@ use Rattle.netlist.specs.declared.Control.{Control}
 use Rattle.netlist.specs.declared.Reset.{Reset}
 use Rattle.netlist.specs.declared.Bit.{Bit}
 use Rattle.netlist.specs.declared.Bit.the-variants.{Zero, One, Wire}
-use Rattle.netlist.specs.Netlist.{Ccu2c, FlipFlop, SecondPort, BlockRam, DistributedRam, Pll, Cell, Port, Netlist}
+use Rattle.netlist.specs.Netlist.{Ccu2c, FlipFlop, SecondPort, BlockRam, DistributedRam, Cell, Port, Netlist}
 use Rattle.netlist.specs.Netlist.{lut4, pfumx, l6mux21, ccu2c, multiplier, flipFlop, blockRam, distributedRam, io, jtagg, pll}
 use Rattle.netlist.specs.Reader.{addressWidth, shiftOf}
 use Rattle.behaviour.specs.WireMap.{Source, inputs, shown, pins, bank, Slot, WireRef, find, slots, tickBits, signalCount, clockSignal}
@@ -326,15 +326,18 @@ pub record State : Type 0 where
 abbrev pub start : Netlist → State
 start n = record { registers = map initial (n .cells); outputs = map (λ (bits : List Bit). zeros (length bits)) (outputPorts (n .ports)) }
 
+-- the input and inout bits are set, and the netlist settles
+abbrev pub settledBy : Netlist → Tick → List Registers → Valuation
+settledBy n t regs = settle (slots n) (n .cells) (map level (t .bits)) regs
+
+abbrev pub committedBy : Netlist → Tick → List Registers → List Registers
+committedBy n t regs = commit (onFired (slots n) (t .fired)) (settledBy n t regs) (n .cells) regs
+
 -- set all input and inout bits, settle, commit, settle again
 abbrev pub tick : Netlist → State → Tick → State
 tick n s t =
-    let held = slots n in
-    let bits = map level (t .bits) in
-    let before = settle held (n .cells) bits (s .registers) in
-    let regs = commit (onFired held (t .fired)) before (n .cells) (s .registers) in
-    let after = settle held (n .cells) bits regs in
-    record { registers = regs; outputs = map (values after) (outputPorts (n .ports)) }
+    let regs = committedBy n t (s .registers) in
+    record { registers = regs; outputs = map (values (settledBy n t regs)) (outputPorts (n .ports)) }
 
 -- 14, of which a netlist has no signal bytes: a wrong count of tick bits, a tick bit not 0 or 1, a fired signal not in the model,
 -- or an edge above 1

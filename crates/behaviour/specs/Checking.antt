@@ -1,13 +1,12 @@
 -- Rows of the computed tables, and what the definitions give for them.
 use mathlib.Core.List.{List, [], _∷_, _++_, map}
 use mathlib.Core.Option.{Option, none, some}
-use mathlib.Core.Bool.{Bool, true, false}
-use Prim.Native.Nat.{ℕ, zero, suc, _+_}
+use mathlib.Core.Bool.{Bool, false}
+use Prim.Native.Nat.{ℕ}
 use Rattle.bits.specs.Bits.{Bits, number}
-use Rattle.netlist.specs.Netlist.{Netlist}
 use Rattle.netlist.specs.Reader.{Read, netlist, refused, readWords, base}
 use Rattle.behaviour.specs.WireMap.{WireRef, wireMap, signalCount}
-use Rattle.behaviour.specs.Behaviour.{Tick, Fired, State, start, shows}
+use Rattle.behaviour.specs.Behaviour.{Tick, shows}
 use Rattle.behaviour.specs.LoopTest.{loopFree}
 
 -- a tick with no clock, and one that fires a signal's edge

@@ -2,7 +2,6 @@
 use mathlib.Core.Bool.{true, false}
 use mathlib.Core.Path.{_≡_, refl}
 use mathlib.Core.List.{List, [], _∷_, map}
-use Prim.Native.Nat.{ℕ}
 use Rattle.behaviour.specs.Banks.{collectFlipFlopBanks, banksFrom, leadersFrom, flipFlopsFrom, bankIn, membersOf}
 use Rattle.behaviour.specs.Checking.{LoopRow, loopless}
 

@@ -1,18 +1,17 @@
 -- A netlist with no loop settles: `settle` gives the one valuation in which every wire holds what its driver gives. So what a tick
 -- means does not hang on the number of sweeps, on the values from which they start, or on the order in which wires are evaluated.
 use mathlib.Core.Path.{_≡_, refl, sym, _∙_, ap, ap₂, subst, fun-ext}
-use mathlib.Core.List.{List, [], _∷_, _++_, map, List·Memᴰ as Mem, List·Memᴰ·head as here, List·Memᴰ·tail as there, List·Memᴰ·cases-cons as cases-cons, List·Memᴰ·not-nil as not-nil}
+use mathlib.Core.List.{List, [], _∷_, _++_, List·Memᴰ as Mem, List·Memᴰ·head as here, List·Memᴰ·tail as there, List·Memᴰ·cases-cons as cases-cons, List·Memᴰ·not-nil as not-nil}
 use mathlib.Core.Logic.{_⊎_, inl, inr}
 use mathlib.Core.Bool.{Bool, true, false}
-use Prim.Native.Nat.{ℕ, zero, suc, _+_, _*_, _≤_, _<_}
-use native.Mathlib.Nat.{le-refl}
+use Prim.Native.Nat.{ℕ, zero, suc, _*_, _≤_, _<_}
 use native.Mathlib.Omega.{arith}
 use native.Mathlib.Decide.{decLt, ℕ-discrete}
 use lib.ListN.{length, getD, List·getD-eq-default}
 use lib.Dec.{eqb}
 use Rattle.bits.specs.Bits.{pick, Bits, number, tableBit}
 use Rattle.settle.specs.Walk.{Way, edge, more, Walk, NoLoop}
-use Rattle.settle.specs.Ground.{Ends, ends-suc, Closed, Lists, below, length-below, mem-below, long-walk-loops}
+use Rattle.settle.specs.Ground.{Ends, ends-suc, Grounded, ends→grounded, below, length-below, mem-below, long-walk-loops}
 use Rattle.settle.specs.Settle.{iterate, sweep, Respects, settled-at, forgets}
 use Rattle.settle.specs.Loop.{Reads, Under}
 use Rattle.settle.specs.InPlace.{sweepAt, sweeps-level}
@@ -179,6 +178,10 @@ module _ (held : List Slot) (cells : List Cell) where
       let q = long-walk-loops CellEdge (Under (length cells)) (λ a b h e. e .2 .inside) ℕ-discrete (below (length cells)) (λ a h. mem-below (length cells) a h) (length cells) (r .0) (r .2 .0) (r .2 .1) (r .1 .inside) (omega (arith, length-below (length cells))) in
       let u = wire-loop (q .0) (q .2) in
       loopless (u .0) (u .1)
+
+-- every walk over wires ends
+pub wires-grounded : (n : Netlist) → NoWireLoop n → (w : ℕ) → Grounded (Depends n) w
+wires-grounded n loopless w = ends→grounded (Depends n) (suc (length (n .cells))) w (walks-end (slots n) (n .cells) loopless w)
 
 -- no walk of so many edges begins at x, nor one of more
 ends-more : (E′ : ℕ → ℕ → Type 0) (j k : ℕ) → j ≤ k → (x : ℕ) → Ends E′ j x → Ends E′ k x

@@ -1,10 +1,9 @@
 -- Rows of ticks that an independent simulator wrote: model and netlist were both run there, and agreed.
 use mathlib.Core.Path.{_≡_, refl}
 use mathlib.Core.List.{List, [], _∷_, map}
-use Prim.Native.Nat.{ℕ}
 use Rattle.behaviour.specs.Banks.{collectFlipFlopBanks, banksFrom, leadersFrom, flipFlopsFrom, bankIn, membersOf}
 use Rattle.behaviour.specs.Checking.{Row, shownBy, still, fire}
-use Rattle.behaviour.specs.Netlists.{and2, lutTable, lutChain, pfumxRow, l6muxRow, ccuAdd, ccuInject, product, ffPlain, ffFalling, ffEnable, ffSync, ffAsync, ffSwap, ffConstantClock, ffDivider, ramDepth3, ramPhysical18, ramReadEnable, ramClockEnable, dramRows, ioRow, jtaggRow, pllRow, pllOwnLocked, constantsShown, refusedTicks, banksRow, ffFiredOutput}
+use Rattle.behaviour.specs.Netlists.{and2, lutTable, lutChain, pfumxRow, l6muxRow, ccuAdd, ccuInject, product, ffPlain, ffFalling, ffEnable, ffSync, ffAsync, ffResetsItself, ffClockMoves, ffSwap, ffConstantClock, ffDivider, ramDepth3, ramPhysical18, ramReadEnable, ramClockEnable, ramBothWrite, dramRows, ioRow, jtaggRow, pllRow, pllShared, pllOwnLocked, constantsShown, refusedTicks, banksRow, ffFiredOutput}
 
 abbrev pub tickRows : List Row
 tickRows =
@@ -34,6 +33,10 @@ tickRows =
     record { words = ffSync; ticks = still (1 ∷ 0 ∷ 0 ∷ 0 ∷ 0 ∷ []) ∷ fire (1 ∷ 0 ∷ 0 ∷ 0 ∷ 0 ∷ []) 1 0 ∷ fire (0 ∷ 1 ∷ 0 ∷ 0 ∷ 0 ∷ []) 1 0 ∷ fire (0 ∷ 1 ∷ 1 ∷ 0 ∷ 0 ∷ []) 1 0 ∷ fire (0 ∷ 0 ∷ 1 ∷ 0 ∷ 0 ∷ []) 1 0 ∷ fire (1 ∷ 1 ∷ 1 ∷ 0 ∷ 0 ∷ []) 1 0 ∷ []; shown = 0 ∷ 1 ∷ 1 ∷ 1 ∷ 0 ∷ 1 ∷ [] } ∷
     -- an asynchronous reset loads whatever fires, or nothing
     record { words = ffAsync; ticks = still (0 ∷ 0 ∷ 0 ∷ []) ∷ fire (0 ∷ 0 ∷ 1 ∷ []) 0 0 ∷ fire (0 ∷ 1 ∷ 1 ∷ []) 0 0 ∷ fire (0 ∷ 0 ∷ 1 ∷ []) 0 0 ∷ fire (0 ∷ 0 ∷ 0 ∷ []) 1 0 ∷ fire (0 ∷ 1 ∷ 1 ∷ []) 0 1 ∷ fire (0 ∷ 1 ∷ 0 ∷ []) 0 0 ∷ []; shown = 1 ∷ 0 ∷ 1 ∷ 0 ∷ 1 ∷ 1 ∷ 1 ∷ [] } ∷
+    -- a reset that the commit itself asserts waits for the next tick
+    record { words = ffResetsItself; ticks = fire (1 ∷ []) 0 0 ∷ still (1 ∷ []) ∷ fire (0 ∷ []) 0 0 ∷ []; shown = 1 ∷ 0 ∷ 1 ∷ [] } ∷
+    -- the clock's wire moves, and nothing fires
+    record { words = ffClockMoves; ticks = still (0 ∷ []) ∷ still (1 ∷ []) ∷ fire (1 ∷ []) 0 0 ∷ []; shown = 0 ∷ 0 ∷ 1 ∷ [] } ∷
     -- all registers change together
     record { words = ffSwap; ticks = fire (0 ∷ []) 0 0 ∷ fire (0 ∷ []) 0 0 ∷ fire (0 ∷ []) 0 0 ∷ fire (0 ∷ []) 0 0 ∷ fire (0 ∷ []) 0 0 ∷ []; shown = 2 ∷ 3 ∷ 1 ∷ 0 ∷ 2 ∷ [] } ∷
     -- a clock that is Zero: the signal zero fires it, the signal one does not
@@ -48,6 +51,8 @@ tickRows =
     record { words = ramReadEnable; ticks = fire (0 ∷ 1 ∷ 1 ∷ 0 ∷ 1 ∷ 0 ∷ 1 ∷ 1 ∷ 1 ∷ 0 ∷ []) 0 0 ∷ fire (0 ∷ 0 ∷ 0 ∷ 0 ∷ 1 ∷ 0 ∷ 0 ∷ 0 ∷ 0 ∷ 0 ∷ []) 0 0 ∷ fire (0 ∷ 0 ∷ 0 ∷ 0 ∷ 1 ∷ 0 ∷ 0 ∷ 0 ∷ 1 ∷ 0 ∷ []) 0 0 ∷ fire (0 ∷ 0 ∷ 0 ∷ 0 ∷ 0 ∷ 0 ∷ 0 ∷ 0 ∷ 0 ∷ 0 ∷ []) 0 0 ∷ fire (0 ∷ 0 ∷ 0 ∷ 0 ∷ 0 ∷ 0 ∷ 0 ∷ 0 ∷ 1 ∷ 0 ∷ []) 0 0 ∷ []; shown = 0 ∷ 0 ∷ 3 ∷ 3 ∷ 0 ∷ [] } ∷
     -- a clock enable has no effect
     record { words = ramClockEnable; ticks = fire (0 ∷ 1 ∷ 1 ∷ 0 ∷ 1 ∷ 0 ∷ 1 ∷ 1 ∷ 1 ∷ 0 ∷ []) 0 0 ∷ fire (0 ∷ 0 ∷ 0 ∷ 0 ∷ 1 ∷ 0 ∷ 0 ∷ 0 ∷ 0 ∷ 0 ∷ []) 0 0 ∷ []; shown = 0 ∷ 3 ∷ [] } ∷
+    -- both ports write one word: B's stays; each reads the word before
+    record { words = ramBothWrite; ticks = fire (0 ∷ 1 ∷ 1 ∷ 1 ∷ 1 ∷ 1 ∷ 0 ∷ []) 0 0 ∷ fire (0 ∷ 0 ∷ 1 ∷ 0 ∷ 0 ∷ 1 ∷ 0 ∷ []) 0 0 ∷ fire (0 ∷ 1 ∷ 1 ∷ 1 ∷ 1 ∷ 1 ∷ 1 ∷ []) 0 0 ∷ fire (0 ∷ 0 ∷ 1 ∷ 0 ∷ 0 ∷ 1 ∷ 0 ∷ []) 0 0 ∷ fire (0 ∷ 1 ∷ 0 ∷ 1 ∷ 1 ∷ 0 ∷ 1 ∷ []) 0 0 ∷ fire (0 ∷ 0 ∷ 0 ∷ 0 ∷ 0 ∷ 0 ∷ 0 ∷ []) 0 0 ∷ []; shown = 0 ∷ 0 ∷ 0 ∷ 3 ∷ 0 ∷ 3 ∷ [] } ∷
     -- distributed RAM: written on the clock, read at once
     record { words = dramRows; ticks = still (0 ∷ 1 ∷ 1 ∷ 0 ∷ 1 ∷ 0 ∷ 1 ∷ 0 ∷ 0 ∷ 1 ∷ 1 ∷ 0 ∷ 1 ∷ 0 ∷ []) ∷ fire (0 ∷ 1 ∷ 1 ∷ 0 ∷ 1 ∷ 0 ∷ 1 ∷ 0 ∷ 0 ∷ 1 ∷ 1 ∷ 0 ∷ 1 ∷ 0 ∷ []) 0 0 ∷ fire (0 ∷ 1 ∷ 0 ∷ 1 ∷ 1 ∷ 0 ∷ 1 ∷ 1 ∷ 1 ∷ 1 ∷ 1 ∷ 0 ∷ 1 ∷ 0 ∷ []) 0 0 ∷ still (0 ∷ 1 ∷ 0 ∷ 0 ∷ 0 ∷ 0 ∷ 0 ∷ 0 ∷ 0 ∷ 0 ∷ 0 ∷ 1 ∷ 1 ∷ 0 ∷ []) ∷ fire (0 ∷ 1 ∷ 1 ∷ 1 ∷ 1 ∷ 0 ∷ 1 ∷ 1 ∷ 0 ∷ 0 ∷ 1 ∷ 1 ∷ 1 ∷ 0 ∷ []) 0 1 ∷ fire (0 ∷ 0 ∷ 1 ∷ 0 ∷ 1 ∷ 0 ∷ 0 ∷ 1 ∷ 0 ∷ 0 ∷ 1 ∷ 0 ∷ 1 ∷ 0 ∷ []) 0 0 ∷ []; shown = 0 ∷ 9 ∷ 9 ∷ 15 ∷ 0 ∷ 9 ∷ [] } ∷
     -- IO: the pad when tristate is 1
@@ -56,10 +61,14 @@ tickRows =
     record { words = jtaggRow; ticks = still [] ∷ []; shown = 64 ∷ [] } ∷
     -- PLL: clocks copy the reference, locked is 1; output and feedback share a wire; its signal fires
     record { words = pllRow; ticks = still (0 ∷ []) ∷ still (1 ∷ []) ∷ fire (1 ∷ []) 0 0 ∷ fire (1 ∷ []) 3 0 ∷ []; shown = 2 ∷ 7 ∷ 7 ∷ 15 ∷ [] } ∷
+    -- further clocks that share the wires of feedback and output
+    record { words = pllShared; ticks = still (0 ∷ []) ∷ still (1 ∷ []) ∷ []; shown = 4 ∷ 15 ∷ [] } ∷
     -- a PLL whose reference is its own locked
     record { words = pllOwnLocked; ticks = still [] ∷ []; shown = 3 ∷ [] } ∷
     -- constant bits in ports; inout ports count among the tick bits
     record { words = constantsShown; ticks = still (1 ∷ 1 ∷ 0 ∷ 1 ∷ []) ∷ still (0 ∷ 0 ∷ 1 ∷ 0 ∷ []) ∷ still (0 ∷ 1 ∷ 1 ∷ 1 ∷ []) ∷ []; shown = 3 ∷ 9 ∷ 11 ∷ [] } ∷
+    -- zeros before the first accepted tick, constants too
+    record { words = constantsShown; ticks = still (1 ∷ []) ∷ still (1 ∷ 1 ∷ 0 ∷ 1 ∷ []) ∷ []; shown = 0 ∷ 3 ∷ [] } ∷
     -- too few bits, too many, a bit that is 2, a signal that is not there, edge 2: each changes nothing
     record { words = refusedTicks; ticks = fire (0 ∷ 1 ∷ []) 0 0 ∷ fire (0 ∷ []) 0 0 ∷ fire (0 ∷ 0 ∷ 0 ∷ []) 0 0 ∷ fire (2 ∷ 0 ∷ []) 0 0 ∷ fire (0 ∷ 0 ∷ []) 7 0 ∷ fire (0 ∷ 0 ∷ []) 0 2 ∷ fire (0 ∷ 0 ∷ []) 6 0 ∷ fire (0 ∷ 0 ∷ []) 0 0 ∷ []; shown = 3 ∷ 3 ∷ 3 ∷ 3 ∷ 3 ∷ 3 ∷ 1 ∷ 0 ∷ [] } ∷
     -- banks by clock, edge and asynchronous reset: the first and last flip-flop share one

@@ -3,13 +3,13 @@
 use mathlib.Core.List.{List, [], _∷_, _++_, map}
 use mathlib.Core.Option.{Option, none, some}
 use mathlib.Core.Bool.{Bool, true, false}
-use Prim.Native.Nat.{ℕ, zero, suc, _+_}
-use lib.ListN.{length, getD}
+use Prim.Native.Nat.{ℕ, suc, _+_}
+use lib.ListN.{length}
 use lib.Dec.{eqb}
 use Rattle.bits.specs.Bits.{pick}
 use Rattle.netlist.specs.declared.Bit.{Bit}
 use Rattle.netlist.specs.declared.Bit.the-variants.{Zero, One, Wire}
-use Rattle.netlist.specs.Netlist.{Ccu2c, SecondPort, BlockRam, DistributedRam, Pll, Cell, Port, Netlist}
+use Rattle.netlist.specs.Netlist.{SecondPort, Pll, Cell, Port, Netlist}
 use Rattle.netlist.specs.Netlist.{lut4, pfumx, l6mux21, ccu2c, multiplier, flipFlop, blockRam, distributedRam, io, jtagg, pll}
 use Rattle.netlist.specs.Reader.{sameBit}
 use Rattle.behaviour.specs.Banks.{Bank, collectFlipFlopBanks, cellsOf, outputsOf}

@@ -1,7 +1,6 @@
 -- Vectors from Yosys' ECP5 cell models, a few of each kind of cell. Written by oracle/yosys/rows.py from oracle/answers/yosys.txt.
 use mathlib.Core.Path.{_≡_, refl}
 use mathlib.Core.List.{List, [], _∷_, map}
-use Prim.Native.Nat.{ℕ}
 use Rattle.behaviour.specs.Banks.{collectFlipFlopBanks, banksFrom, leadersFrom, flipFlopsFrom, bankIn, membersOf}
 use Rattle.behaviour.specs.Checking.{Row, shownBy, still, fire}
 
