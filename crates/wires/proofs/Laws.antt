@@ -8,7 +8,9 @@ use native.Mathlib.Nat.{add-zero, zero-add}
 use native.Mathlib.Numerals.{add-one}
 use native.Mathlib.Omega.{arith}
 use lib.Dec.{eqb, leb}
-use lib.ListN.{length, getD, take, drop, set, length-set, length-take}
+use lib.ListN.{length, getD, take, drop, set, length-set, length-take, List·getD-eq-default}
+use Rattle.netlist.specs.Fields.{bitAt, bitsAt}
+use Rattle.netlist.proofs.RecordLaws.{bits-length, bits-get}
 use lib.Seq.{take-suc-set, take-suc, length-take-le}
 use borrow.Author.Tests.{eq-eqb, ne-eqb, le-leb, lt-leb}
 use Rattle.bits.specs.Bits.{pick}
@@ -85,18 +87,23 @@ module _ (m : Wires) where
   pub reads-missing : (z : Constants) {w : ℕ} {q : Controlled} → m w ≡ none → controlled q ≡ no 8 w → Reads (bitSignal m z (Wire w)) q
   reads-missing z h e = record { reads = λ n. ap (λ (x : Writer ℕ). x n) (signal-missing z h) ∙ ap (λ (x : End ℕ). record { events = []; end = x }) (sym e) }
 
-pub whole-yes : (r : WireRef) → r .lsb ≡ 0 → r .width ≡ 1 → whole r ≡ true
-whole-yes r p q = rw (eq-eqb (r .lsb) 0 p, eq-eqb (r .width) 1 q)
+-- whether it is a whole signal of one bit
+module _ (r : WireRef) (w : ℕ) where
+  pub scalar-yes : r .lsb ≡ 0 → r .width ≡ 1 → ok (r .signal) ≡ pick (whole r) (ok (r .signal)) (no 9 w)
+  scalar-yes p q = rw (eq-eqb (r .lsb) 0 p, eq-eqb (r .width) 1 q)
 
-pub whole-lsb : (r : WireRef) → (r .lsb ≡ 0 → ⊥) → whole r ≡ false
-whole-lsb r p = rw (ne-eqb (r .lsb) 0 p)
+  pub scalar-lsb : (r .lsb ≡ 0 → ⊥) → no 9 w ≡ pick (whole r) (ok (r .signal)) (no 9 w)
+  scalar-lsb p = rw (ne-eqb (r .lsb) 0 p)
 
-pub whole-width : (r : WireRef) → (r .width ≡ 1 → ⊥) → whole r ≡ false
-whole-width r q = go (eqb (r .lsb) 0)
-  where
-    go : (b : Bool) → (b && eqb (r .width) 1) ≡ false
-    go true = ne-eqb (r .width) 1 q
-    go false = refl
+  pub scalar-width : (r .width ≡ 1 → ⊥) → no 9 w ≡ pick (whole r) (ok (r .signal)) (no 9 w)
+  scalar-width q = go (eqb (r .lsb) 0)
+    where
+      go : (b : Bool) → no 9 w ≡ pick (b && eqb (r .width) 1) (ok (r .signal)) (no 9 w)
+      go true = rw (ne-eqb (r .width) 1 q)
+      go false = refl
+
+pub reads-as : (m : Wires) (z : Constants) {b b′ : Bit} (q : Controlled) → b ≡ b′ → Reads (bitSignal m z b′) q → Reads (bitSignal m z b) q
+reads-as m z q e h = subst (λ (x : Bit). Reads (bitSignal m z x) q) (sym e) h
 
 -- LENT WORK
 
@@ -164,3 +171,9 @@ parts-step parts end left e h g z =
 -- all parts done
 pub parts-all : (parts : List ℕ) (end left : ℕ) → left ≡ 0 → take (end - left) parts ≡ take end parts
 parts-all parts end left z = let i : end - left ≡ end = omega arith in ap (λ (k : ℕ). take k parts) i
+
+pub vector-bit-there : (words : List ℕ) (at n i : ℕ) → i < n → bitAt words (at + i) ≡ vectorBit (bitsAt words at n) i
+vector-bit-there words at n i h = sym (bits-get words at n Zero i h)
+
+pub vector-bit-none : (words : List ℕ) (at n i : ℕ) → n ≤ i → Zero ≡ vectorBit (bitsAt words at n) i
+vector-bit-none words at n i h = sym (List·getD-eq-default (bitsAt words at n) Zero (subst (λ (k : ℕ). k ≤ i) (sym (bits-length words at n)) h))
