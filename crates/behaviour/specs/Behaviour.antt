@@ -1,21 +1,22 @@
--- The tick rule of document 01, on the netlist's own cells.
+-- What a tick means, on the netlist's own cells. The sections follow document 01; the tick itself uses all the others and stands last.
 use mathlib.Core.List.{List, [], _∷_, _++_, map}
 use mathlib.Core.Option.{Option, none, some}
-use mathlib.Core.Bool.{Bool, true, false, not, cond, Bool·beq, _&&_, _||_}
-use Prim.Native.Nat.{ℕ, zero, suc, _+_, _*_, _/_, _%_, _^_}
+use mathlib.Core.Bool.{Bool, true, false, _&&_}
+use Prim.Native.Nat.{ℕ, suc, _+_, _*_}
 use lib.ListN.{length, getD, take, drop, set, replicate}
-use lib.Dec.{leb, ltb, eqb}
-use Rattle.settle.specs.Walk.{Way, NoLoop}
+use lib.Dec.{ltb, eqb}
+use Rattle.bits.specs.Bits.{pick, Bits, number, tableBit, differ, same}
+use Rattle.settle.specs.Walk.{NoLoop}
 use Rattle.settle.specs.Settle.{iterate, sweep}
 use Rattle.settle.specs.Loop.{Reads}
+use Rattle.netlist.specs.declared.Control.{Control}
+use Rattle.netlist.specs.declared.Reset.{Reset}
 use Rattle.netlist.specs.declared.Bit.{Bit}
 use Rattle.netlist.specs.declared.Bit.the-variants.{Zero, One, Wire}
-use Rattle.netlist.specs.Netlist.{Control, Reset, Ccu2c, FlipFlop, SecondPort, BlockRam, DistributedRam, Pll, Cell, Port, Netlist}
+use Rattle.netlist.specs.Netlist.{Ccu2c, FlipFlop, SecondPort, BlockRam, DistributedRam, Cell, Port, Netlist}
 use Rattle.netlist.specs.Netlist.{lut4, pfumx, l6mux21, ccu2c, multiplier, flipFlop, blockRam, distributedRam, io, jtagg, pll}
 use Rattle.netlist.specs.Reader.{addressWidth, shiftOf}
 use Rattle.behaviour.specs.WireMap.{Source, inputs, shown, pins, bank, Slot, WireRef, find, slots, tickBits, signalCount, clockSignal}
-
--- BITS
 
 -- what each wire holds
 abbrev pub Valuation : Type 0
@@ -26,55 +27,30 @@ value v Zero = false
 value v One = true
 value v (Wire w) = v w
 
-abbrev pub values : Valuation → List Bit → List Bool
+abbrev pub values : Valuation → List Bit → Bits
 values v bits = map (value v) bits
 
--- the lowest bit first
-abbrev pub digit : Bool → ℕ
-digit false = 0
-digit true = 1
-
-abbrev pub number : List Bool → ℕ
-number [] = 0
-number (b ∷ l) = digit b + 2 * number l
-
--- bit k of a number
-abbrev pub bitOfNumber : ℕ → ℕ → Bool
-bitOfNumber n k = eqb (n / 2 ^ k % 2) 1
-
--- 1 is true: flags, levels, tick bits
+-- a flag, a level or a tick bit: 1 is true
 abbrev pub level : ℕ → Bool
 level x = eqb x 1
 
-abbrev pub differ : Bool → Bool → Bool
-differ a b = not (Bool·beq a b)
+-- REGISTERS: flip-flops, RAM words and block RAM reads
 
-abbrev pub asserted : Valuation → Bit → ℕ → Bool
-asserted v signal active = Bool·beq (value v signal) (level active)
-
--- a control that is not there lets all pass
-abbrev pub enabled : Valuation → Option Control → Bool
-enabled v none = true
-enabled v (some c) = asserted v (c .signal) (c .active)
-
--- REGISTERS of one cell; a cell uses those of its kind
-
+-- those of one cell; a cell uses the fields of its kind
 pub record Registers : Type 0 where
-  -- a flip-flop
   pub flop : Bool
-  -- the words of a RAM, each with its lowest bit first
-  pub words : List (List Bool)
-  -- the read registers of a block RAM's two ports
-  pub readA : List Bool
-  pub readB : List Bool
+  pub words : List Bits
+  -- the reads of a block RAM's two ports
+  pub readA : Bits
+  pub readB : Bits
 
-abbrev pub zeros : ℕ → List Bool
+abbrev pub zeros : ℕ → Bits
 zeros width = replicate width false
 
 abbrev pub unused : Registers
 unused = record { flop = false; words = []; readA = []; readB = [] }
 
--- every register starts at 0
+-- each starts at 0
 abbrev pub initial : Cell → Registers
 initial (lut4 is o t) = unused
 initial (pfumx a b s o) = unused
@@ -88,123 +64,8 @@ initial (io p a o t) = unused
 initial (jtagg o) = unused
 initial (pll p) = unused
 
--- OUTPUTS OF A CELL
+-- WHAT FIRES
 
-abbrev pub lookTable : ℕ → List Bool → Bool
-lookTable init bits = bitOfNumber init (number bits)
-
-pub record CcuRow : Type 0 where
-  pub sum : Bool
-  pub carry : Bool
-
--- a row of a CCU2C: L is the table bit of the four inputs, M that with the last two inputs 0, G the carry, or 0 if inject is set
-abbrev pub ccuRow : List Bool → ℕ → ℕ → Bool → CcuRow
-ccuRow bits init inject carry =
-    let l = lookTable init bits in
-    let m = lookTable init (take 2 bits ++ (false ∷ false ∷ [])) in
-    let g = cond (level inject) false carry in
-    record { sum = differ l g; carry = cond l g m }
-
--- the two sums and the carry, from the inputs' values
-abbrev pub ccuBits : Ccu2c → List Bool → List Bool → Bool → List Bool
-ccuBits u bits0 bits1 carryIn =
-    let r0 = ccuRow bits0 (u .init0) (u .inject0) carryIn in
-    let r1 = ccuRow bits1 (u .init1) (u .inject1) (r0 .carry) in
-    r0 .sum ∷ r1 .sum ∷ r1 .carry ∷ []
-
--- output pin k of a cell. Pins are counted in the order in which the cell's wires get signals (WireMap): of a block RAM A's and
--- then B's, of a JTAGG reset_n is 6, of a PLL locked is 2
-abbrev pub output : Valuation → Registers → Cell → ℕ → Bool
-output v r (lut4 is o t) k = lookTable t (values v is)
-output v r (pfumx a b s o) k = cond (value v s) (value v a) (value v b)
-output v r (l6mux21 a b s o) k = cond (value v s) (value v b) (value v a)
-output v r (ccu2c u) k = getD (ccuBits u (values v (u .row0)) (values v (u .row1)) (value v (u .carryIn))) k false
-output v r (multiplier a b o) k = bitOfNumber (number (values v a) * number (values v b)) k
-output v r (flipFlop f) k = r .flop
-output v r (blockRam m) k = getD (r .readA ++ r .readB) k false
-output v r (distributedRam m) k = getD (getD (r .words) (number (values v (m .readAddress))) []) k false
-output v r (io p a o t) k = cond (value v t) (value v (Wire p)) (value v a)
-output v r (jtagg o) k = eqb k 6
-output v r (pll p) k = cond (eqb k 2) true (value v (p .reference))
-
--- for loops: what output pin k depends on
-abbrev pub depends : Cell → ℕ → List Bit
-depends (lut4 is o t) k = is
-depends (pfumx a b s o) k = a ∷ b ∷ s ∷ []
-depends (l6mux21 a b s o) k = a ∷ b ∷ s ∷ []
-depends (ccu2c u) k = u .row0 ++ (u .row1 ++ (u .carryIn ∷ []))
-depends (multiplier a b o) k = a ++ b
-depends (flipFlop f) k = []
-depends (blockRam m) k = []
-depends (distributedRam m) k = m .readAddress
-depends (io p a o t) k = Wire p ∷ a ∷ t ∷ []
-depends (jtagg o) k = []
-depends (pll p) k = cond (eqb k 2) [] (p .reference ∷ [])
-
--- THE DRIVER OF A WIRE: whatever gives its bits to the signal that the wire map holds for it
-
-pub data Driver : Type 0 where
-  tickBit : ℕ → Driver
-  -- cell, output pin
-  pin : ℕ → ℕ → Driver
-  nobody : Driver
-
-abbrev pub bitSource : Source → ℕ → Driver
-bitSource (inputs k) i = tickBit (k + i)
-bitSource shown i = nobody
-bitSource (pins c k) i = pin c (k + i)
-bitSource (bank cells) i = pin (getD cells i 0) 0
-
-abbrev pub driverIn : Option WireRef → Driver
-driverIn none = nobody
-driverIn (some r) = bitSource (r .source) (r .lowest)
-
-abbrev pub driver : List Slot → ℕ → Driver
-driver held w = driverIn (find w held 0)
-
-abbrev pub absent : Cell
-absent = jtagg []
-
--- LOOPS
-
-abbrev pub wiresOf : List Bit → List ℕ
-wiresOf [] = []
-wiresOf (Zero ∷ l) = wiresOf l
-wiresOf (One ∷ l) = wiresOf l
-wiresOf (Wire w ∷ l) = w ∷ wiresOf l
-
-abbrev pub driverReads : List Cell → Driver → List ℕ
-driverReads cells (tickBit i) = []
-driverReads cells (pin c k) = wiresOf (depends (getD cells c absent) k)
-driverReads cells nobody = []
-
--- wire x depends on wire y
-abbrev pub Depends : Netlist → ℕ → ℕ → Type 0
-Depends n = Reads (λ x. driverReads (n .cells) (driver (slots n) x))
-
--- no wire depends on itself, in one step or more
-abbrev pub NoWireLoop : Netlist → Type 0
-NoWireLoop n = NoLoop (Depends n)
-
--- SETTLING
-
--- what a driver gives
-abbrev pub gives : List Cell → List Bool → List Registers → Driver → Valuation → Bool
-gives cells bits regs (tickBit i) v = getD bits i false
-gives cells bits regs (pin c k) v = output v (getD regs c unused) (getD cells c absent) k
-gives cells bits regs nobody v = false
-
--- what wire w holds after one sweep over v
-abbrev pub drive : List Slot → List Cell → List Bool → List Registers → ℕ → Valuation → Bool
-drive held cells bits regs w v = gives cells bits regs (driver held w) v
-
--- one sweep more than there are cells: without a loop a way passes each cell once at most, and ends at an input or at a PLL's locked
-abbrev pub settle : List Slot → List Cell → List Bool → List Registers → Valuation
-settle held cells bits regs = iterate (suc (length cells)) (sweep (drive held cells bits regs)) (λ w. false)
-
--- COMMIT
-
--- the signal and the edge that fire
 pub record Fired : Type 0 where
   pub signal : ℕ
   pub edge : ℕ
@@ -213,10 +74,21 @@ abbrev pub isSignal : Option ℕ → ℕ → Bool
 isSignal none s = false
 isSignal (some t) s = eqb t s
 
--- a register with this clock and edge is on the fired ones if the fired signal is the one that the wire map holds for its clock wire
-abbrev pub on : List Slot → Option Fired → Bit → ℕ → Bool
-on held none clock edge = false
-on held (some f) clock edge = isSignal (clockSignal held clock) (f .signal) && eqb edge (f .edge)
+-- a register is on the fired clock if the fired signal is the one that the wire map holds for its clock, and the edge is its own;
+-- another signal that copies the clock's wire does not fire it
+abbrev pub onFired : List Slot → Option Fired → Bit → ℕ → Bool
+onFired held none clock edge = false
+onFired held (some f) clock edge = isSignal (clockSignal held clock) (f .signal) && eqb edge (f .edge)
+
+-- FLIP-FLOPS
+
+abbrev pub asserted : Valuation → Bit → ℕ → Bool
+asserted v signal active = same (value v signal) (level active)
+
+-- a control that is not there is always asserted
+abbrev pub enabled : Valuation → Option Control → Bool
+enabled v none = true
+enabled v (some c) = asserted v (c .signal) (c .active)
 
 -- a reset of this kind (1 asynchronous, 0 synchronous) is there and asserted
 abbrev pub resetting : Valuation → ℕ → Option Reset → Bool
@@ -227,57 +99,113 @@ abbrev pub resetValue : Option Reset → Bool
 resetValue none = false
 resetValue (some r) = level (r .value)
 
--- an asserted asynchronous reset loads its value whatever fires; else only the clock does: a synchronous reset before an enable
-abbrev pub nextFlop : Bool → Valuation → FlipFlop → Bool → Bool
-nextFlop clocked v f old =
-    cond (resetting v 1 (f .reset)) (resetValue (f .reset))
-    (cond clocked (cond (resetting v 0 (f .reset)) (resetValue (f .reset)) (cond (enabled v (f .enable)) (value v (f .input)) old)) old)
+-- what the fired clock loads: a synchronous reset beats an enable
+abbrev pub loadedFlop : Valuation → FlipFlop → Bool → Bool
+loadedFlop v f old = pick (resetting v 0 (f .reset)) (resetValue (f .reset)) (pick (enabled v (f .enable)) (value v (f .input)) old)
 
--- address bits from the shift on, as many as the address width
+-- an asserted asynchronous reset loads its value whatever fires, or nothing; else the fired clock loads; else the old value stays
+abbrev pub nextFlop : Bool → Valuation → FlipFlop → Bool → Bool
+nextFlop fired v f old = pick (resetting v 1 (f .reset)) (resetValue (f .reset)) (pick fired (loadedFlop v f old) old)
+
+-- CELLS: their outputs
+
+-- the table bit of the inputs: of four, a + 2b + 4c + 8d
+abbrev pub lookTable : ℕ → Bits → Bool
+lookTable init bits = tableBit init (number bits)
+
+pub record CcuRow : Type 0 where
+  pub sum : Bool
+  pub carry : Bool
+
+-- a row of a CCU2C: L is the table bit of the four inputs, M that with the last two inputs 0, G the carry, or 0 if inject is set
+abbrev pub ccuRow : Bits → ℕ → ℕ → Bool → CcuRow
+ccuRow bits init inject carry =
+    let l = lookTable init bits in
+    let m = lookTable init (take 2 bits ++ (false ∷ false ∷ [])) in
+    let g = pick (level inject) false carry in
+    record { sum = differ l g; carry = pick l g m }
+
+-- the two sums and the carry, row by row
+abbrev pub ccuBits : Ccu2c → Bits → Bits → Bool → Bits
+ccuBits u bits0 bits1 carryIn =
+    let r0 = ccuRow bits0 (u .init0) (u .inject0) carryIn in
+    let r1 = ccuRow bits1 (u .init1) (u .inject1) (r0 .carry) in
+    r0 .sum ∷ r1 .sum ∷ r1 .carry ∷ []
+
+-- output pin k. Pins are counted in the order in which the cell's wires get signals: of a block RAM A's and then B's
+abbrev pub output : Valuation → Registers → Cell → ℕ → Bool
+output v r (lut4 abcd o init) k = lookTable init (values v abcd)
+output v r (pfumx lutTrue lutFalse select o) k = pick (value v select) (value v lutTrue) (value v lutFalse)
+output v r (l6mux21 dataZero dataOne select o) k = pick (value v select) (value v dataOne) (value v dataZero)
+output v r (ccu2c u) k = getD (ccuBits u (values v (u .row0)) (values v (u .row1)) (value v (u .carryIn))) k false
+-- the product is unsigned
+output v r (multiplier left right o) k = tableBit (number (values v left) * number (values v right)) k
+output v r (flipFlop f) k = r .flop
+output v r (blockRam m) k = getD (r .readA ++ r .readB) k false
+-- a distributed RAM reads at once
+output v r (distributedRam m) k = getD (getD (r .words) (number (values v (m .readAddress))) []) k false
+-- the pad when tristate is 1, else what the fabric drives
+output v r (io pad fabricOutput o tristate) k = pick (value v tristate) (value v (Wire pad)) (value v fabricOutput)
+-- all are 0 but pin 6, reset_n
+output v r (jtagg o) k = eqb k 6
+-- clocks copy the reference; pin 2, locked, is 1
+output v r (pll p) k = pick (eqb k 2) true (value v (p .reference))
+
+-- BLOCK RAM AND DISTRIBUTED RAM
+
 abbrev pub shiftIn : Option ℕ → ℕ
 shiftIn none = 0
 shiftIn (some s) = s
 
+-- the address bits from the shift on, as many as the address width
 abbrev pub address : Valuation → BlockRam → List Bit → ℕ
 address v r bits = number (values v (take (addressWidth (r .depth)) (drop (shiftIn (shiftOf (r .physical))) bits)))
 
 -- a write beyond the depth is lost
-abbrev pub written : Bool → ℕ → List Bool → List (List Bool) → List (List Bool)
+abbrev pub written : Bool → ℕ → Bits → List Bits → List Bits
 written true at x words = set words at x
 written false at x words = words
 
--- the word before the edge, 0 beyond the depth; the old one while a read enable is off
-abbrev pub loaded : Bool → ℕ → BlockRam → List (List Bool) → List Bool → List Bool
+-- a read takes the word before the edge, 0 beyond the depth, and keeps the old word while its enable is off
+abbrev pub loaded : Bool → ℕ → BlockRam → List Bits → Bits → Bits
 loaded true at r words old = getD words at (zeros (r .width))
 loaded false at r words old = old
 
-abbrev pub writtenB : Valuation → BlockRam → Option SecondPort → List (List Bool) → List (List Bool)
+abbrev pub writtenA : Valuation → BlockRam → List Bits → List Bits
+writtenA v r words = written (enabled v (some (r .write))) (address v r (r .writeAddress)) (values v (r .input)) words
+
+abbrev pub writtenB : Valuation → BlockRam → Option SecondPort → List Bits → List Bits
 writtenB v r none words = words
 writtenB v r (some p) words = written (enabled v (some (p .write))) (address v r (p .address)) (values v (p .input)) words
 
-abbrev pub loadedB : Valuation → BlockRam → Option SecondPort → List (List Bool) → List Bool → List Bool
+abbrev pub loadedA : Valuation → BlockRam → List Bits → Bits → Bits
+loadedA v r words old = loaded (enabled v (r .readEnable)) (address v r (r .readAddress)) r words old
+
+abbrev pub loadedB : Valuation → BlockRam → Option SecondPort → List Bits → Bits → Bits
 loadedB v r none words old = old
 loadedB v r (some p) words old = loaded (enabled v (p .readEnable)) (address v r (p .address)) r words old
 
--- on its clock edge, which both ports share (6); B writes last, so that its word stays. Clock enables have no effect
+-- both ports are on one clock and edge (6). B writes last: if both write one word, B's stays. Clock enables have no effect
 abbrev pub nextRam : Bool → Valuation → BlockRam → Registers → Registers
 nextRam false v r old = old
 nextRam true v r old = record {
   flop = old .flop;
-  words = writtenB v r (r .second) (written (enabled v (some (r .write))) (address v r (r .writeAddress)) (values v (r .input)) (old .words));
-  readA = loaded (enabled v (r .readEnable)) (address v r (r .readAddress)) r (old .words) (old .readA);
+  words = writtenB v r (r .second) (writtenA v r (old .words));
+  readA = loadedA v r (old .words) (old .readA);
   readB = loadedB v r (r .second) (old .words) (old .readB);
 }
 
 abbrev pub nextDistributed : Bool → Valuation → DistributedRam → Registers → Registers
-nextDistributed clocked v r old = record {
+nextDistributed fired v r old = record {
   flop = old .flop;
-  words = written (clocked && enabled v (some (r .write))) (number (values v (r .writeAddress))) (values v (r .input)) (old .words);
+  words = written (fired && enabled v (some (r .write))) (number (values v (r .writeAddress))) (values v (r .input)) (old .words);
   readA = old .readA;
   readB = old .readB;
 }
 
--- the registers of a cell after the commit; `fires` tells for a clock and an edge whether they fire
+-- COMMIT: each register reads the settled values v, and all change together
+
+-- the registers of a cell after it; `fires` tells for a clock and an edge whether they fire
 abbrev pub next : (Bit → ℕ → Bool) → Valuation → Cell → Registers → Registers
 next fires v (lut4 is o t) old = old
 next fires v (pfumx a b s o) old = old
@@ -296,6 +224,91 @@ commit fires v [] regs = []
 commit fires v (c ∷ cells) [] = []
 commit fires v (c ∷ cells) (r ∷ regs) = next fires v c r ∷ commit fires v cells regs
 
+-- THE DRIVER OF A WIRE: what gives its bits to the signal that the wire map holds for it in the end
+
+pub data Driver : Type 0 where
+  tickBit : ℕ → Driver
+  -- cell, output pin
+  pin : ℕ → ℕ → Driver
+  -- the wire is missing
+  nobody : Driver
+
+abbrev pub bitSource : Source → ℕ → Driver
+bitSource (inputs k) i = tickBit (k + i)
+bitSource shown i = nobody
+bitSource (pins c k) i = pin c (k + i)
+bitSource (bank cells) i = pin (getD cells i 0) 0
+
+abbrev pub driverIn : Option WireRef → Driver
+driverIn none = nobody
+driverIn (some r) = bitSource (r .source) (r .lowest)
+
+abbrev pub driver : List Slot → ℕ → Driver
+driver held w = driverIn (find w held 0)
+
+-- a cell without outputs, where none is
+abbrev pub absent : Cell
+absent = jtagg []
+
+-- SETTLING
+
+-- what a driver gives
+abbrev pub gives : List Cell → Bits → List Registers → Driver → Valuation → Bool
+gives cells bits regs (tickBit i) v = getD bits i false
+gives cells bits regs (pin c k) v = output v (getD regs c unused) (getD cells c absent) k
+gives cells bits regs nobody v = false
+
+-- what wire w's driver gives when the wires hold v
+abbrev pub drive : List Slot → List Cell → Bits → List Registers → ℕ → Valuation → Bool
+drive held cells bits regs w v = gives cells bits regs (driver held w) v
+
+-- sweeps from zeros, one more than there are cells: without a loop a way passes each cell once at most, and ends at an input, at a
+-- register or at a constant pin. (Without a loop this is the only settled valuation: Settled.)
+abbrev pub settle : List Slot → List Cell → Bits → List Registers → Valuation
+settle held cells bits regs = iterate (suc (length cells)) (sweep (drive held cells bits regs)) (λ w. false)
+
+-- LOOPS
+
+-- what output pin k depends on: every input of a combinational cell, but of a distributed RAM only the read address;
+-- JTAGG outputs and locked depend on nothing, and neither do registers
+abbrev pub depends : Cell → ℕ → List Bit
+depends (lut4 abcd o init) k = abcd
+depends (pfumx lutTrue lutFalse select o) k = lutTrue ∷ lutFalse ∷ select ∷ []
+depends (l6mux21 dataZero dataOne select o) k = dataZero ∷ dataOne ∷ select ∷ []
+depends (ccu2c u) k = u .row0 ++ (u .row1 ++ (u .carryIn ∷ []))
+depends (multiplier left right o) k = left ++ right
+depends (flipFlop f) k = []
+depends (blockRam m) k = []
+depends (distributedRam m) k = m .readAddress
+depends (io pad fabricOutput o tristate) k = Wire pad ∷ fabricOutput ∷ tristate ∷ []
+depends (jtagg o) k = []
+depends (pll p) k = pick (eqb k 2) [] (p .reference ∷ [])
+
+abbrev pub wiresOf : List Bit → List ℕ
+wiresOf [] = []
+wiresOf (Zero ∷ l) = wiresOf l
+wiresOf (One ∷ l) = wiresOf l
+wiresOf (Wire w ∷ l) = w ∷ wiresOf l
+
+abbrev pub driverReads : List Cell → Driver → List ℕ
+driverReads cells (tickBit i) = []
+driverReads cells (pin c k) = wiresOf (depends (getD cells c absent) k)
+driverReads cells nobody = []
+
+-- wire x depends on wire y: y is among what x's driver depends on
+abbrev pub Depends : Netlist → ℕ → ℕ → Type 0
+Depends n = Reads (λ x. driverReads (n .cells) (driver (slots n) x))
+
+-- no way leads from a wire back to itself
+abbrev pub NoWireLoop : Netlist → Type 0
+NoWireLoop n = NoLoop (Depends n)
+
+-- OUTPUT PORTS: direction 1; each shows what its bit words hold
+
+abbrev pub outputPorts : List Port → List (List Bit)
+outputPorts [] = []
+outputPorts (p ∷ l) = pick (eqb (p .direction) 1) (p .bits ∷ outputPorts l) (outputPorts l)
+
 -- TICKS
 
 pub record Tick : Type 0 where
@@ -307,26 +320,27 @@ pub record Tick : Type 0 where
 -- the registers of each cell, and what each output port shows
 pub record State : Type 0 where
   pub registers : List Registers
-  pub outputs : List (List Bool)
+  pub outputs : List Bits
 
-abbrev pub outputPorts : List Port → List (List Bit)
-outputPorts [] = []
-outputPorts (p ∷ l) = elim (eqb (p .direction) 1) [ true ↦ p .bits ∷ outputPorts l | false ↦ outputPorts l ]
-
--- zeros before the first tick
+-- output ports show zeros before the first tick, constants too
 abbrev pub start : Netlist → State
 start n = record { registers = map initial (n .cells); outputs = map (λ (bits : List Bit). zeros (length bits)) (outputPorts (n .ports)) }
 
--- set the input bits, settle, commit, settle again
+-- the input and inout bits are set, and the netlist settles
+abbrev pub settledBy : Netlist → Tick → List Registers → Valuation
+settledBy n t regs = settle (slots n) (n .cells) (map level (t .bits)) regs
+
+abbrev pub committedBy : Netlist → Tick → List Registers → List Registers
+committedBy n t regs = commit (onFired (slots n) (t .fired)) (settledBy n t regs) (n .cells) regs
+
+-- set all input and inout bits, settle, commit, settle again
 abbrev pub tick : Netlist → State → Tick → State
 tick n s t =
-    let held = slots n in
-    let bits = map level (t .bits) in
-    let before = settle held (n .cells) bits (s .registers) in
-    let regs = commit (on held (t .fired)) before (n .cells) (s .registers) in
-    let after = settle held (n .cells) bits regs in
-    record { registers = regs; outputs = map (values after) (outputPorts (n .ports)) }
+    let regs = committedBy n t (s .registers) in
+    record { registers = regs; outputs = map (values (settledBy n t regs)) (outputPorts (n .ports)) }
 
+-- 14, of which a netlist has no signal bytes: a wrong count of tick bits, a tick bit not 0 or 1, a fired signal not in the model,
+-- or an edge above 1
 abbrev pub allBits : List ℕ → Bool
 allBits [] = true
 allBits (b ∷ l) = ltb b 2 && allBits l
@@ -335,18 +349,26 @@ abbrev pub firedFits : Netlist → Option Fired → Bool
 firedFits n none = true
 firedFits n (some f) = ltb (f .signal) (signalCount n) && ltb (f .edge) 2
 
--- a tick that is not refused with 14
-abbrev pub tickFits : Netlist → Tick → Bool
-tickFits n t = eqb (length (t .bits)) (tickBits (n .ports)) && allBits (t .bits) && firedFits n (t .fired)
+abbrev pub accepts : Netlist → Tick → Bool
+accepts n t = eqb (length (t .bits)) (tickBits (n .ports)) && (allBits (t .bits) && firedFits n (t .fired))
 
 -- a refused tick changes nothing
 abbrev pub step : Netlist → State → Tick → State
-step n s t = elim (tickFits n t) [ true ↦ tick n s t | false ↦ s ]
+step n s t = pick (accepts n t) (tick n s t) s
 
+-- a list of ticks, one after the other
 abbrev pub run : Netlist → State → List Tick → State
 run n s [] = s
 run n s (t ∷ l) = run n (step n s t) l
 
--- what the output ports show after a list of ticks
-abbrev pub shows : Netlist → List Tick → List (List Bool)
-shows n l = (run n (start n) l) .outputs
+-- what the output ports show after a list of ticks from the start
+abbrev pub shownAfter : Netlist → List Tick → List Bits
+shownAfter n l = (run n (start n) l) .outputs
+
+-- and after each tick of the list
+abbrev pub showsFrom : Netlist → State → List Tick → List (List Bits)
+showsFrom n s [] = []
+showsFrom n s (t ∷ l) = (step n s t) .outputs ∷ showsFrom n (step n s t) l
+
+abbrev pub shows : Netlist → List Tick → List (List Bits)
+shows n l = showsFrom n (start n) l

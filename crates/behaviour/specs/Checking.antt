@@ -1,13 +1,13 @@
--- What the computed rows compare: the output bits after each tick as one number, entries of the wire map, loops.
+-- Rows of the computed tables, and what the definitions give for them.
 use mathlib.Core.List.{List, [], _∷_, _++_, map}
 use mathlib.Core.Option.{Option, none, some}
-use mathlib.Core.Bool.{Bool, true, false}
-use Prim.Native.Nat.{ℕ, zero, suc, _+_}
-use Rattle.netlist.specs.Netlist.{Netlist}
+use mathlib.Core.Bool.{Bool, false}
+use Prim.Native.Nat.{ℕ}
+use Rattle.bits.specs.Bits.{Bits, number}
 use Rattle.netlist.specs.Reader.{Read, netlist, refused, readWords, base}
 use Rattle.behaviour.specs.WireMap.{WireRef, wireMap, signalCount}
+use Rattle.behaviour.specs.Behaviour.{Tick, shows}
 use Rattle.behaviour.specs.LoopTest.{loopFree}
-use Rattle.behaviour.specs.Behaviour.{Tick, Fired, State, start, step, number}
 
 -- a tick with no clock, and one that fires a signal's edge
 abbrev pub still : List ℕ → Tick
@@ -16,44 +16,60 @@ still bits = record { bits = bits; fired = none }
 abbrev pub fire : List ℕ → ℕ → ℕ → Tick
 fire bits signal edge = record { bits = bits; fired = some (record { signal = signal; edge = edge }) }
 
-abbrev pub flat : List (List Bool) → List Bool
+-- TICKS
+
+pub record Row : Type 0 where
+  -- a netlist
+  pub words : List ℕ
+  pub ticks : List Tick
+  -- after each tick, all output bits in port order as one number, the lowest bit first
+  pub shown : List ℕ
+
+abbrev pub flat : List Bits → Bits
 flat [] = []
 flat (l ∷ ls) = l ++ flat ls
 
--- all output bits, in port order, the lowest first, after each tick
-abbrev pub trace : Netlist → State → List Tick → List ℕ
-trace n s [] = []
-trace n s (t ∷ l) = let s′ = step n s t in number (flat (s′ .outputs)) ∷ trace n s′ l
+abbrev pub shownRead : Read → List Tick → List ℕ
+shownRead (netlist n) l = map (λ (ports : List Bits). number (flat ports)) (shows n l)
+shownRead (refused k p) l = []
 
-abbrev pub traceRead : Read → List Tick → List ℕ
-traceRead (netlist n) l = trace n (start n) l
-traceRead (refused k p) l = []
+abbrev pub shownBy : Row → List ℕ
+shownBy r = shownRead (readWords base (r .words)) (r .ticks)
 
-abbrev pub ticking : List ℕ → List Tick → List ℕ
-ticking words l = traceRead (readWords base words) l
+-- THE WIRE MAP
 
--- the wire map's signal, lowest bit and width
+pub record Entries : Type 0 where
+  -- how many signals the model has
+  pub signals : ℕ
+  -- of each wire asked for: its signal, its bit there and the signal's width
+  pub of : List (Option (ℕ × ℕ × ℕ))
+
+pub record MapRow : Type 0 where
+  pub words : List ℕ
+  pub wires : List ℕ
+  pub entries : Entries
+
 abbrev pub entry : Option WireRef → Option (ℕ × ℕ × ℕ)
 entry none = none
 entry (some r) = some (r .signal, r .lowest, r .width)
 
-abbrev pub mapped : Read → ℕ → Option (ℕ × ℕ × ℕ)
-mapped (netlist n) w = entry (wireMap n w)
-mapped (refused k p) w = none
+abbrev pub mapRead : Read → List ℕ → Entries
+mapRead (netlist n) ws = record { signals = signalCount n; of = map (λ (w : ℕ). entry (wireMap n w)) ws }
+mapRead (refused k p) ws = record { signals = 0; of = [] }
 
-abbrev pub mapping : List ℕ → ℕ → Option (ℕ × ℕ × ℕ)
-mapping words w = mapped (readWords base words) w
+abbrev pub mapOf : MapRow → Entries
+mapOf r = mapRead (readWords base (r .words)) (r .wires)
 
-abbrev pub signalsRead : Read → ℕ
-signalsRead (netlist n) = signalCount n
-signalsRead (refused k p) = 0
+-- LOOPS
 
-abbrev pub signalTotal : List ℕ → ℕ
-signalTotal words = signalsRead (readWords base words)
+pub record LoopRow : Type 0 where
+  pub words : List ℕ
+  -- whether it is without a loop
+  pub without : Bool
 
 abbrev pub looplessRead : Read → Bool
 looplessRead (netlist n) = loopFree n
 looplessRead (refused k p) = false
 
-abbrev pub loopless : List ℕ → Bool
-loopless words = looplessRead (readWords base words)
+abbrev pub loopless : LoopRow → Bool
+loopless r = looplessRead (readWords base (r .words))

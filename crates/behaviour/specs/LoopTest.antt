@@ -1,21 +1,19 @@
 -- Whether a netlist has a loop, as a test that computes. It is true exactly of the netlists with no loop.
-use mathlib.Core.Path.{_≡_, refl, sym, _∙_, ap}
-use mathlib.Core.Logic.{_⊎_, inl, inr, _↔_}
+use mathlib.Core.Path.{_≡_, refl}
 use mathlib.Core.List.{List, [], _∷_, _++_, List·Memᴰ as Mem, List·Memᴰ·head as here, List·Memᴰ·tail as there, List·Memᴰ·not-nil as not-nil, Memᴰ·append-left as in-left, Memᴰ·append-right as in-right}
 use mathlib.Core.Option.{Option, none, some}
 use mathlib.Core.Bool.{Bool, true, false}
-use Prim.Native.Nat.{ℕ, zero, suc}
+use Prim.Native.Nat.{ℕ, suc}
 use lib.ListN.{length}
 use lib.Dec.{eqb}
 use borrow.Author.Tests.{eqb-true}
-use Rattle.settle.specs.Walk.{Way, NoLoop}
+use Rattle.bits.specs.Bits.{pick}
 use Rattle.settle.specs.Ground.{way-first, grounded-no-loop, ends→grounded}
-use Rattle.settle.specs.Loop.{Reads, mark, mark→ends, ends→mark}
+use Rattle.settle.specs.Loop.{mark, mark→ends, ends→mark}
 use Rattle.settle.specs.Tests.{all, all-in, all-out}
 use Rattle.netlist.specs.declared.Bit.{Bit}
 use Rattle.netlist.specs.declared.Bit.the-variants.{Zero, One, Wire}
 use Rattle.netlist.specs.Netlist.{Netlist}
-use Rattle.netlist.specs.Reader.{sameBit}
 use Rattle.behaviour.specs.WireMap.{Slot, WireRef, slots, placeOf, heldAt, find}
 use Rattle.behaviour.specs.Behaviour.{wiresOf, driver, driverIn, driverReads, Depends, NoWireLoop}
 use Rattle.behaviour.specs.Settled.{walks-end}
@@ -53,7 +51,7 @@ placed w (Wire x ∷ l) i = go (eqb w x) refl (placeOf w l (suc i)) (placed w l 
     more none h = tt
     more (some k) h = there h
 
-    go : (b : Bool) → eqb w x ≡ b → (o : Option ℕ) → Placed w l o → Placed w (Wire x ∷ l) (elim b [ true ↦ some i | false ↦ o ])
+    go : (b : Bool) → eqb w x ≡ b → (o : Option ℕ) → Placed w l o → Placed w (Wire x ∷ l) (pick b (some i) o)
     go true e o h = here (eqb-true w x e)
     go false e o h = more o h
 

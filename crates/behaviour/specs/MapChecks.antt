@@ -1,120 +1,27 @@
--- Computed rows: the number of signals, and for a wire its signal, lowest bit and the signal's width. Taken from the listings of the reference.
+-- The wire map of example netlists, as the listings of the Rust over a recorder show it.
+use mathlib.Core.Option.{some}
 use mathlib.Core.Path.{_≡_, refl}
-use mathlib.Core.List.{List, [], _∷_}
-use mathlib.Core.Option.{Option, none, some}
-use Prim.Native.Nat.{ℕ}
-use Rattle.behaviour.specs.Checking.{mapping, signalTotal}
+use mathlib.Core.List.{List, [], _∷_, map}
+use Rattle.behaviour.specs.Banks.{collectFlipFlopBanks, banksFrom, leadersFrom, flipFlopsFrom, bankIn, membersOf}
+use Rattle.behaviour.specs.Checking.{MapRow, mapOf}
+use Rattle.behaviour.specs.Netlists.{and2, ccuAdd, banksRow, ffSwap, ffDivider, ramBothWrite, dramRows, jtaggRow, pllRow, pllShared, constantsShown}
 
-and2-signals : signalTotal (0 ∷ 2 ∷ 2 ∷ 3 ∷ 1 ∷ 1 ∷ 4 ∷ 0 ∷ 2 ∷ 3 ∷ 0 ∷ 0 ∷ 2 ∷ 8 ∷ 0 ∷ 2 ∷ 7 ∷ 1 ∷ []) ≡ 5
-and2-signals = refl
+abbrev pub mapRows : List MapRow
+mapRows =
+    record { words = and2; wires = 2 ∷ []; entries = record { signals = 5; of = (some (2, 0, 1)) ∷ [] } } ∷
+    record { words = ccuAdd; wires = 9 ∷ 10 ∷ 11 ∷ []; entries = record { signals = 7; of = (some (2, 0, 1)) ∷ (some (3, 0, 1)) ∷ (some (4, 0, 1)) ∷ [] } } ∷
+    record { words = banksRow; wires = 3 ∷ 4 ∷ 5 ∷ 6 ∷ []; entries = record { signals = 9; of = (some (4, 0, 2)) ∷ (some (5, 0, 1)) ∷ (some (6, 0, 1)) ∷ (some (4, 1, 2)) ∷ [] } } ∷
+    record { words = ffSwap; wires = 1 ∷ 2 ∷ []; entries = record { signals = 6; of = (some (3, 0, 2)) ∷ (some (3, 1, 2)) ∷ [] } } ∷
+    record { words = ffDivider; wires = 1 ∷ 2 ∷ []; entries = record { signals = 8; of = (some (4, 0, 1)) ∷ (some (5, 0, 1)) ∷ [] } } ∷
+    record { words = ramBothWrite; wires = 7 ∷ 8 ∷ []; entries = record { signals = 11; of = (some (5, 0, 1)) ∷ (some (6, 0, 1)) ∷ [] } } ∷
+    record { words = dramRows; wires = 14 ∷ 15 ∷ 16 ∷ 17 ∷ []; entries = record { signals = 24; of = (some (5, 0, 4)) ∷ (some (5, 1, 4)) ∷ (some (5, 2, 4)) ∷ (some (5, 3, 4)) ∷ [] } } ∷
+    record { words = jtaggRow; wires = 0 ∷ 1 ∷ 2 ∷ 3 ∷ []; entries = record { signals = 12; of = (some (1, 0, 1)) ∷ (some (2, 0, 1)) ∷ (some (3, 0, 1)) ∷ (some (4, 0, 1)) ∷ [] } } ∷
+    record { words = pllRow; wires = 1 ∷ 2 ∷ 3 ∷ 4 ∷ []; entries = record { signals = 9; of = (some (3, 0, 1)) ∷ (some (4, 0, 1)) ∷ (some (5, 0, 1)) ∷ (some (6, 0, 1)) ∷ [] } } ∷
+    record { words = constantsShown; wires = 2 ∷ 1 ∷ []; entries = record { signals = 5; of = (some (1, 0, 1)) ∷ (some (0, 2, 3)) ∷ [] } } ∷
+    -- a wire that two pins of a PLL drive is the first pin's, in the order feedback, output, locked, further clocks
+    record { words = pllShared; wires = 1 ∷ 2 ∷ 3 ∷ 4 ∷ []; entries = record { signals = 8; of = (some (2, 0, 1)) ∷ (some (3, 0, 1)) ∷ (some (4, 0, 1)) ∷ (some (5, 0, 1)) ∷ [] } } ∷
+    []
 
-and2-2 : mapping (0 ∷ 2 ∷ 2 ∷ 3 ∷ 1 ∷ 1 ∷ 4 ∷ 0 ∷ 2 ∷ 3 ∷ 0 ∷ 0 ∷ 2 ∷ 8 ∷ 0 ∷ 2 ∷ 7 ∷ 1 ∷ []) 2 ≡ some (2, 0, 1)
-and2-2 = refl
-
-ccu-add-signals : signalTotal (0 ∷ 9 ∷ 2 ∷ 3 ∷ 4 ∷ 5 ∷ 6 ∷ 7 ∷ 8 ∷ 9 ∷ 10 ∷ 1 ∷ 3 ∷ 11 ∷ 12 ∷ 13 ∷ 3 ∷ 2 ∷ 3 ∷ 4 ∷ 5 ∷ 6 ∷ 7 ∷ 8 ∷ 9 ∷ 10 ∷ 9 ∷ 10 ∷ 11 ∷ 38570 ∷ 38570 ∷ 0 ∷ 0 ∷ 0 ∷ 2 ∷ 16 ∷ 1 ∷ []) ≡ 7
-ccu-add-signals = refl
-
-ccu-add-9 : mapping (0 ∷ 9 ∷ 2 ∷ 3 ∷ 4 ∷ 5 ∷ 6 ∷ 7 ∷ 8 ∷ 9 ∷ 10 ∷ 1 ∷ 3 ∷ 11 ∷ 12 ∷ 13 ∷ 3 ∷ 2 ∷ 3 ∷ 4 ∷ 5 ∷ 6 ∷ 7 ∷ 8 ∷ 9 ∷ 10 ∷ 9 ∷ 10 ∷ 11 ∷ 38570 ∷ 38570 ∷ 0 ∷ 0 ∷ 0 ∷ 2 ∷ 16 ∷ 1 ∷ []) 9 ≡ some (2, 0, 1)
-ccu-add-9 = refl
-
-ccu-add-10 : mapping (0 ∷ 9 ∷ 2 ∷ 3 ∷ 4 ∷ 5 ∷ 6 ∷ 7 ∷ 8 ∷ 9 ∷ 10 ∷ 1 ∷ 3 ∷ 11 ∷ 12 ∷ 13 ∷ 3 ∷ 2 ∷ 3 ∷ 4 ∷ 5 ∷ 6 ∷ 7 ∷ 8 ∷ 9 ∷ 10 ∷ 9 ∷ 10 ∷ 11 ∷ 38570 ∷ 38570 ∷ 0 ∷ 0 ∷ 0 ∷ 2 ∷ 16 ∷ 1 ∷ []) 10 ≡ some (3, 0, 1)
-ccu-add-10 = refl
-
-ccu-add-11 : mapping (0 ∷ 9 ∷ 2 ∷ 3 ∷ 4 ∷ 5 ∷ 6 ∷ 7 ∷ 8 ∷ 9 ∷ 10 ∷ 1 ∷ 3 ∷ 11 ∷ 12 ∷ 13 ∷ 3 ∷ 2 ∷ 3 ∷ 4 ∷ 5 ∷ 6 ∷ 7 ∷ 8 ∷ 9 ∷ 10 ∷ 9 ∷ 10 ∷ 11 ∷ 38570 ∷ 38570 ∷ 0 ∷ 0 ∷ 0 ∷ 2 ∷ 16 ∷ 1 ∷ []) 11 ≡ some (4, 0, 1)
-ccu-add-11 = refl
-
-banks-row-signals : signalTotal (0 ∷ 1 ∷ 2 ∷ 0 ∷ 1 ∷ 3 ∷ 0 ∷ 1 ∷ 4 ∷ 1 ∷ 4 ∷ 5 ∷ 6 ∷ 7 ∷ 8 ∷ 5 ∷ 3 ∷ 3 ∷ 2 ∷ 0 ∷ 0 ∷ 0 ∷ 0 ∷ 0 ∷ 0 ∷ 0 ∷ 0 ∷ 0 ∷ 5 ∷ 3 ∷ 4 ∷ 2 ∷ 1 ∷ 0 ∷ 0 ∷ 0 ∷ 0 ∷ 0 ∷ 0 ∷ 0 ∷ 0 ∷ 5 ∷ 3 ∷ 5 ∷ 2 ∷ 0 ∷ 0 ∷ 0 ∷ 0 ∷ 1 ∷ 4 ∷ 1 ∷ 1 ∷ 1 ∷ 5 ∷ 3 ∷ 6 ∷ 2 ∷ 0 ∷ 0 ∷ 0 ∷ 0 ∷ 1 ∷ 4 ∷ 1 ∷ 0 ∷ 1 ∷ 0 ∷ 4 ∷ 15 ∷ 4 ∷ []) ≡ 9
-banks-row-signals = refl
-
-banks-row-3 : mapping (0 ∷ 1 ∷ 2 ∷ 0 ∷ 1 ∷ 3 ∷ 0 ∷ 1 ∷ 4 ∷ 1 ∷ 4 ∷ 5 ∷ 6 ∷ 7 ∷ 8 ∷ 5 ∷ 3 ∷ 3 ∷ 2 ∷ 0 ∷ 0 ∷ 0 ∷ 0 ∷ 0 ∷ 0 ∷ 0 ∷ 0 ∷ 0 ∷ 5 ∷ 3 ∷ 4 ∷ 2 ∷ 1 ∷ 0 ∷ 0 ∷ 0 ∷ 0 ∷ 0 ∷ 0 ∷ 0 ∷ 0 ∷ 5 ∷ 3 ∷ 5 ∷ 2 ∷ 0 ∷ 0 ∷ 0 ∷ 0 ∷ 1 ∷ 4 ∷ 1 ∷ 1 ∷ 1 ∷ 5 ∷ 3 ∷ 6 ∷ 2 ∷ 0 ∷ 0 ∷ 0 ∷ 0 ∷ 1 ∷ 4 ∷ 1 ∷ 0 ∷ 1 ∷ 0 ∷ 4 ∷ 15 ∷ 4 ∷ []) 3 ≡ some (4, 0, 2)
-banks-row-3 = refl
-
-banks-row-4 : mapping (0 ∷ 1 ∷ 2 ∷ 0 ∷ 1 ∷ 3 ∷ 0 ∷ 1 ∷ 4 ∷ 1 ∷ 4 ∷ 5 ∷ 6 ∷ 7 ∷ 8 ∷ 5 ∷ 3 ∷ 3 ∷ 2 ∷ 0 ∷ 0 ∷ 0 ∷ 0 ∷ 0 ∷ 0 ∷ 0 ∷ 0 ∷ 0 ∷ 5 ∷ 3 ∷ 4 ∷ 2 ∷ 1 ∷ 0 ∷ 0 ∷ 0 ∷ 0 ∷ 0 ∷ 0 ∷ 0 ∷ 0 ∷ 5 ∷ 3 ∷ 5 ∷ 2 ∷ 0 ∷ 0 ∷ 0 ∷ 0 ∷ 1 ∷ 4 ∷ 1 ∷ 1 ∷ 1 ∷ 5 ∷ 3 ∷ 6 ∷ 2 ∷ 0 ∷ 0 ∷ 0 ∷ 0 ∷ 1 ∷ 4 ∷ 1 ∷ 0 ∷ 1 ∷ 0 ∷ 4 ∷ 15 ∷ 4 ∷ []) 4 ≡ some (5, 0, 1)
-banks-row-4 = refl
-
-banks-row-5 : mapping (0 ∷ 1 ∷ 2 ∷ 0 ∷ 1 ∷ 3 ∷ 0 ∷ 1 ∷ 4 ∷ 1 ∷ 4 ∷ 5 ∷ 6 ∷ 7 ∷ 8 ∷ 5 ∷ 3 ∷ 3 ∷ 2 ∷ 0 ∷ 0 ∷ 0 ∷ 0 ∷ 0 ∷ 0 ∷ 0 ∷ 0 ∷ 0 ∷ 5 ∷ 3 ∷ 4 ∷ 2 ∷ 1 ∷ 0 ∷ 0 ∷ 0 ∷ 0 ∷ 0 ∷ 0 ∷ 0 ∷ 0 ∷ 5 ∷ 3 ∷ 5 ∷ 2 ∷ 0 ∷ 0 ∷ 0 ∷ 0 ∷ 1 ∷ 4 ∷ 1 ∷ 1 ∷ 1 ∷ 5 ∷ 3 ∷ 6 ∷ 2 ∷ 0 ∷ 0 ∷ 0 ∷ 0 ∷ 1 ∷ 4 ∷ 1 ∷ 0 ∷ 1 ∷ 0 ∷ 4 ∷ 15 ∷ 4 ∷ []) 5 ≡ some (6, 0, 1)
-banks-row-5 = refl
-
-banks-row-6 : mapping (0 ∷ 1 ∷ 2 ∷ 0 ∷ 1 ∷ 3 ∷ 0 ∷ 1 ∷ 4 ∷ 1 ∷ 4 ∷ 5 ∷ 6 ∷ 7 ∷ 8 ∷ 5 ∷ 3 ∷ 3 ∷ 2 ∷ 0 ∷ 0 ∷ 0 ∷ 0 ∷ 0 ∷ 0 ∷ 0 ∷ 0 ∷ 0 ∷ 5 ∷ 3 ∷ 4 ∷ 2 ∷ 1 ∷ 0 ∷ 0 ∷ 0 ∷ 0 ∷ 0 ∷ 0 ∷ 0 ∷ 0 ∷ 5 ∷ 3 ∷ 5 ∷ 2 ∷ 0 ∷ 0 ∷ 0 ∷ 0 ∷ 1 ∷ 4 ∷ 1 ∷ 1 ∷ 1 ∷ 5 ∷ 3 ∷ 6 ∷ 2 ∷ 0 ∷ 0 ∷ 0 ∷ 0 ∷ 1 ∷ 4 ∷ 1 ∷ 0 ∷ 1 ∷ 0 ∷ 4 ∷ 15 ∷ 4 ∷ []) 6 ≡ some (4, 1, 2)
-banks-row-6 = refl
-
-ff-swap-signals : signalTotal (0 ∷ 1 ∷ 2 ∷ 1 ∷ 2 ∷ 3 ∷ 4 ∷ 5 ∷ 4 ∷ 1 ∷ 2 ∷ 0 ∷ 0 ∷ 0 ∷ 0 ∷ 0 ∷ 0 ∷ 0 ∷ 0 ∷ 0 ∷ 5 ∷ 5 ∷ 2 ∷ 2 ∷ 0 ∷ 0 ∷ 0 ∷ 0 ∷ 0 ∷ 0 ∷ 0 ∷ 0 ∷ 0 ∷ 0 ∷ 3 ∷ 0 ∷ 0 ∷ 0 ∷ 3 ∷ 1 ∷ 0 ∷ 2 ∷ 7 ∷ 3 ∷ []) ≡ 6
-ff-swap-signals = refl
-
-ff-swap-1 : mapping (0 ∷ 1 ∷ 2 ∷ 1 ∷ 2 ∷ 3 ∷ 4 ∷ 5 ∷ 4 ∷ 1 ∷ 2 ∷ 0 ∷ 0 ∷ 0 ∷ 0 ∷ 0 ∷ 0 ∷ 0 ∷ 0 ∷ 0 ∷ 5 ∷ 5 ∷ 2 ∷ 2 ∷ 0 ∷ 0 ∷ 0 ∷ 0 ∷ 0 ∷ 0 ∷ 0 ∷ 0 ∷ 0 ∷ 0 ∷ 3 ∷ 0 ∷ 0 ∷ 0 ∷ 3 ∷ 1 ∷ 0 ∷ 2 ∷ 7 ∷ 3 ∷ []) 1 ≡ some (3, 0, 2)
-ff-swap-1 = refl
-
-ff-swap-2 : mapping (0 ∷ 1 ∷ 2 ∷ 1 ∷ 2 ∷ 3 ∷ 4 ∷ 5 ∷ 4 ∷ 1 ∷ 2 ∷ 0 ∷ 0 ∷ 0 ∷ 0 ∷ 0 ∷ 0 ∷ 0 ∷ 0 ∷ 0 ∷ 5 ∷ 5 ∷ 2 ∷ 2 ∷ 0 ∷ 0 ∷ 0 ∷ 0 ∷ 0 ∷ 0 ∷ 0 ∷ 0 ∷ 0 ∷ 0 ∷ 3 ∷ 0 ∷ 0 ∷ 0 ∷ 3 ∷ 1 ∷ 0 ∷ 2 ∷ 7 ∷ 3 ∷ []) 2 ≡ some (3, 1, 2)
-ff-swap-2 = refl
-
-ff-divider-signals : signalTotal (0 ∷ 1 ∷ 2 ∷ 1 ∷ 1 ∷ 3 ∷ 1 ∷ 1 ∷ 4 ∷ 5 ∷ 5 ∷ 1 ∷ 2 ∷ 0 ∷ 0 ∷ 0 ∷ 0 ∷ 0 ∷ 0 ∷ 0 ∷ 0 ∷ 0 ∷ 5 ∷ 1 ∷ 2 ∷ 3 ∷ 0 ∷ 0 ∷ 0 ∷ 0 ∷ 0 ∷ 0 ∷ 0 ∷ 0 ∷ 0 ∷ 0 ∷ 3 ∷ 0 ∷ 0 ∷ 0 ∷ 3 ∷ 1 ∷ 0 ∷ 3 ∷ 9 ∷ 3 ∷ []) ≡ 8
-ff-divider-signals = refl
-
-ff-divider-1 : mapping (0 ∷ 1 ∷ 2 ∷ 1 ∷ 1 ∷ 3 ∷ 1 ∷ 1 ∷ 4 ∷ 5 ∷ 5 ∷ 1 ∷ 2 ∷ 0 ∷ 0 ∷ 0 ∷ 0 ∷ 0 ∷ 0 ∷ 0 ∷ 0 ∷ 0 ∷ 5 ∷ 1 ∷ 2 ∷ 3 ∷ 0 ∷ 0 ∷ 0 ∷ 0 ∷ 0 ∷ 0 ∷ 0 ∷ 0 ∷ 0 ∷ 0 ∷ 3 ∷ 0 ∷ 0 ∷ 0 ∷ 3 ∷ 1 ∷ 0 ∷ 3 ∷ 9 ∷ 3 ∷ []) 1 ≡ some (4, 0, 1)
-ff-divider-1 = refl
-
-ff-divider-2 : mapping (0 ∷ 1 ∷ 2 ∷ 1 ∷ 1 ∷ 3 ∷ 1 ∷ 1 ∷ 4 ∷ 5 ∷ 5 ∷ 1 ∷ 2 ∷ 0 ∷ 0 ∷ 0 ∷ 0 ∷ 0 ∷ 0 ∷ 0 ∷ 0 ∷ 0 ∷ 5 ∷ 1 ∷ 2 ∷ 3 ∷ 0 ∷ 0 ∷ 0 ∷ 0 ∷ 0 ∷ 0 ∷ 0 ∷ 0 ∷ 0 ∷ 0 ∷ 3 ∷ 0 ∷ 0 ∷ 0 ∷ 3 ∷ 1 ∷ 0 ∷ 3 ∷ 9 ∷ 3 ∷ []) 2 ≡ some (5, 0, 1)
-ff-divider-2 = refl
-
-ram-both-write-signals : signalTotal (0 ∷ 1 ∷ 2 ∷ 0 ∷ 3 ∷ 3 ∷ 4 ∷ 5 ∷ 0 ∷ 3 ∷ 6 ∷ 7 ∷ 8 ∷ 1 ∷ 1 ∷ 9 ∷ 1 ∷ 1 ∷ 10 ∷ 6 ∷ 2 ∷ 1 ∷ 1 ∷ 4 ∷ 0 ∷ 0 ∷ 0 ∷ 0 ∷ 0 ∷ 0 ∷ 0 ∷ 0 ∷ 0 ∷ 0 ∷ 0 ∷ 0 ∷ 0 ∷ 3 ∷ 1 ∷ 4 ∷ 0 ∷ 0 ∷ 0 ∷ 0 ∷ 0 ∷ 0 ∷ 0 ∷ 0 ∷ 0 ∷ 0 ∷ 0 ∷ 0 ∷ 0 ∷ 0 ∷ 0 ∷ 0 ∷ 0 ∷ 0 ∷ 0 ∷ 2 ∷ 0 ∷ 1 ∷ 5 ∷ 7 ∷ 7 ∷ 0 ∷ 0 ∷ 0 ∷ 0 ∷ 0 ∷ 0 ∷ 0 ∷ 0 ∷ 0 ∷ 0 ∷ 0 ∷ 0 ∷ 0 ∷ 6 ∷ 1 ∷ 0 ∷ 0 ∷ 0 ∷ 0 ∷ 0 ∷ 0 ∷ 2 ∷ 0 ∷ 8 ∷ 8 ∷ 0 ∷ 5 ∷ 19 ∷ 1 ∷ []) ≡ 11
-ram-both-write-signals = refl
-
-ram-both-write-7 : mapping (0 ∷ 1 ∷ 2 ∷ 0 ∷ 3 ∷ 3 ∷ 4 ∷ 5 ∷ 0 ∷ 3 ∷ 6 ∷ 7 ∷ 8 ∷ 1 ∷ 1 ∷ 9 ∷ 1 ∷ 1 ∷ 10 ∷ 6 ∷ 2 ∷ 1 ∷ 1 ∷ 4 ∷ 0 ∷ 0 ∷ 0 ∷ 0 ∷ 0 ∷ 0 ∷ 0 ∷ 0 ∷ 0 ∷ 0 ∷ 0 ∷ 0 ∷ 0 ∷ 3 ∷ 1 ∷ 4 ∷ 0 ∷ 0 ∷ 0 ∷ 0 ∷ 0 ∷ 0 ∷ 0 ∷ 0 ∷ 0 ∷ 0 ∷ 0 ∷ 0 ∷ 0 ∷ 0 ∷ 0 ∷ 0 ∷ 0 ∷ 0 ∷ 0 ∷ 2 ∷ 0 ∷ 1 ∷ 5 ∷ 7 ∷ 7 ∷ 0 ∷ 0 ∷ 0 ∷ 0 ∷ 0 ∷ 0 ∷ 0 ∷ 0 ∷ 0 ∷ 0 ∷ 0 ∷ 0 ∷ 0 ∷ 6 ∷ 1 ∷ 0 ∷ 0 ∷ 0 ∷ 0 ∷ 0 ∷ 0 ∷ 2 ∷ 0 ∷ 8 ∷ 8 ∷ 0 ∷ 5 ∷ 19 ∷ 1 ∷ []) 7 ≡ some (5, 0, 1)
-ram-both-write-7 = refl
-
-ram-both-write-8 : mapping (0 ∷ 1 ∷ 2 ∷ 0 ∷ 3 ∷ 3 ∷ 4 ∷ 5 ∷ 0 ∷ 3 ∷ 6 ∷ 7 ∷ 8 ∷ 1 ∷ 1 ∷ 9 ∷ 1 ∷ 1 ∷ 10 ∷ 6 ∷ 2 ∷ 1 ∷ 1 ∷ 4 ∷ 0 ∷ 0 ∷ 0 ∷ 0 ∷ 0 ∷ 0 ∷ 0 ∷ 0 ∷ 0 ∷ 0 ∷ 0 ∷ 0 ∷ 0 ∷ 3 ∷ 1 ∷ 4 ∷ 0 ∷ 0 ∷ 0 ∷ 0 ∷ 0 ∷ 0 ∷ 0 ∷ 0 ∷ 0 ∷ 0 ∷ 0 ∷ 0 ∷ 0 ∷ 0 ∷ 0 ∷ 0 ∷ 0 ∷ 0 ∷ 0 ∷ 2 ∷ 0 ∷ 1 ∷ 5 ∷ 7 ∷ 7 ∷ 0 ∷ 0 ∷ 0 ∷ 0 ∷ 0 ∷ 0 ∷ 0 ∷ 0 ∷ 0 ∷ 0 ∷ 0 ∷ 0 ∷ 0 ∷ 6 ∷ 1 ∷ 0 ∷ 0 ∷ 0 ∷ 0 ∷ 0 ∷ 0 ∷ 2 ∷ 0 ∷ 8 ∷ 8 ∷ 0 ∷ 5 ∷ 19 ∷ 1 ∷ []) 8 ≡ some (6, 0, 1)
-ram-both-write-8 = refl
-
-dram-rows-signals : signalTotal (0 ∷ 1 ∷ 2 ∷ 0 ∷ 5 ∷ 3 ∷ 4 ∷ 5 ∷ 6 ∷ 7 ∷ 0 ∷ 4 ∷ 8 ∷ 9 ∷ 10 ∷ 11 ∷ 0 ∷ 4 ∷ 12 ∷ 13 ∷ 14 ∷ 15 ∷ 1 ∷ 4 ∷ 16 ∷ 17 ∷ 18 ∷ 19 ∷ 7 ∷ 4 ∷ 5 ∷ 6 ∷ 7 ∷ 8 ∷ 9 ∷ 10 ∷ 11 ∷ 3 ∷ 1 ∷ 12 ∷ 13 ∷ 14 ∷ 15 ∷ 14 ∷ 15 ∷ 16 ∷ 17 ∷ 2 ∷ 0 ∷ 0 ∷ 0 ∷ 5 ∷ 28 ∷ 1 ∷ []) ≡ 24
-dram-rows-signals = refl
-
-dram-rows-14 : mapping (0 ∷ 1 ∷ 2 ∷ 0 ∷ 5 ∷ 3 ∷ 4 ∷ 5 ∷ 6 ∷ 7 ∷ 0 ∷ 4 ∷ 8 ∷ 9 ∷ 10 ∷ 11 ∷ 0 ∷ 4 ∷ 12 ∷ 13 ∷ 14 ∷ 15 ∷ 1 ∷ 4 ∷ 16 ∷ 17 ∷ 18 ∷ 19 ∷ 7 ∷ 4 ∷ 5 ∷ 6 ∷ 7 ∷ 8 ∷ 9 ∷ 10 ∷ 11 ∷ 3 ∷ 1 ∷ 12 ∷ 13 ∷ 14 ∷ 15 ∷ 14 ∷ 15 ∷ 16 ∷ 17 ∷ 2 ∷ 0 ∷ 0 ∷ 0 ∷ 5 ∷ 28 ∷ 1 ∷ []) 14 ≡ some (5, 0, 4)
-dram-rows-14 = refl
-
-dram-rows-15 : mapping (0 ∷ 1 ∷ 2 ∷ 0 ∷ 5 ∷ 3 ∷ 4 ∷ 5 ∷ 6 ∷ 7 ∷ 0 ∷ 4 ∷ 8 ∷ 9 ∷ 10 ∷ 11 ∷ 0 ∷ 4 ∷ 12 ∷ 13 ∷ 14 ∷ 15 ∷ 1 ∷ 4 ∷ 16 ∷ 17 ∷ 18 ∷ 19 ∷ 7 ∷ 4 ∷ 5 ∷ 6 ∷ 7 ∷ 8 ∷ 9 ∷ 10 ∷ 11 ∷ 3 ∷ 1 ∷ 12 ∷ 13 ∷ 14 ∷ 15 ∷ 14 ∷ 15 ∷ 16 ∷ 17 ∷ 2 ∷ 0 ∷ 0 ∷ 0 ∷ 5 ∷ 28 ∷ 1 ∷ []) 15 ≡ some (5, 1, 4)
-dram-rows-15 = refl
-
-dram-rows-16 : mapping (0 ∷ 1 ∷ 2 ∷ 0 ∷ 5 ∷ 3 ∷ 4 ∷ 5 ∷ 6 ∷ 7 ∷ 0 ∷ 4 ∷ 8 ∷ 9 ∷ 10 ∷ 11 ∷ 0 ∷ 4 ∷ 12 ∷ 13 ∷ 14 ∷ 15 ∷ 1 ∷ 4 ∷ 16 ∷ 17 ∷ 18 ∷ 19 ∷ 7 ∷ 4 ∷ 5 ∷ 6 ∷ 7 ∷ 8 ∷ 9 ∷ 10 ∷ 11 ∷ 3 ∷ 1 ∷ 12 ∷ 13 ∷ 14 ∷ 15 ∷ 14 ∷ 15 ∷ 16 ∷ 17 ∷ 2 ∷ 0 ∷ 0 ∷ 0 ∷ 5 ∷ 28 ∷ 1 ∷ []) 16 ≡ some (5, 2, 4)
-dram-rows-16 = refl
-
-dram-rows-17 : mapping (0 ∷ 1 ∷ 2 ∷ 0 ∷ 5 ∷ 3 ∷ 4 ∷ 5 ∷ 6 ∷ 7 ∷ 0 ∷ 4 ∷ 8 ∷ 9 ∷ 10 ∷ 11 ∷ 0 ∷ 4 ∷ 12 ∷ 13 ∷ 14 ∷ 15 ∷ 1 ∷ 4 ∷ 16 ∷ 17 ∷ 18 ∷ 19 ∷ 7 ∷ 4 ∷ 5 ∷ 6 ∷ 7 ∷ 8 ∷ 9 ∷ 10 ∷ 11 ∷ 3 ∷ 1 ∷ 12 ∷ 13 ∷ 14 ∷ 15 ∷ 14 ∷ 15 ∷ 16 ∷ 17 ∷ 2 ∷ 0 ∷ 0 ∷ 0 ∷ 5 ∷ 28 ∷ 1 ∷ []) 17 ≡ some (5, 3, 4)
-dram-rows-17 = refl
-
-jtagg-row-signals : signalTotal (1 ∷ 9 ∷ 2 ∷ 3 ∷ 4 ∷ 5 ∷ 6 ∷ 7 ∷ 8 ∷ 9 ∷ 10 ∷ 9 ∷ 0 ∷ 1 ∷ 2 ∷ 3 ∷ 4 ∷ 5 ∷ 6 ∷ 7 ∷ 8 ∷ 0 ∷ 1 ∷ 11 ∷ 1 ∷ []) ≡ 12
-jtagg-row-signals = refl
-
-jtagg-row-0 : mapping (1 ∷ 9 ∷ 2 ∷ 3 ∷ 4 ∷ 5 ∷ 6 ∷ 7 ∷ 8 ∷ 9 ∷ 10 ∷ 9 ∷ 0 ∷ 1 ∷ 2 ∷ 3 ∷ 4 ∷ 5 ∷ 6 ∷ 7 ∷ 8 ∷ 0 ∷ 1 ∷ 11 ∷ 1 ∷ []) 0 ≡ some (1, 0, 1)
-jtagg-row-0 = refl
-
-jtagg-row-1 : mapping (1 ∷ 9 ∷ 2 ∷ 3 ∷ 4 ∷ 5 ∷ 6 ∷ 7 ∷ 8 ∷ 9 ∷ 10 ∷ 9 ∷ 0 ∷ 1 ∷ 2 ∷ 3 ∷ 4 ∷ 5 ∷ 6 ∷ 7 ∷ 8 ∷ 0 ∷ 1 ∷ 11 ∷ 1 ∷ []) 1 ≡ some (2, 0, 1)
-jtagg-row-1 = refl
-
-jtagg-row-2 : mapping (1 ∷ 9 ∷ 2 ∷ 3 ∷ 4 ∷ 5 ∷ 6 ∷ 7 ∷ 8 ∷ 9 ∷ 10 ∷ 9 ∷ 0 ∷ 1 ∷ 2 ∷ 3 ∷ 4 ∷ 5 ∷ 6 ∷ 7 ∷ 8 ∷ 0 ∷ 1 ∷ 11 ∷ 1 ∷ []) 2 ≡ some (3, 0, 1)
-jtagg-row-2 = refl
-
-jtagg-row-3 : mapping (1 ∷ 9 ∷ 2 ∷ 3 ∷ 4 ∷ 5 ∷ 6 ∷ 7 ∷ 8 ∷ 9 ∷ 10 ∷ 9 ∷ 0 ∷ 1 ∷ 2 ∷ 3 ∷ 4 ∷ 5 ∷ 6 ∷ 7 ∷ 8 ∷ 0 ∷ 1 ∷ 11 ∷ 1 ∷ []) 3 ≡ some (4, 0, 1)
-jtagg-row-3 = refl
-
-pll-row-signals : signalTotal (0 ∷ 1 ∷ 2 ∷ 1 ∷ 3 ∷ 3 ∷ 4 ∷ 5 ∷ 1 ∷ 1 ∷ 6 ∷ 10 ∷ 2 ∷ 1 ∷ 1 ∷ 2 ∷ 1 ∷ 3 ∷ 5 ∷ 1 ∷ 4 ∷ 3 ∷ 0 ∷ 0 ∷ 0 ∷ 0 ∷ 0 ∷ 0 ∷ 0 ∷ 0 ∷ 0 ∷ 0 ∷ 3 ∷ 11 ∷ 2 ∷ []) ≡ 9
-pll-row-signals = refl
-
-pll-row-1 : mapping (0 ∷ 1 ∷ 2 ∷ 1 ∷ 3 ∷ 3 ∷ 4 ∷ 5 ∷ 1 ∷ 1 ∷ 6 ∷ 10 ∷ 2 ∷ 1 ∷ 1 ∷ 2 ∷ 1 ∷ 3 ∷ 5 ∷ 1 ∷ 4 ∷ 3 ∷ 0 ∷ 0 ∷ 0 ∷ 0 ∷ 0 ∷ 0 ∷ 0 ∷ 0 ∷ 0 ∷ 0 ∷ 3 ∷ 11 ∷ 2 ∷ []) 1 ≡ some (3, 0, 1)
-pll-row-1 = refl
-
-pll-row-2 : mapping (0 ∷ 1 ∷ 2 ∷ 1 ∷ 3 ∷ 3 ∷ 4 ∷ 5 ∷ 1 ∷ 1 ∷ 6 ∷ 10 ∷ 2 ∷ 1 ∷ 1 ∷ 2 ∷ 1 ∷ 3 ∷ 5 ∷ 1 ∷ 4 ∷ 3 ∷ 0 ∷ 0 ∷ 0 ∷ 0 ∷ 0 ∷ 0 ∷ 0 ∷ 0 ∷ 0 ∷ 0 ∷ 3 ∷ 11 ∷ 2 ∷ []) 2 ≡ some (4, 0, 1)
-pll-row-2 = refl
-
-pll-row-3 : mapping (0 ∷ 1 ∷ 2 ∷ 1 ∷ 3 ∷ 3 ∷ 4 ∷ 5 ∷ 1 ∷ 1 ∷ 6 ∷ 10 ∷ 2 ∷ 1 ∷ 1 ∷ 2 ∷ 1 ∷ 3 ∷ 5 ∷ 1 ∷ 4 ∷ 3 ∷ 0 ∷ 0 ∷ 0 ∷ 0 ∷ 0 ∷ 0 ∷ 0 ∷ 0 ∷ 0 ∷ 0 ∷ 3 ∷ 11 ∷ 2 ∷ []) 3 ≡ some (5, 0, 1)
-pll-row-3 = refl
-
-pll-row-4 : mapping (0 ∷ 1 ∷ 2 ∷ 1 ∷ 3 ∷ 3 ∷ 4 ∷ 5 ∷ 1 ∷ 1 ∷ 6 ∷ 10 ∷ 2 ∷ 1 ∷ 1 ∷ 2 ∷ 1 ∷ 3 ∷ 5 ∷ 1 ∷ 4 ∷ 3 ∷ 0 ∷ 0 ∷ 0 ∷ 0 ∷ 0 ∷ 0 ∷ 0 ∷ 0 ∷ 0 ∷ 0 ∷ 3 ∷ 11 ∷ 2 ∷ []) 4 ≡ some (6, 0, 1)
-pll-row-4 = refl
-
-constants-shown-signals : signalTotal (0 ∷ 3 ∷ 2 ∷ 0 ∷ 3 ∷ 2 ∷ 1 ∷ 4 ∷ 1 ∷ 4 ∷ 1 ∷ 4 ∷ 0 ∷ 3 ∷ 0 ∷ 3 ∷ 14 ∷ 0 ∷ []) ≡ 5
-constants-shown-signals = refl
-
-constants-shown-2 : mapping (0 ∷ 3 ∷ 2 ∷ 0 ∷ 3 ∷ 2 ∷ 1 ∷ 4 ∷ 1 ∷ 4 ∷ 1 ∷ 4 ∷ 0 ∷ 3 ∷ 0 ∷ 3 ∷ 14 ∷ 0 ∷ []) 2 ≡ some (1, 0, 1)
-constants-shown-2 = refl
-
-constants-shown-1 : mapping (0 ∷ 3 ∷ 2 ∷ 0 ∷ 3 ∷ 2 ∷ 1 ∷ 4 ∷ 1 ∷ 4 ∷ 1 ∷ 4 ∷ 0 ∷ 3 ∷ 0 ∷ 3 ∷ 14 ∷ 0 ∷ []) 1 ≡ some (0, 2, 3)
-constants-shown-1 = refl
+pub maps-hold : map mapOf mapRows ≡ map (λ (r : MapRow). r .entries) mapRows
+unfolding collectFlipFlopBanks banksFrom leadersFrom flipFlopsFrom bankIn membersOf
+maps-hold = refl

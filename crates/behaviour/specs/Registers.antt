@@ -1,17 +1,19 @@
--- In every run the registers keep their shape: a cell's RAM has its depth, and every word its width. And a run of a list goes tick by tick.
-use mathlib.Core.Path.{_≡_, refl, sym, _∙_, ap}
-use mathlib.Core.List.{List, [], _∷_, _++_, map}
+-- In every run the registers keep their shape: a cell's RAM has its depth, and every word its width.
+use mathlib.Core.Path.{_≡_, refl, _∙_, ap}
+use mathlib.Core.List.{List, [], _∷_, map}
 use mathlib.Core.Option.{Option, none, some}
 use mathlib.Core.Bool.{Bool, true, false, _&&_}
-use Prim.Native.Nat.{ℕ, zero, suc}
+use Prim.Native.Nat.{ℕ, zero, suc, _<_}
+use native.Mathlib.Nat.{not-suc-le-zero, le-of-suc-le-suc}
 use lib.ListN.{length, getD, set, replicate, length-set, length-replicate, length-map}
+use Rattle.bits.specs.Bits.{pick, number}
+use Rattle.netlist.specs.declared.Limits.{Limits}
 use Rattle.netlist.specs.declared.Bit.{Bit}
-use Rattle.netlist.specs.Netlist.{SecondPort, BlockRam, DistributedRam, Cell, Netlist, lut4, pfumx, l6mux21, ccu2c, multiplier, flipFlop, blockRam, distributedRam, io, jtagg, pll}
-use Rattle.netlist.specs.Reader.{Limits}
+use Rattle.netlist.specs.Netlist.{SecondPort, BlockRam, Cell, Netlist, lut4, pfumx, l6mux21, ccu2c, multiplier, flipFlop, blockRam, distributedRam, io, jtagg, pll}
 use Rattle.netlist.specs.Shape.{Each, FitsOption, FitsCell, FitsSecond, Fits}
 use Rattle.behaviour.specs.WireMap.{slots}
-use Rattle.behaviour.specs.Behaviour.{Valuation, value, values, number, Registers, zeros, unused, initial, address, enabled, written, writtenB, loaded, loadedB, nextRam, nextDistributed, next, commit, settle, on, level}
-use Rattle.behaviour.specs.Behaviour.{Tick, State, start, tick, tickFits, step, run}
+use Rattle.behaviour.specs.Behaviour.{Valuation, value, values, Registers, zeros, unused, absent, initial, address, enabled, written, writtenB, loaded, loadedB, nextRam, next, commit, settle, onFired, level}
+use Rattle.behaviour.specs.Behaviour.{Tick, State, start, tick, accepts, step, run}
 
 each-replicate : {A : Type 0} (P : A → Type 0) (n : ℕ) (a : A) → P a → Each P (replicate n a)
 each-replicate P zero a h = tt
@@ -105,21 +107,21 @@ AllShaped [] (r ∷ regs) = ⊥
 AllShaped (c ∷ cells) [] = ⊥
 AllShaped (c ∷ cells) (r ∷ regs) = Shaped c r × AllShaped cells regs
 
-start-shaped : (cells : List Cell) → AllShaped cells (map initial cells)
+pub start-shaped : (cells : List Cell) → AllShaped cells (map initial cells)
 start-shaped [] = tt
 start-shaped (c ∷ cells) = (initial-shaped c, start-shaped cells)
 
-commit-shaped : (limits : Limits) (fires : Bit → ℕ → Bool) (v : Valuation) (cells : List Cell) (regs : List Registers) → Each (FitsCell limits) cells → AllShaped cells regs → AllShaped cells (commit fires v cells regs)
+pub commit-shaped : (limits : Limits) (fires : Bit → ℕ → Bool) (v : Valuation) (cells : List Cell) (regs : List Registers) → Each (FitsCell limits) cells → AllShaped cells regs → AllShaped cells (commit fires v cells regs)
 commit-shaped limits fires v [] [] f h = tt
 commit-shaped limits fires v [] (r ∷ regs) f h = absurd h
 commit-shaped limits fires v (c ∷ cells) [] f h = absurd h
 commit-shaped limits fires v (c ∷ cells) (r ∷ regs) f h = (next-shaped limits fires v c r (f .0) (h .0), commit-shaped limits fires v cells regs (f .1) (h .1))
 
-step-shaped : (limits : Limits) (n : Netlist) (s : State) (t : Tick) → Fits limits n → AllShaped (n .cells) (s .registers) → AllShaped (n .cells) ((step n s t) .registers)
-step-shaped limits n s t f h = go (tickFits n t)
+pub step-shaped : (limits : Limits) (n : Netlist) (s : State) (t : Tick) → Fits limits n → AllShaped (n .cells) (s .registers) → AllShaped (n .cells) ((step n s t) .registers)
+step-shaped limits n s t f h = go (accepts n t)
   where
-    go : (b : Bool) → AllShaped (n .cells) ((elim b as (λ b. State) [ true ↦ tick n s t | false ↦ s ]) .registers)
-    go true = commit-shaped limits (on (slots n) (t .fired)) (settle (slots n) (n .cells) (map level (t .bits)) (s .registers)) (n .cells) (s .registers) (f .cells) h
+    go : (b : Bool) → AllShaped (n .cells) ((pick b (tick n s t) s) .registers)
+    go true = commit-shaped limits (onFired (slots n) (t .fired)) (settle (slots n) (n .cells) (map level (t .bits)) (s .registers)) (n .cells) (s .registers) (f .cells) h
     go false = h
 
 run-shaped-from : (limits : Limits) (n : Netlist) (s : State) (l : List Tick) → Fits limits n → AllShaped (n .cells) (s .registers) → AllShaped (n .cells) ((run n s l) .registers)
@@ -129,6 +131,24 @@ run-shaped-from limits n s (t ∷ l) f h = run-shaped-from limits n (step n s t)
 pub run-shaped : (limits : Limits) (n : Netlist) (l : List Tick) → Fits limits n → AllShaped (n .cells) ((run n (start n) l) .registers)
 run-shaped limits n l f = run-shaped-from limits n (start n) l f (start-shaped (n .cells))
 
-pub run-append : (n : Netlist) (s : State) (a b : List Tick) → run n s (a ++ b) ≡ run n (run n s a) b
-run-append n s [] b = refl
-run-append n s (t ∷ a) b = run-append n (step n s t) a b
+-- CELL BY CELL
+
+pub shaped-long : (cells : List Cell) (regs : List Registers) → AllShaped cells regs → length regs ≡ length cells
+shaped-long [] [] h = refl
+shaped-long [] (r ∷ regs) h = absurd h
+shaped-long (c ∷ cells) [] h = absurd h
+shaped-long (c ∷ cells) (r ∷ regs) h = ap suc (shaped-long cells regs (h .1))
+
+pub shaped-at : (cells : List Cell) (regs : List Registers) → AllShaped cells regs → (c : ℕ) → c < length cells → Shaped (getD cells c absent) (getD regs c unused)
+shaped-at [] regs h c k = absurd (not-suc-le-zero k)
+shaped-at (x ∷ cells) [] h c k = absurd h
+shaped-at (x ∷ cells) (r ∷ regs) h zero k = h .0
+shaped-at (x ∷ cells) (r ∷ regs) h (suc c) k = shaped-at cells regs (h .1) c (le-of-suc-le-suc k)
+
+-- each cell's registers change by themselves, from the settled values
+pub commit-at : (fires : Bit → ℕ → Bool) (v : Valuation) (cells : List Cell) (regs : List Registers) → AllShaped cells regs → (c : ℕ) → c < length cells
+    → getD (commit fires v cells regs) c unused ≡ next fires v (getD cells c absent) (getD regs c unused)
+commit-at fires v [] regs h c k = absurd (not-suc-le-zero k)
+commit-at fires v (x ∷ cells) [] h c k = absurd h
+commit-at fires v (x ∷ cells) (r ∷ regs) h zero k = refl
+commit-at fires v (x ∷ cells) (r ∷ regs) h (suc c) k = commit-at fires v cells regs (h .1) c (le-of-suc-le-suc k)

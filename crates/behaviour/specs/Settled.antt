@@ -1,24 +1,25 @@
--- A netlist with no loop settles: `settle` gives the one valuation in which every wire holds what its driver gives.
--- So what a tick means does not hang on the number of sweeps, nor on the values from which they start.
+-- A netlist with no loop settles: `settle` gives the one valuation in which every wire holds what its driver gives. So what a tick
+-- means does not hang on the number of sweeps, on the values from which they start, or on the order in which wires are evaluated.
 use mathlib.Core.Path.{_≡_, refl, sym, _∙_, ap, ap₂, subst, fun-ext}
-use mathlib.Core.List.{List, [], _∷_, _++_, map, List·Memᴰ as Mem, List·Memᴰ·head as here, List·Memᴰ·tail as there, List·Memᴰ·cases-cons as cases-cons, List·Memᴰ·not-nil as not-nil}
+use mathlib.Core.List.{List, [], _∷_, _++_, List·Memᴰ as Mem, List·Memᴰ·head as here, List·Memᴰ·tail as there, List·Memᴰ·cases-cons as cases-cons, List·Memᴰ·not-nil as not-nil}
 use mathlib.Core.Logic.{_⊎_, inl, inr}
-use mathlib.Core.Bool.{Bool, true, false, cond}
-use Prim.Native.Nat.{ℕ, zero, suc, _+_, _*_, _≤_, _<_}
-use native.Mathlib.Nat.{le-refl}
+use mathlib.Core.Bool.{Bool, true, false}
+use Prim.Native.Nat.{ℕ, zero, suc, _*_, _≤_, _<_}
 use native.Mathlib.Omega.{arith}
 use native.Mathlib.Decide.{decLt, ℕ-discrete}
 use lib.ListN.{length, getD, List·getD-eq-default}
 use lib.Dec.{eqb}
+use Rattle.bits.specs.Bits.{pick, Bits, number, tableBit}
 use Rattle.settle.specs.Walk.{Way, edge, more, Walk, NoLoop}
-use Rattle.settle.specs.Ground.{Ends, Closed, Lists, below, length-below, mem-below, long-walk-loops}
+use Rattle.settle.specs.Ground.{Ends, ends-suc, Grounded, ends→grounded, below, length-below, mem-below, long-walk-loops}
 use Rattle.settle.specs.Settle.{iterate, sweep, Respects, settled-at, forgets}
 use Rattle.settle.specs.Loop.{Reads, Under}
+use Rattle.settle.specs.InPlace.{sweepAt, sweeps-level}
 use Rattle.netlist.specs.declared.Bit.{Bit}
 use Rattle.netlist.specs.declared.Bit.the-variants.{Zero, One, Wire}
 use Rattle.netlist.specs.Netlist.{Netlist, Cell, lut4, pfumx, l6mux21, ccu2c, multiplier, flipFlop, blockRam, distributedRam, io, jtagg, pll}
 use Rattle.behaviour.specs.WireMap.{Slot, slots}
-use Rattle.behaviour.specs.Behaviour.{Valuation, value, values, number, bitOfNumber, lookTable, ccuBits, Registers, output, depends, unused, absent}
+use Rattle.behaviour.specs.Behaviour.{Valuation, value, values, lookTable, ccuBits, Registers, output, depends, unused, absent}
 use Rattle.behaviour.specs.Behaviour.{Driver, tickBit, pin, nobody, driver, driverReads, wiresOf, gives, drive, settle, Depends, NoWireLoop}
 
 -- an output hangs only on the bits that it depends on
@@ -51,8 +52,8 @@ module _ (v w : Valuation) where
 
   pub output-agrees : (r : Registers) (c : Cell) (k : ℕ) → Agree (depends c k) → output v r c k ≡ output w r c k
   output-agrees r (lut4 is o t) k h = ap (lookTable t) (values-agree is h)
-  output-agrees r (pfumx a b s o) k h = ap (λ (l : List Bool). cond (getD l 2 false) (getD l 0 false) (getD l 1 false)) (values-agree (a ∷ b ∷ s ∷ []) h)
-  output-agrees r (l6mux21 a b s o) k h = ap (λ (l : List Bool). cond (getD l 2 false) (getD l 1 false) (getD l 0 false)) (values-agree (a ∷ b ∷ s ∷ []) h)
+  output-agrees r (pfumx a b s o) k h = ap (λ (l : List Bool). pick (getD l 2 false) (getD l 0 false) (getD l 1 false)) (values-agree (a ∷ b ∷ s ∷ []) h)
+  output-agrees r (l6mux21 a b s o) k h = ap (λ (l : List Bool). pick (getD l 2 false) (getD l 1 false) (getD l 0 false)) (values-agree (a ∷ b ∷ s ∷ []) h)
   output-agrees r (ccu2c u) k h =
       ap (λ (l : List Bool). getD (ccuBits u l (values v (u .row1)) (value v (u .carryIn))) k false) p0
       ∙ ap (λ (l : List Bool). getD (ccuBits u (values w (u .row0)) l (value v (u .carryIn))) k false) p1
@@ -67,15 +68,15 @@ module _ (v w : Valuation) where
       p2 : values v (u .carryIn ∷ []) ≡ values w (u .carryIn ∷ [])
       p2 = values-agree (u .carryIn ∷ []) (λ y m. h y (mem-right (u .row0) (u .row1 ++ (u .carryIn ∷ [])) (mem-right (u .row1) (u .carryIn ∷ []) m)))
   output-agrees r (multiplier a b o) k h =
-      ap₂ (λ (x y : List Bool). bitOfNumber (number x * number y) k) (values-agree a (λ y m. h y (mem-left a b m))) (values-agree b (λ y m. h y (mem-right a b m)))
+      ap₂ (λ (x y : List Bool). tableBit (number x * number y) k) (values-agree a (λ y m. h y (mem-left a b m))) (values-agree b (λ y m. h y (mem-right a b m)))
   output-agrees r (flipFlop f) k h = refl
   output-agrees r (blockRam m) k h = refl
   output-agrees r (distributedRam m) k h = ap (λ (l : List Bool). getD (getD (r .words) (number l) []) k false) (values-agree (m .readAddress) h)
-  output-agrees r (io p a o t) k h = ap (λ (l : List Bool). cond (getD l 2 false) (getD l 0 false) (getD l 1 false)) (values-agree (Wire p ∷ a ∷ t ∷ []) h)
+  output-agrees r (io p a o t) k h = ap (λ (l : List Bool). pick (getD l 2 false) (getD l 0 false) (getD l 1 false)) (values-agree (Wire p ∷ a ∷ t ∷ []) h)
   output-agrees r (jtagg o) k h = refl
   output-agrees r (pll p) k h = go (eqb k 2) h
     where
-      go : (b : Bool) → Agree (cond b [] (p .reference ∷ [])) → cond b true (value v (p .reference)) ≡ cond b true (value w (p .reference))
+      go : (b : Bool) → Agree (pick b [] (p .reference ∷ [])) → pick b true (value v (p .reference)) ≡ pick b true (value w (p .reference))
       go true h′ = refl
       go false h′ = ap (λ (l : List Bool). getD l 0 false) (values-agree (p .reference ∷ []) h′)
 
@@ -93,7 +94,7 @@ depends-alike (io p a o t) k z m = refl
 depends-alike (jtagg o) k z m = refl
 depends-alike (pll p) k z m = go (eqb k 2) m
   where
-    go : (b : Bool) → Mem z (wiresOf (cond b [] (p .reference ∷ []))) → cond b [] (p .reference ∷ []) ≡ (p .reference ∷ [])
+    go : (b : Bool) → Mem z (wiresOf (pick b [] (p .reference ∷ []))) → pick b [] (p .reference ∷ []) ≡ (p .reference ∷ [])
     go true n = absurd (not-nil n)
     go false n = refl
 
@@ -101,7 +102,7 @@ module _ (held : List Slot) (cells : List Cell) where
   abbrev E : ℕ → ℕ → Type 0
   E = Reads (λ x. driverReads cells (driver held x))
 
-  pub drive-respects : (bits : List Bool) (regs : List Registers) → Respects E (drive held cells bits regs)
+  pub drive-respects : (bits : Bits) (regs : List Registers) → Respects E (drive held cells bits regs)
   drive-respects bits regs x v w = go (driver held x)
     where
       go : (d : Driver) → ((y : ℕ) → Mem y (driverReads cells d) → v y ≡ w y) → gives cells bits regs d v ≡ gives cells bits regs d w
@@ -178,14 +179,27 @@ module _ (held : List Slot) (cells : List Cell) where
       let u = wire-loop (q .0) (q .2) in
       loopless (u .0) (u .1)
 
+-- every walk over wires ends
+pub wires-grounded : (n : Netlist) → NoWireLoop n → (w : ℕ) → Grounded (Depends n) w
+wires-grounded n loopless w = ends→grounded (Depends n) (suc (length (n .cells))) w (walks-end (slots n) (n .cells) loopless w)
+
+-- no walk of so many edges begins at x, nor one of more
+ends-more : (E′ : ℕ → ℕ → Type 0) (j k : ℕ) → j ≤ k → (x : ℕ) → Ends E′ j x → Ends E′ k x
+ends-more E′ j zero h x e = let z : j ≡ 0 = omega arith in subst (λ (i : ℕ). Ends E′ i x) z e
+ends-more E′ j (suc k) h x e = go (λ (q : j ≤ k). ends-more E′ j k q x e) (decLt j (suc k))
+  where
+    go : (j ≤ k → Ends E′ k x) → Dec (j < suc k) → Ends E′ (suc k) x
+    go ih (yes q) = ends-suc E′ k x (ih (omega arith))
+    go ih (no q) = let z : j ≡ suc k = omega arith in subst (λ (i : ℕ). Ends E′ i x) z e
+
 -- each wire holds what its driver gives
-pub settled : (n : Netlist) → NoWireLoop n → (bits : List Bool) (regs : List Registers) (w : ℕ)
+pub settled : (n : Netlist) → NoWireLoop n → (bits : Bits) (regs : List Registers) (w : ℕ)
     → drive (slots n) (n .cells) bits regs w (settle (slots n) (n .cells) bits regs) ≡ settle (slots n) (n .cells) bits regs w
 settled n loopless bits regs w =
     settled-at (Depends n) (drive (slots n) (n .cells) bits regs) (drive-respects (slots n) (n .cells) bits regs) (suc (length (n .cells))) w (walks-end (slots n) (n .cells) loopless w) (λ x. false)
 
 -- and no other valuation does so
-pub settled-only : (n : Netlist) → NoWireLoop n → (bits : List Bool) (regs : List Registers) (v : Valuation)
+pub settled-only : (n : Netlist) → NoWireLoop n → (bits : Bits) (regs : List Registers) (v : Valuation)
     → ((w : ℕ) → drive (slots n) (n .cells) bits regs w v ≡ v w) → (w : ℕ) → v w ≡ settle (slots n) (n .cells) bits regs w
 settled-only n loopless bits regs v h w =
     ap (λ (u : Valuation). u w) (sym (still (suc (length (n .cells)))))
@@ -194,3 +208,21 @@ settled-only n loopless bits regs v h w =
     still : (k : ℕ) → iterate k (sweep (drive (slots n) (n .cells) bits regs)) v ≡ v
     still zero = refl
     still (suc k) = ap (sweep (drive (slots n) (n .cells) bits regs)) (still k) ∙ fun-ext h
+
+-- whatever the start, and however many sweeps more
+pub settled-alike : (n : Netlist) → NoWireLoop n → (bits : Bits) (regs : List Registers) (k : ℕ) → suc (length (n .cells)) ≤ k → (v : Valuation) (w : ℕ)
+    → iterate k (sweep (drive (slots n) (n .cells) bits regs)) v w ≡ settle (slots n) (n .cells) bits regs w
+settled-alike n loopless bits regs k h v w =
+    settled-only n loopless bits regs (iterate k (sweep (drive (slots n) (n .cells) bits regs)) v)
+    (λ x. settled-at (Depends n) (drive (slots n) (n .cells) bits regs) (drive-respects (slots n) (n .cells) bits regs) k x (ends-more (Depends n) (suc (length (n .cells))) k h x (walks-end (slots n) (n .cells) loopless x)) v) w
+
+-- in any order: wires set one after the other, each from the values as they then stand, over any list of wires that holds what its
+-- wires depend on
+pub settled-in-any-order : (n : Netlist) → NoWireLoop n → (bits : Bits) (regs : List Registers)
+    → (wires : List ℕ) → ((x y : ℕ) → Mem x wires → Depends n x y → Mem y wires)
+    → (k : ℕ) → suc (length (n .cells)) ≤ k → (v : Valuation) (w : ℕ) → Mem w wires
+    → iterate k (sweepAt ℕ-discrete (drive (slots n) (n .cells) bits regs) wires) v w ≡ settle (slots n) (n .cells) bits regs w
+settled-in-any-order n loopless bits regs wires closed k h v w m =
+    sweeps-level (Depends n) (drive (slots n) (n .cells) bits regs) (drive-respects (slots n) (n .cells) bits regs) (λ x. Mem x wires) closed
+    (settle (slots n) (n .cells) bits regs) (λ x e. settled n loopless bits regs x) ℕ-discrete wires (λ x e. e) k v w m
+    (ends-more (Depends n) (suc (length (n .cells))) k h w (walks-end (slots n) (n .cells) loopless w))

@@ -3,4 +3,5 @@ pub mod Record
 pub mod Writer
 pub mod Lists
 pub mod Evaluate
+pub mod Meaning
 pub mod Read

@@ -1,6 +1,7 @@
 -- The three lent lists: what playing a writer's events into them leaves, and how the call ends.
 use mathlib.Core.Bool.{Bool, true, false, _&&_}
 use mathlib.Core.List.{List, [], _∷_, _++_}
+use mathlib.Core.Option.{Option, none, some}
 use mathlib.Core.Path.{_≡_}
 use Prim.Native.Nat.{ℕ, _+_, min}
 use lib.Dec.{leb}
@@ -18,8 +19,12 @@ use Rattle.recorder.specs.declared.Declared.{Declared}
 use Rattle.recorder.specs.declared.Declared.the-variants as D
 use Rattle.recorder.specs.declared.Stated.{Stated}
 use Rattle.recorder.specs.declared.Stated.the-variants as S
-use Rattle.recorder.specs.Record.{signalWords, exprWords, stmtWords}
-use Rattle.recorder.specs.Writer.{Event, Event.signal, Event.expr, Event.stmt, Count, End, End.ok, End.no, Out, Writer}
+use Rattle.recorder.specs.declared.AsyncReset.{AsyncReset}
+use Rattle.recorder.specs.declared.AsyncReset.the-variants as R
+use Rattle.recorder.specs.declared.Enable.{Enable}
+use Rattle.recorder.specs.declared.Enable.the-variants as N
+use Rattle.recorder.specs.Record.{Signal, Expr, Stmt, RegReset, RegEnable, signalWords, exprWords, stmtWords}
+use Rattle.recorder.specs.Writer.{Event, Event.signal, Event.expr, Event.stmt, Count, End, End.ok, End.no, Out, Writer, declare, emit, state}
 
 -- ONE LIST
 
@@ -42,6 +47,11 @@ putOf len t n = pick (fits len t n) (At (t .count) (behind t n)) Full
 abbrev pub putIn : List ℕ → Tape → List ℕ → List ℕ
 putIn l t ws = pick (fits (length l) t (length ws)) (over l (t .used) ws) l
 
+-- a record of these words was to go behind the tape: the answer, and the list as it is left
+pub record Recorded (l : List ℕ) (t : Tape) (ws : List ℕ) (r : Put) (l′ : List ℕ) : Type 0 where
+  pub said : r ≡ putOf (length l) t (length ws)
+  pub held : l′ ≡ putIn l t ws
+
 -- ALL THREE
 
 pub record Lists : Type 0 where
@@ -63,19 +73,29 @@ pub data Played : Type 0 where
   going : Lists → Tapes → Played
   full : ℕ → Lists → Played
 
+-- the list that a record goes to
+abbrev pub listOf : Event → ℕ
+listOf (signal s) = 0
+listOf (expr x) = 1
+listOf (stmt x) = 2
+
+abbrev pub hasRoom : Lists → Tapes → Event → Bool
+hasRoom l t (signal s) = fits (length (l .signals)) (t .signals) (length (signalWords s))
+hasRoom l t (expr x) = fits (length (l .exprs)) (t .exprs) (length (exprWords x))
+hasRoom l t (stmt x) = fits (length (l .stmts)) (t .stmts) (length (stmtWords x))
+
+abbrev pub laid : Lists → Tapes → Event → Lists
+laid l t (signal s) = lists (over (l .signals) (t .signals .used) (signalWords s)) (l .exprs) (l .stmts)
+laid l t (expr x) = lists (l .signals) (over (l .exprs) (t .exprs .used) (exprWords x)) (l .stmts)
+laid l t (stmt x) = lists (l .signals) (l .exprs) (over (l .stmts) (t .stmts .used) (stmtWords x))
+
+abbrev pub advanced : Tapes → Event → Tapes
+advanced t (signal s) = tapes (behind (t .signals) (length (signalWords s))) (t .exprs) (t .stmts)
+advanced t (expr x) = tapes (t .signals) (behind (t .exprs) (length (exprWords x))) (t .stmts)
+advanced t (stmt x) = tapes (t .signals) (t .exprs) (behind (t .stmts) (length (stmtWords x)))
+
 abbrev pub put : Lists → Tapes → Event → Played
-put l t (signal s) =
-    pick (fits (length (l .signals)) (t .signals) (length (signalWords s)))
-    (going (lists (over (l .signals) (t .signals .used) (signalWords s)) (l .exprs) (l .stmts)) (tapes (behind (t .signals) (length (signalWords s))) (t .exprs) (t .stmts)))
-    (full 0 l)
-put l t (expr x) =
-    pick (fits (length (l .exprs)) (t .exprs) (length (exprWords x)))
-    (going (lists (l .signals) (over (l .exprs) (t .exprs .used) (exprWords x)) (l .stmts)) (tapes (t .signals) (behind (t .exprs) (length (exprWords x))) (t .stmts)))
-    (full 1 l)
-put l t (stmt s) =
-    pick (fits (length (l .stmts)) (t .stmts) (length (stmtWords s)))
-    (going (lists (l .signals) (l .exprs) (over (l .stmts) (t .stmts .used) (stmtWords s))) (tapes (t .signals) (t .exprs) (behind (t .stmts) (length (stmtWords s)))))
-    (full 2 l)
+put l t e = pick (hasRoom l t e) (going (laid l t e) (advanced t e)) (full (listOf e) l)
 
 abbrev pub onward : Played → (Lists → Tapes → Played) → Played
 onward (going l t) k = k l t
@@ -121,6 +141,16 @@ WroteExprs e t w r e′ = (s m : List ℕ) → Wrote (lists s e m) t w r (lists 
 abbrev pub WroteStmts : {A : Type 0} → List ℕ → Tapes → Writer A → Answer A → List ℕ → Type 0
 WroteStmts m t w r m′ = (s e : List ℕ) → Wrote (lists s e m) t w r (lists s e m′)
 
+-- of a call that was handed the words of some record
+abbrev pub PushedSignal : List ℕ → List ℕ → Tapes → Answer ℕ → List ℕ → Type 0
+PushedSignal ws s t r s′ = (x : Signal) → signalWords x ≡ ws → WroteSignals s t (declare x) r s′
+
+abbrev pub PushedExpr : List ℕ → List ℕ → Tapes → Answer ℕ → List ℕ → Type 0
+PushedExpr ws e t r e′ = (x : Expr) → exprWords x ≡ ws → WroteExprs e t (emit x) r e′
+
+abbrev pub PushedStmt : List ℕ → List ℕ → Tapes → Answer (Unit {0}) → List ℕ → Type 0
+PushedStmt ws m t r m′ = (x : Stmt) → stmtWords x ≡ ws → WroteStmts m t (state x) r m′
+
 -- the code's answers, as numbers and values
 abbrev pub emitted : Emitted → Answer ℕ
 emitted (E.Done e t) = Done (e .0) t
@@ -133,3 +163,12 @@ declared (D.Refused x) = Failed (numberOf x) (placeOf x)
 abbrev pub stated : Stated → Answer (Unit {0})
 stated (S.Done t) = Done tt t
 stated (S.Refused x) = Failed (numberOf x) (placeOf x)
+
+-- a register's controls, as its record has them
+abbrev pub resetOf : AsyncReset → Option RegReset
+resetOf R.Absent = none
+resetOf (R.Present s a v) = some (record { signal = s .0; active = a; value = v .0 })
+
+abbrev pub enableOf : Enable → Option RegEnable
+enableOf N.Absent = none
+enableOf (N.Present s a) = some (record { signal = s .0; active = a })

@@ -1,12 +1,16 @@
-// The recorder, in place of the simulator's ModuleBuilder: counters and three lent lists.
+// The recorder, in place of the simulator's ModuleBuilder: counters by value and three lent lists.
+pub mod builder;
+pub mod list;
+
 use refusal::Refusal;
 
 // The number of an expression.
 pub struct ExprId(pub u32);
 
-// The number of a signal.
+// The number of a signal. It cannot stand for an expression's, nor that for this.
 pub struct SignalId(pub u32);
 
+// The constants are always the first two expressions.
 impl ExprId {
     pub const ZERO: ExprId = ExprId(0);
 
@@ -44,4 +48,16 @@ pub enum Declared {
 pub enum Stated {
     Done(Tapes),
     Refused(Refusal),
+}
+
+// An asynchronous reset of a register: signal, active level, the value that it loads.
+pub enum AsyncReset {
+    Absent,
+    Present(SignalId, u32, ExprId),
+}
+
+// An enable of a register: signal, active level.
+pub enum Enable {
+    Absent,
+    Present(SignalId, u32),
 }

@@ -1,0 +1,3 @@
+-- The laws of behaviour's definitions.
+pub mod BankLaws
+pub mod MapLaws

@@ -1,0 +1,2 @@
+-- The specs of cells.
+pub mod Cells

@@ -1,0 +1,4 @@
+-- The specs of lowering.
+pub mod Reserve
+pub mod Emit
+pub mod Lower

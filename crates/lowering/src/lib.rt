@@ -1,0 +1,1 @@
+// Lowering a netlist. (lib.rs of the Rust.)

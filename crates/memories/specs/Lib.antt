@@ -1,0 +1,3 @@
+-- The specs of memories.
+pub mod AddressMux
+pub mod Memories

@@ -1,0 +1,4 @@
+-- The specs of optimize.
+pub mod Rewrite
+pub mod Lut
+pub mod Claims

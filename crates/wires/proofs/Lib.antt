@@ -1,0 +1,3 @@
+-- The laws of wires that other crates cite.
+pub mod Laws
+pub mod Vectors

@@ -1,0 +1,3 @@
+-- The specs of wires.
+pub mod Wires
+pub mod Expressions
