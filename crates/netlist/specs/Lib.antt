@@ -11,3 +11,4 @@ pub mod ReaderChecks
 pub mod Walk
 pub mod Checks
 pub mod Records
+pub mod Cases
