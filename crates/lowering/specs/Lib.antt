@@ -1,4 +1,5 @@
 -- The specs of lowering.
 pub mod Reserve
+pub mod Tables
 pub mod Emit
 pub mod Lower

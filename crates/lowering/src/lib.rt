@@ -1,1 +1,2 @@
 // Lowering a netlist. (lib.rs of the Rust.)
+mod reserve;

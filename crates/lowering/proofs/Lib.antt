@@ -1,0 +1,3 @@
+-- The laws of lowering.
+pub mod Tables
+pub mod Declared

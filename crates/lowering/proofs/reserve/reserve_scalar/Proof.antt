@@ -1,0 +1,103 @@
+use borrow.Author.Needs.{needs}
+use Rattle.lowering.proofs.reserve.reserve_scalar.Statement.{statement}
+use Rattle.lowering.proofs.reserve.reserve_scalar.Tie as tie
+use Rattle.lowering.proofs.reserve.reserve_scalar.Reads as reads
+use Rattle.lowering.proofs.reserve.reserve_scalar.Lts as lts
+use Rattle.lowering.proofs.reserve.insert_wire.Reads as insert-wire-reads
+use Rattle.lowering.proofs.reserve.not_inserted.Reads as not-inserted-reads
+use Rattle.lowering.proofs.reserve.undeclared.Reads as undeclared-reads
+use Rattle.recorder.proofs.builder.signal.Reads as signal-reads
+
+-- src/reserve.rt:130:9
+signal-requires : tie.Need-signal-requires
+signal-requires c κs = search needs
+
+-- src/reserve.rt:131:24
+enum-known-d : tie.Need-enum-known-d
+enum-known-d c = search needs
+
+-- src/reserve.rt:132:9
+enum-told : tie.Need-enum-told
+enum-told c = search needs
+
+-- src/reserve.rt:132:9
+undeclared-requires : tie.Need-undeclared-requires
+undeclared-requires c κs = search needs
+
+-- src/reserve.rt:132:9
+same-length : tie.Need-same-length
+same-length c = search needs
+
+-- src/reserve.rt:132:9
+returns : tie.Need-returns
+returns c = ?
+
+-- src/reserve.rt:134:9
+insert-wire-requires : tie.Need-insert-wire-requires
+insert-wire-requires c κs = search needs
+
+enum-told-2 : tie.Need-enum-told-2
+enum-told-2 c = search needs
+
+-- src/reserve.rt:136:9
+enum-told-3 : tie.Need-enum-told-3
+enum-told-3 c = search needs
+
+-- src/reserve.rt:136:9
+not-inserted-requires : tie.Need-not-inserted-requires
+not-inserted-requires c κs = search needs
+
+-- src/reserve.rt:136:9
+same-length-2 : tie.Need-same-length-2
+same-length-2 c = search needs
+
+-- src/reserve.rt:136:9
+same-length-3 : tie.Need-same-length-3
+same-length-3 c = search needs
+
+-- src/reserve.rt:136:9
+same-length-4 : tie.Need-same-length-4
+same-length-4 c = search needs
+
+-- src/reserve.rt:136:9
+returns-2 : tie.Need-returns-2
+returns-2 c = ?
+
+-- src/reserve.rt:119:1
+same-length-5 : tie.Need-same-length-5
+same-length-5 c = search needs
+
+-- src/reserve.rt:119:1
+same-length-6 : tie.Need-same-length-6
+same-length-6 c = search needs
+
+-- src/reserve.rt:119:1
+same-length-7 : tie.Need-same-length-7
+same-length-7 c = search needs
+
+-- src/reserve.rt:119:1
+returns-3 : tie.Need-returns-3
+returns-3 c = ?
+
+pub reserve-scalar-spec : {M : Type 1} → statement M
+reserve-scalar-spec =
+    tie.close
+    (tie.spec
+    signal-requires
+    enum-known-d
+    enum-told
+    undeclared-requires
+    same-length
+    returns
+    insert-wire-requires
+    enum-told-2
+    enum-told-3
+    not-inserted-requires
+    same-length-2
+    same-length-3
+    same-length-4
+    returns-2
+    same-length-5
+    same-length-6
+    same-length-7
+    returns-3)
