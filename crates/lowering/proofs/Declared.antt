@@ -11,7 +11,7 @@ use Rattle.bits.specs.Bits.{pick}
 use Rattle.recorder.specs.declared.Tapes.{Tapes}
 use Rattle.recorder.specs.Record.{Signal, signalWords}
 use Rattle.recorder.specs.Writer.{Writer, declare}
-use Rattle.recorder.specs.Lists.{fits, lists, Lists, tapes, behind, over, play, Played, Played.going, Played.full, finish, Left, Answer, Answer.Done, Answer.Failed, Wrote, WroteSignals}
+use Rattle.recorder.specs.Lists.{fits, lists, Lists, tapes, behind, over, play, onward, Played, Played.going, Played.full, finish, Left, Answer, Answer.Done, Answer.Failed, Wrote, WroteSignals}
 use Rattle.recorder.specs.Writer.{End.ok}
 
 both : (a b : Bool) → a && b ≡ true → (a ≡ true) × (b ≡ true)
@@ -33,7 +33,13 @@ declared-small l t x n u l′ h = go (fits (length l) (t .signals) (length (sign
         inside p = omega (arith, leb-true (t .signals .count) (t .signals .used) (p .0), leb-true (t .signals .used + 4) (min (length l) 2147483648) (p .1))
 
     go : (b : Bool) → fits (length l) (t .signals) (length (signalWords x)) ≡ b
-        → _≡_ {A = Left ℕ} (finish (pick b (going (lists (over l (t .signals .used) (signalWords x)) [] []) (tapes (behind (t .signals) (length (signalWords x))) (t .exprs) (t .stmts))) (full 0 (lists l [] []))) (ok (t .signals .count))) (record { answer = Done n u; lists = lists l′ [] [] })
+        → _≡_ {A = Left ℕ} (finish (onward (pick b (going (lists (over l (t .signals .used) (signalWords x)) [] []) (tapes (behind (t .signals) (length (signalWords x))) (t .exprs) (t .stmts))) (full 0 (lists l [] []))) (λ k v. going k v)) (ok (t .signals .count))) (record { answer = Done n u; lists = lists l′ [] [] })
         → n < 2147483648
-    go true q e = let z : t .signals .count ≡ n = cc in omega (arith, room q)
-    go false q e = let z : _≡_ {A = ℕ} 0 1 = cc in absurd (omega arith)
+    go true q e =
+        let f : Done (t .signals .count) (tapes (behind (t .signals) (length (signalWords x))) (t .exprs) (t .stmts)) ≡ Done n u = ap (λ (y : Left ℕ). y .answer) e in
+        let z : t .signals .count ≡ n = cc in
+        omega (arith, room q)
+    go false q e =
+        let f : Failed 2 0 ≡ Done n u = ap (λ (y : Left ℕ). y .answer) e in
+        let z : _≡_ {A = ℕ} 0 1 = cc in
+        absurd (omega arith)

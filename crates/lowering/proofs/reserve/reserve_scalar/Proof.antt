@@ -1,3 +1,8 @@
+use Rattle.lowering.proofs.Reserved.{reserve-full, reserve-numbered, reserve-done, reserve-taken}
+use Rattle.lowering.specs.Reserve.{reserveScalar}
+use Rattle.wires.specs.Wires.{wiresOf}
+use mathlib.Core.Path.{_≡_, ap, sym, _∙_}
+use native.Mathlib.Omega.{arith}
 use borrow.Author.Needs.{needs}
 use Rattle.lowering.proofs.reserve.reserve_scalar.Statement.{statement}
 use Rattle.lowering.proofs.reserve.reserve_scalar.Tie as tie
@@ -30,7 +35,8 @@ same-length c = search needs
 
 -- src/reserve.rt:132:9
 returns : tie.Need-returns
-returns c = ?
+unfolding reserveScalar
+returns c = λ h. reserve-full _ (c .before .before .before .before .before .signal .result) (c .before .before .before .before .before .signal .ensures) (c .undeclared .result) _ (c .before .enum-told .given .1) (c .undeclared .ensures)
 
 -- src/reserve.rt:134:9
 insert-wire-requires : tie.Need-insert-wire-requires
@@ -61,7 +67,8 @@ same-length-4 c = search needs
 
 -- src/reserve.rt:136:9
 returns-2 : tie.Need-returns-2
-returns-2 c = ?
+unfolding reserveScalar
+returns-2 c = λ h. reserve-taken _ (c .before .before .before .before .before .before .before .before .before .before .before .before .before .before .before .signal .result) (c .before .before .before .before .before .before .before .before .before .before .before .before .before .before .before .signal .ensures) (c .before .before .before .before .before .before .before .before .before .before .before .d .given .1) (c .before .before .before .before .before .before .before .insert-wire .result) (wiresOf (c .before .before .before .before .before .before .before .insert-wire .last .0) (c .before .before .before .before .before .before .before .insert-wire .last .1 .0)) (c .before .before .before .before .before .before .before .insert-wire .ensures h (record { numbered = reserve-numbered _ (c .before .before .before .before .before .before .before .before .before .before .before .before .before .before .before .signal .result) (c .before .before .before .before .before .before .before .before .before .before .before .before .before .before .before .signal .ensures) (c .before .before .before .before .before .before .before .before .before .before .before .d .given .1); placed = omega arith; narrow = omega arith })) (c .not-inserted .result) (c .before .enum-told3 .given .1) (c .not-inserted .ensures)
 
 -- src/reserve.rt:119:1
 same-length-5 : tie.Need-same-length-5
@@ -77,7 +84,8 @@ same-length-7 c = search needs
 
 -- src/reserve.rt:119:1
 returns-3 : tie.Need-returns-3
-returns-3 c = ?
+unfolding reserveScalar
+returns-3 c = λ h. reserve-done _ (c .before .before .before .before .before .before .before .before .before .before .before .before .before .before .signal .result) (c .before .before .before .before .before .before .before .before .before .before .before .before .before .before .signal .ensures) (c .before .before .before .before .before .before .before .before .before .before .d .given .1) (c .before .before .before .before .before .before .insert-wire .result) (wiresOf (c .before .before .before .before .before .before .insert-wire .last .0) (c .before .before .before .before .before .before .insert-wire .last .1 .0)) (c .before .before .before .before .before .before .insert-wire .ensures h (record { numbered = reserve-numbered _ (c .before .before .before .before .before .before .before .before .before .before .before .before .before .before .signal .result) (c .before .before .before .before .before .before .before .before .before .before .before .before .before .before .signal .ensures) (c .before .before .before .before .before .before .before .before .before .before .d .given .1); placed = omega arith; narrow = omega arith })) (c .enum-told2 .given .1)
 
 pub reserve-scalar-spec : {M : Type 1} → statement M
 reserve-scalar-spec =
