@@ -96,6 +96,7 @@ module _ (n : ℕ) (two : 2 ≤ n) (m : Count) (later : n ≤ m .exprs) (x : ℕ
     where
       S : Rewrite → Type 0
       S r = Adds m (unfold emitRewrite in emitRewrite r) (Xored n i)
+
       new : {r : Expr} → Adds m (emit r) (Xored n i)
       new = adds-emit (record { few = omega arith; old = λ h. absurd (omega arith) })
 
@@ -113,8 +114,10 @@ module _ (n : ℕ) (two : 2 ≤ n) (m : Count) (later : n ≤ m .exprs) (x : ℕ
     where
       S : Rewrite → Type 0
       S r = Adds m (unfold emitRewrite in emitRewrite r) (Muxed n j i)
+
       new : {r : Expr} → Adds m (emit r) (Muxed n j i)
       new = adds-emit (record { few = inl (omega arith); old = λ h. absurd (omega arith) })
+
       news : (r : Expr) (k : ℕ → Expr) → (j ≡ 0) ⊎ (i ≡ 1) → Adds m (emit r >>= λ e. emit (k e)) (Muxed n j i)
       news r k c =
           adds-bind (λ e. emit (k e)) (Muxed n j i) (adds-emit {P = λ e z. z ≡ 1} refl)
@@ -226,8 +229,10 @@ module _ (x : ℕ) (xs : List ℕ) (counted : Counted xs) (n : Count) (t : ℕ) 
     where
       S : Writer ℕ → Type 0
       S w = Adds n w Fine
+
       none : {e : ℕ} → Fine e 0
       none = record { few = omega (arith, pow-pos (length xs)); old = λ h. refl }
+
       wider : (e k : ℕ) → Few (n .exprs) p e k → Fine e k
       wider e k h = record { few = omega (arith, h .few); old = h .old }
 

@@ -5,3 +5,4 @@ pub mod Lists
 pub mod Evaluate
 pub mod Meaning
 pub mod Read
+pub mod Words
