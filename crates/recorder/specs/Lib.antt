@@ -6,3 +6,4 @@ pub mod Evaluate
 pub mod Meaning
 pub mod Read
 pub mod Words
+pub mod Standing
