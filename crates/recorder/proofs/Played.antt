@@ -10,7 +10,7 @@ use native.Mathlib.Numerals.{add-one}
 use native.Mathlib.Omega.{arith}
 use lib.Dec.{leb}
 use lib.ListN.{length, take, drop, replicate, length-append, length-replicate}
-use lib.Seq.{sets, sets-eq, take-append-seam, drop-append-add, append-snoc}
+use lib.Seq.{sets, sets-eq, take-append-seam, drop-append-seam, drop-append-add, append-snoc}
 use borrow.Author.Tests.{le-leb, lt-leb, leb-true, leb-false}
 use Rattle.bits.specs.Bits.{pick}
 use Rattle.recorder.specs.declared.Tape.{Tape}
@@ -19,7 +19,7 @@ use Rattle.recorder.specs.Record.{Signal, Expr, Stmt, Model, signalWords
 use Rattle.recorder.specs.Writer.{Event, Event.signal, Event.expr, Event.stmt, signalsOf, exprsOf, stmtsOf, modelOf}
 use Rattle.recorder.specs.Lists.{fits, over, behind, Lists, lists, tapes, Played, Played.going, Played.full, listOf, hasRoom, laid, advanced, put, onward, play}
 use Rattle.recorder.proofs.Wrote.{play-append}
-use Rattle.recorder.specs.Words.{listWords, wordsOf, holding, holdingAll, tapeOf, tapesOf, nothing, plus, Fit, Filled}
+use Rattle.recorder.specs.Words.{listWords, wordsOf, holding, holdingAll, tapeOf, tapesOf, nothing, blank, unwritten, plus, Fit, Filled}
 
 -- ONE LIST
 
@@ -42,8 +42,15 @@ drop-zeros zero n = let e : n ≡ n - 0 = omega arith in ap (λ (j : ℕ). repli
 drop-zeros (suc k) zero = let e : 0 ≡ 0 - suc k = omega arith in ap (λ (j : ℕ). replicate {A = ℕ} j 0) e
 drop-zeros (suc k) (suc n) = let e : n - k ≡ suc n - suc k = omega arith in drop-zeros k n ∙ ap (λ (j : ℕ). replicate {A = ℕ} j 0) e
 
-length-holding : (len : ℕ) (ws : List ℕ) → length ws ≤ len → length (holding len ws) ≡ len
+pub length-holding : (len : ℕ) (ws : List ℕ) → length ws ≤ len → length (holding len ws) ≡ len
 length-holding len ws h = omega (arith, length-append ws (replicate (len - length ws) 0), length-replicate {A = ℕ} (len - length ws) 0)
+
+-- the words used, and the zeros behind them
+pub holding-words : (len : ℕ) (ws : List ℕ) → take (length ws) (holding len ws) ≡ ws
+holding-words len ws = take-append-seam ws (replicate (len - length ws) 0)
+
+pub holding-zeros : (len : ℕ) (ws : List ℕ) → drop (length ws) (holding len ws) ≡ replicate (len - length ws) 0
+holding-zeros len ws = drop-append-seam ws (replicate (len - length ws) 0)
 
 -- words laid behind those that are there
 holding-more : (len : ℕ) (ws vs : List ℕ) → length ws + length vs ≤ len → over (holding len ws) (length ws) vs ≡ holding len (ws ++ vs)
@@ -208,39 +215,45 @@ module _ (a b c : ℕ) where
   empty-fits : Fit a b c nothing
   empty-fits = record { signals = omega arith; exprs = omega arith; stmts = omega arith }
 
-  -- WHAT PLAYING FROM LISTS OF ZEROS GIVES
+  blank-is : blank a b c ≡ holdingAll a b c nothing
+  blank-is =
+      let whole : (n : ℕ) → n ≡ n - 0 = λ n. omega arith in
+      λ i. lists (replicate (whole a i) 0) (replicate (whole b i) 0) (replicate (whole c i) 0)
+
+  -- WHAT PLAYING INTO LISTS OF ZEROS GIVES
 
   -- records that fit lie in the lists, one after the other, with zeros behind them
-  pub played-fit : (es : List Event) → Fit a b c (modelOf es) → play (holdingAll a b c nothing) (tapesOf nothing) es ≡ going (holdingAll a b c (modelOf es)) (tapesOf (modelOf es))
-  played-fit es h = fit-play es nothing empty-fits h
+  pub played-fit : (es : List Event) → Fit a b c (modelOf es) → play (blank a b c) unwritten es ≡ going (holdingAll a b c (modelOf es)) (tapesOf (modelOf es))
+  played-fit es h = ap (λ (l : Lists). play l unwritten es) blank-is ∙ fit-play es nothing empty-fits h
 
-  pub played-full : (es : List Event) {i : ℕ} {l : Lists} → Filled a b c es i l → play (holdingAll a b c nothing) (tapesOf nothing) es ≡ full i l
+  -- the first that does not fit ends it
+  pub played-full : (es : List Event) {i : ℕ} {l : Lists} → Filled a b c es i l → play (blank a b c) unwritten es ≡ full i l
   unfolding play
   played-full es {i} {l} f =
-      ap (play (holdingAll a b c nothing) (tapesOf nothing)) (f .events)
-      ∙ play-append (f .done) (f .next ∷ f .rest) (holdingAll a b c nothing) (tapesOf nothing)
+      ap (play (blank a b c) unwritten) (f .events)
+      ∙ play-append (f .done) (f .next ∷ f .rest) (blank a b c) unwritten
       ∙ ap (λ (p : Played). onward p (λ l′ t′. play l′ t′ (f .next ∷ f .rest))) (played-fit (f .done) (f .fit))
       ∙ ap (λ (p : Played). onward p (λ l′ t′. play l′ t′ (f .rest))) (put-unfit (modelOf (f .done)) (f .next) (f .fit) (f .unfit))
       ∙ (λ j. full (f .list j) (f .held j))
 
-  -- and only so
-  either : (es : List Event) → Fit a b c (modelOf es) ⊎ First nothing es
-  either es = which es nothing empty-fits
+  -- there is no third way
+  pub fit-or-filled : (es : List Event) → Fit a b c (modelOf es) ⊎ ((i : ℕ) × (l : Lists) × Filled a b c es i l)
+  fit-or-filled es = ⊎-elim (λ h. inl h) (λ f. inr (listOf (f .next), holdingAll a b c (modelOf (f .done)), filled f)) (which es nothing empty-fits)
+    where
+      filled : (f : First nothing es) → Filled a b c es (listOf (f .next)) (holdingAll a b c (modelOf (f .done)))
+      filled f = record { done = f .done; next = f .next; rest = f .rest; events = f .events; fit = f .fit; unfit = f .unfit; list = refl; held = refl }
 
-  filled : (es : List Event) (f : First nothing es) → Filled a b c es (listOf (f .next)) (holdingAll a b c (modelOf (f .done)))
-  filled es f = record { done = f .done; next = f .next; rest = f .rest; events = f .events; fit = f .fit; unfit = f .unfit; list = refl; held = refl }
-
-  pub going-fit : (es : List Event) {l : Lists} {t : Tapes} → play (holdingAll a b c nothing) (tapesOf nothing) es ≡ going l t → Fit a b c (modelOf es) × (l ≡ holdingAll a b c (modelOf es)) × (t ≡ tapesOf (modelOf es))
+  -- so playing tells which of the two it was
+  pub going-fit : (es : List Event) {l : Lists} {t : Tapes} → play (blank a b c) unwritten es ≡ going l t → Fit a b c (modelOf es) × (l ≡ holdingAll a b c (modelOf es)) × (t ≡ tapesOf (modelOf es))
   going-fit es {l} {t} q =
       ⊎-elim
       (λ h. let p = played-fit es h in (h, cc, cc))
-      (λ f. let p = played-full es (filled es f) in let z : _≡_ {A = ℕ} 0 1 = cc in absurd (omega arith))
-      (either es)
+      (λ f. let p = played-full es (f .2) in let z : _≡_ {A = ℕ} 0 1 = cc in absurd (omega arith))
+      (fit-or-filled es)
 
-  pub full-filled : (es : List Event) {i : ℕ} {l : Lists} → play (holdingAll a b c nothing) (tapesOf nothing) es ≡ full i l → Filled a b c es i l
+  pub full-filled : (es : List Event) {i : ℕ} {l : Lists} → play (blank a b c) unwritten es ≡ full i l → Filled a b c es i l
   full-filled es {i} {l} q =
       ⊎-elim
       (λ h. let p = played-fit es h in let z : _≡_ {A = ℕ} 0 1 = cc in absurd (omega arith))
-      (λ f. let p = played-full es (filled es f) in
-      record { done = f .done; next = f .next; rest = f .rest; events = f .events; fit = f .fit; unfit = f .unfit; list = cc; held = cc })
-      (either es)
+      (λ f. let g = f .2 in let p = played-full es g in record { done = g .done; next = g .next; rest = g .rest; events = g .events; fit = g .fit; unfit = g .unfit; list = cc; held = cc })
+      (fit-or-filled es)

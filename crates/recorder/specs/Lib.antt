@@ -7,3 +7,4 @@ pub mod Meaning
 pub mod Read
 pub mod Words
 pub mod Standing
+pub mod Outcome

@@ -65,6 +65,13 @@ tapesOf m = tapes (tapeOf signalWords (m .signals)) (tapeOf exprWords (m .exprs)
 abbrev pub nothing : Model
 nothing = record { signals = []; exprs = []; stmts = [] }
 
+-- lists of zeros, and their tapes
+abbrev pub blank : ℕ → ℕ → ℕ → Lists
+blank a b c = lists (replicate a 0) (replicate b 0) (replicate c 0)
+
+abbrev pub unwritten : Tapes
+unwritten = tapesOf nothing
+
 -- one record more
 abbrev pub plus : Model → Event → Model
 plus m (signal s) = record { signals = m .signals ++ (s ∷ []); exprs = m .exprs; stmts = m .stmts }
