@@ -5,3 +5,6 @@ pub mod Lists
 pub mod Evaluate
 pub mod Meaning
 pub mod Read
+pub mod Words
+pub mod Standing
+pub mod Outcome

@@ -1,0 +1,3 @@
+-- Appending and Figures are for crates above.
+pub mod Appending
+pub mod Figures

@@ -1,0 +1,3 @@
+-- The specs of text.
+pub mod Decimal
+pub mod Text
