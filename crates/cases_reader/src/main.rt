@@ -1,8 +1,6 @@
 // Replays a stored test set against the check of netlist words: number of cases; per case the number and place of the refusal
 // (0 and 0 where the words are read), a count of words, and the words. Little-endian 32-bit words on standard input.
-ghost use mathlib.Core.Path.{_≡_};
-ghost use Prim.Native.Nat.{ℕ, _+_, _≤_, _<_};
-ghost use lib.ListN.{length};
+ghost use Prim.Native.Nat.{_+_, _<_};
 ghost use Rattle.io.specs.Counts.{Counts};
 use libc::STDOUT_FILENO;
 use netlist::Checked;

@@ -1,15 +1,14 @@
 -- For the checks of whole records: a value that was read before, and the kinds.
-use mathlib.Core.Path.{_≡_, refl, sym, _∙_, ap, subst}
-use mathlib.Core.Bool.{Bool, true, false}
-use mathlib.Core.List.{List, [], _∷_}
-use mathlib.Core.Option.{Option, none, some}
-use Prim.Native.Nat.{ℕ, zero, suc, _+_, _-_, _≤_, _<_}
+use mathlib.Core.Path.{_≡_, refl, sym, subst}
+use mathlib.Core.Bool.{Bool}
+use mathlib.Core.List.{List}
+use mathlib.Core.Option.{none}
+use Prim.Native.Nat.{ℕ, zero, suc, _+_, _-_, _≤_}
 use native.Mathlib.Omega.{arith}
-use lib.ListN.{length, getD}
+use lib.ListN.{getD}
 use Rattle.netlist.specs.declared.walk.Walk.{Walk}
-use Rattle.netlist.specs.Netlist.{Cell, SecondPort}
 use Rattle.netlist.specs.Reader
-use Rattle.netlist.specs.Reader.{Limits, base, Step, Parser, _>>=_, done, many}
+use Rattle.netlist.specs.Reader.{Limits, Parser, _>>=_}
 use Rattle.netlist.specs.Walk.{Passed, lastOf}
 use Rattle.netlist.proofs.WalkLaws.{then-value, passed-done}
 

@@ -1,27 +1,26 @@
 -- What the reader takes is what the fields say: a cell, a port, the whole netlist.
 use mathlib.Core.Path.{_≡_, refl, sym, _∙_, ap, subst}
 use mathlib.Core.List.{List, [], _∷_}
-use mathlib.Core.Option.{Option, none, some}
+use mathlib.Core.Option.{Option}
 use mathlib.Core.Bool.{Bool, true, false, _&&_}
-use Prim.Native.Nat.{ℕ, zero, suc, _+_, _-_, _≤_, _<_}
-use native.Mathlib.Nat.{add-zero}
+use Prim.Native.Nat.{ℕ, zero, suc, _+_, _≤_, _<_}
 use native.Mathlib.Omega.{arith}
-use lib.ListN.{length, getD}
+use lib.ListN.{getD}
 use lib.Dec.{ltb, leb, eqb}
 use borrow.Author.Tests.{leb-true, eqb-true}
 use Rattle.settle.specs.Tests.{and-left, and-right}
 use Rattle.netlist.specs.declared.Bit.{Bit}
-use Rattle.netlist.specs.Netlist.{bitOf, Control, Reset, SecondPort, Cell, Port, Netlist}
+use Rattle.netlist.specs.Netlist.{bitOf, Control, Reset, Cell, Port, Netlist}
 use Rattle.netlist.specs.Reader
-use Rattle.netlist.specs.Reader.{Limits, Read, netlist, refused, Step, got, fault, Parser, andThen, _>>=_, done, many, judged, fetched, closed, shiftOf, shiftFits}
+use Rattle.netlist.specs.Reader.{Limits, netlist, Step, got, fault, Parser, andThen, _>>=_, done, many, judged, fetched, closed}
 use Rattle.netlist.specs.Fields
-use Rattle.netlist.specs.Shape.{FitsCell, FitsPort, Each, Row, each-at}
-use Rattle.netlist.specs.ReaderLaws.{Parts, parts, Went, went, At, many-at, trailerAt, portCountOf, cellsAtOf, cellCountOf}
+use Rattle.netlist.specs.Shape.{FitsCell, FitsPort, Row}
+use Rattle.netlist.specs.ReaderLaws.{parts, went, many-at, trailerAt, portCountOf, cellsAtOf, cellCountOf}
 use Rattle.netlist.specs.ReaderFits.{Outcome, Sound, many-sound, cell-sound, port-sound}
 use Rattle.netlist.specs.Placed.{portPlace, cellPlace, Laid, PortPlaced, CellPlaced}
 use Rattle.netlist.proofs.RecordLaws.{end-after}
 use Rattle.netlist.specs.Fields.{recordsAt, endAt, after, whenSet, sizeIf, wordAt, bitAt, bitsAt, wiresAt, controlAt, optionalControlAt, resetAt, optionalResetAt}
-use Rattle.netlist.specs.Fields.{lut4At, pfumxAt, l6mux21At, ccu2cAt, multiplierAt, flipFlopAt, firstSize, secondSize, secondPortAt, blockRamAt, distributedRamAt, ioAt, jtaggAt, pllAt, kindsAt, cellAt, blockRamSize, pllSize, sizesAt, cellSize, cellEnd, cellsAt, portAt, portSize, portEnd, portsAt, layoutOf, netlistAt}
+use Rattle.netlist.specs.Fields.{lut4At, pfumxAt, l6mux21At, ccu2cAt, multiplierAt, flipFlopAt, firstSize, secondSize, secondPortAt, blockRamAt, distributedRamAt, ioAt, jtaggAt, pllAt, kindsAt, cellAt, blockRamSize, pllSize, sizesAt, cellSize, cellEnd, portAt, portSize, portEnd, portsAt, layoutOf, netlistAt}
 
 -- a step that got something got this, and ends there
 abbrev pub Gives : {A : Type 0} → Step A → A → ℕ → Type 0

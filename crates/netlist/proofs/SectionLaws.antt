@@ -4,36 +4,33 @@ use mathlib.Core.List.{List, [], _∷_, _++_}
 use mathlib.Core.Option.{Option, none, some}
 use mathlib.Core.Bool.{Bool, true, false, _&&_}
 use Prim.Native.Nat.{ℕ, zero, suc, _+_, _-_, _≤_, _<_, min, zero-le}
-use native.Mathlib.Nat.{add-zero, add-suc}
+use native.Mathlib.Nat.{add-zero}
 use native.Mathlib.Numerals.{add-one}
 use native.Mathlib.Omega.{arith}
-use lib.Dec.{ltb, leb, eqb, eqb·zero-suc, eqb·suc-zero, eqb·suc-suc}
+use lib.Dec.{leb, eqb, eqb·zero-suc, eqb·suc-zero, eqb·suc-suc}
 use lib.ListN.{length, getD, length-append}
-use borrow.Author.Tests.{eq-eqb, ne-eqb, eqb-true, eqb-false, le-leb, lt-leb, lt-ltb, leb-true}
+use borrow.Author.Tests.{eq-eqb, ne-eqb, eqb-true, eqb-false, le-leb, lt-leb, leb-true}
 use Rattle.settle.specs.Tests.{and-left, and-right}
 use Rattle.refusal.specs.declared.Refusal.{Refusal}
-use Rattle.refusal.specs.declared.Refusal.the-variants.{WordCount, WordValue, BadTrailer, UnsupportedTrueDualPortMemoryClocking}
+use Rattle.refusal.specs.declared.Refusal.the-variants.{WordCount, WordValue}
 use Rattle.refusal.specs.Refusal.{numberOf, placeOf}
-use Rattle.netlist.specs.declared.Bit.{Bit}
-use Rattle.netlist.specs.declared.Bit.the-variants.{Zero, One, Wire}
 use Rattle.netlist.specs.declared.Layout.{Layout}
 use Rattle.netlist.specs.declared.Checked as ck
 use Rattle.netlist.specs.declared.walk.Walk.{Walk}
 use Rattle.netlist.specs.declared.walk.Walk.the-variants.{At, Refused}
 use Rattle.netlist.specs.declared.sections.Found as fo
 use Rattle.netlist.specs.declared.sections.Cells.{Cells}
-use Rattle.netlist.specs.Netlist.{bitOf, Cell, Port, Netlist, SecondPort}
+use Rattle.netlist.specs.Netlist.{bitOf, Cell, Port, Netlist}
 use Rattle.netlist.specs.Reader
-use Rattle.netlist.specs.Reader.{Limits, base, Read, netlist, refused, Step, got, fault, Parser, andThen, _>>=_, done, many, closed, sameBit, clocksAgree, oneClock, firstNot, clocked, withCells, withPorts, trailerFits, sections, withTrailer, readWords}
-use Rattle.netlist.specs.ReaderLaws.{many-last, many-more, many-fault, many-faulty, Went, went}
+use Rattle.netlist.specs.Reader.{Limits, netlist, refused, Step, got, fault, Parser, andThen, _>>=_, many, closed, sameBit, clocksAgree, oneClock, firstNot, clocked, withCells, withPorts, trailerFits, sections, withTrailer, readWords}
+use Rattle.netlist.specs.ReaderLaws.{many-more, many-fault, many-faulty}
 use Rattle.netlist.specs.Shape.{Row, FitsPort, FitsCell}
-use Rattle.netlist.specs.ReaderFits.{Outcome, Sound, ports-sound, cells-sound}
-use Rattle.netlist.specs.Fields.{wordAt, bitAt, whenSet, firstSize, secondPortAt, ramAt, blockRamAt, pllAt, kindsAt, cellAt, layoutOf, netlistAt}
+use Rattle.netlist.specs.ReaderFits.{Outcome, ports-sound, cells-sound}
+use Rattle.netlist.specs.Fields.{wordAt, bitAt, whenSet, firstSize, secondPortAt, ramAt, blockRamAt, pllAt, kindsAt, cellAt, layoutOf}
 use Rattle.netlist.specs.Walk.{refusalOf, walkOf, along, Passed, endsAt}
 use Rattle.netlist.specs.Checks.{Checks, found, firstOf, CellsChecked, sectionsOf, Reads, SectionsChecked}
 use Rattle.netlist.proofs.WordLaws.{word-ahead}
 use Rattle.netlist.proofs.FieldLaws.{cell-law, netlist-law}
-use Rattle.netlist.proofs.WalkLaws.{then-go}
 
 -- THE END of a section
 

@@ -1,17 +1,14 @@
 -- Laws of walks: one field after the other, and a loop over words.
 use mathlib.Core.Path.{_≡_, refl, sym, _∙_, ap, subst}
-use mathlib.Core.List.{List, [], _∷_}
-use mathlib.Core.Option.{Option, none, some}
+use mathlib.Core.List.{List, _∷_}
+use mathlib.Core.Option.{none, some}
 use mathlib.Core.Bool.{Bool, true, false, _&&_}
 use Prim.Native.Nat.{ℕ, zero, suc, _+_, _-_, _≤_, _<_}
 use native.Mathlib.Omega.{arith}
-use native.Mathlib.Numerals.{add-one}
-use lib.Dec.{ltb, leb, eqb}
-use lib.ListN.{length, getD}
-use borrow.Author.Tests.{lt-ltb, le-ltb, le-leb, lt-leb}
+use lib.Dec.{ltb, leb}
+use borrow.Author.Tests.{le-leb, lt-leb}
 use Rattle.refusal.specs.declared.Refusal.{Refusal}
 use Rattle.refusal.specs.declared.Refusal.the-variants.{WordCount, WordValue}
-use Rattle.netlist.specs.declared.Bit.{Bit}
 use Rattle.netlist.specs.declared.Bit.the-variants.{Zero}
 use Rattle.netlist.specs.declared.walk.Walk.{Walk}
 use Rattle.netlist.specs.declared.walk.Walk.the-variants.{At, Refused}
@@ -20,7 +17,7 @@ use Rattle.netlist.specs.Reader
 use Rattle.netlist.specs.Reader.{Limits, base, Step, got, fault, Parser, andThen, _>>=_, done, many, judged, fetched}
 use Rattle.netlist.specs.ReaderLaws.{word-missing, word-there, below-taken, below-wrong}
 use Rattle.netlist.specs.Fields.{wordAt}
-use Rattle.netlist.specs.Walk.{refusalOf, walkOf, along, Passed, peekOf, lastOf}
+use Rattle.netlist.specs.Walk.{walkOf, along, Passed, peekOf, lastOf}
 
 -- what was refused stays refused
 pub stays : {A : Type 0} (w : Walk) (p : Parser A) (x : Refusal) → w ≡ Refused x → Passed w p w

@@ -1,10 +1,9 @@
 -- For the field readers: words past the end, an index that was cut to the number of words, sizes by kind.
 use mathlib.Core.Path.{_≡_, refl, sym, _∙_, ap, subst}
-use mathlib.Core.Logic.{_⊎_, inl, inr}
 use mathlib.Core.List.{List, [], _∷_, _++_}
-use mathlib.Core.Option.{Option, none, some}
+use mathlib.Core.Option.{none, some}
 use mathlib.Core.Bool.{Bool, true, false}
-use Prim.Native.Nat.{ℕ, zero, suc, _+_, _-_, _≤_, _<_, min}
+use Prim.Native.Nat.{ℕ, zero, suc, _+_, _-_, _≤_, min}
 use native.Mathlib.Nat.{add-zero}
 use native.Mathlib.Numerals.{add-one}
 use native.Mathlib.Omega.{arith}
@@ -12,10 +11,10 @@ use lib.Dec.{leb}
 use lib.ListN.{length, getD, List·getD-eq-default}
 use borrow.Author.Tests.{leb-true, leb-false}
 use Rattle.netlist.specs.declared.Bit.{Bit}
-use Rattle.netlist.specs.declared.Bit.the-variants.{Zero, One, Wire}
-use Rattle.netlist.specs.Netlist.{bitOf, Control, Reset}
-use Rattle.netlist.specs.Fields.{recordsAt, endAt, after, whenSet, sizeIf, wordAt, bitAt, bitsAt, controlAt, optionalControlAt, resetAt, optionalResetAt, pllSize, blockRamSize, sizesAt, cellSize}
-use Rattle.netlist.proofs.RecordLaws.{end-after, end-more}
+use Rattle.netlist.specs.declared.Bit.the-variants.{Wire}
+use Rattle.netlist.specs.Netlist.{bitOf}
+use Rattle.netlist.specs.Fields.{recordsAt, endAt, after, whenSet, sizeIf, wordAt, bitAt, bitsAt, controlAt, resetAt, pllSize, sizesAt, cellSize}
+use Rattle.netlist.proofs.RecordLaws.{end-after}
 
 pub bitOf-wire : (n : ℕ) → (n ≡ 0 → ⊥) → (n ≡ 1 → ⊥) → Wire (n - 2) ≡ bitOf n
 bitOf-wire zero h g = absurd (h refl)

@@ -3,7 +3,7 @@ use mathlib.Core.Path.{_≡_}
 use mathlib.Core.List.{List}
 use mathlib.Core.Bool.{Bool, true, false}
 use mathlib.Core.Option.{Option, none, some}
-use Prim.Native.Nat.{ℕ, _+_}
+use Prim.Native.Nat.{ℕ}
 use Rattle.refusal.specs.Refusal.{numberOf, placeOf}
 use Rattle.netlist.specs.declared.Layout.{Layout}
 use Rattle.netlist.specs.declared.Checked as c

@@ -1,7 +1,7 @@
 // A block RAM's shape.
 use super::fields::wide;
 ghost use mathlib.Core.Path.{_≡_};
-ghost use Prim.Native.Nat.{ℕ, _+_, _≤_};
+ghost use Prim.Native.Nat.{_+_};
 ghost use Rattle.netlist.specs.Reader.{addressWidth, shiftOf, shiftFits};
 ghost use Rattle.netlist.specs.FieldForms.{shiftGiven};
 

@@ -5,12 +5,11 @@ use super::fields::wide;
 use super::fields::word;
 use refusal::Refusal;
 ghost use mathlib.Core.Path.{_≡_};
-ghost use mathlib.Core.Bool.{Bool, _&&_};
-ghost use mathlib.Core.Option.{Option};
-ghost use Prim.Native.Nat.{ℕ, _+_, _≤_, _<_};
+ghost use mathlib.Core.Bool.{_&&_};
+ghost use Prim.Native.Nat.{_+_, _<_};
 ghost use lib.Dec.{leb, ltb};
 ghost use Rattle.netlist.specs.Reader;
-ghost use Rattle.netlist.specs.Reader.{base, many, addressWidth, shiftOf, shiftFits};
+ghost use Rattle.netlist.specs.Reader.{base, many};
 ghost use Rattle.netlist.specs.Walk.{Passed, peekOf, lastOf};
 
 pub enum Walk {

@@ -2,14 +2,10 @@ use mathlib.Core.Path.{_≡_}
 use mathlib.Core.List.{List}
 use Prim.Native.Nat.{ℕ, _≤_}
 use native.Mathlib.Omega.{arith}
-use lib.ListN.{length, take, length-take, length-set}
+use lib.ListN.{length, take, length-take}
 use borrow.Author.Needs.{needs}
 use Rattle.cases_reader.proofs.read_words.Statement.{statement}
 use Rattle.cases_reader.proofs.read_words.Tie as tie
-use Rattle.cases_reader.proofs.read_words.Reads as reads
-use Rattle.cases_reader.proofs.read_words.Lts as lts
-use Rattle.cases_reader.proofs.words_of.Reads as words-of-reads
-use Rattle.io.proofs.read_full.Reads as read-full-reads
 
 take-long : (n : ℕ) (l : List ℕ) → n ≤ length l → n ≡ length (take n l)
 take-long n l h = simp length-take (omega arith)

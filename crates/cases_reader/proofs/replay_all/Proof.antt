@@ -1,13 +1,10 @@
 use native.Mathlib.Omega.{arith}
 use borrow.Author.Needs.{needs}
-use mathlib.Core.Path.{_≡_, refl, sym, ap, _∙_}
-use lib.ListN.{length, take, length-take, length-set}
-use Prim.Native.Nat.{ℕ, _≤_, _-_}
+use mathlib.Core.Path.{_≡_, refl, _∙_}
+use lib.ListN.{length}
+use Prim.Native.Nat.{_-_}
 use Rattle.cases_reader.proofs.replay_all.Statement.{statement}
 use Rattle.cases_reader.proofs.replay_all.Tie as tie
-use Rattle.cases_reader.proofs.replay_all.Reads as reads
-use Rattle.cases_reader.proofs.replay_all.Lts as lts
-use Rattle.cases_reader.proofs.replay.Reads as replay-reads
 
 abbrev Inv-loop : tie.InvT-loop
 Inv-loop bytes₀ words₀ count case₀ bytes words case = (length bytes ≡ length bytes₀) × (length words ≡ length words₀)

@@ -1,13 +1,10 @@
 use native.Mathlib.Omega.{arith}
 use borrow.Author.Needs.{needs}
-use mathlib.Core.Path.{_≡_, refl, sym, ap, _∙_}
-use lib.ListN.{length, take, length-take, length-set}
-use Prim.Native.Nat.{ℕ, _≤_, _-_}
+use mathlib.Core.Path.{_≡_, refl}
+use lib.ListN.{length, length-take, length-set}
+use Prim.Native.Nat.{_≤_, _-_}
 use Rattle.cases_reader.proofs.words_of.Statement.{statement}
 use Rattle.cases_reader.proofs.words_of.Tie as tie
-use Rattle.cases_reader.proofs.words_of.Reads as reads
-use Rattle.cases_reader.proofs.words_of.Lts as lts
-use Rattle.cases_reader.proofs.le_word.Reads as le-word-reads
 
 abbrev Inv-loop : tie.InvT-loop
 Inv-loop bytes out₀ n k₀ out k = (k ≤ n) × (k ≤ length out) × (length out ≡ length out₀)

@@ -1,14 +1,8 @@
-use mathlib.Core.Path.{_≡_, refl, sym, ap, _∙_}
+use mathlib.Core.Path.{_∙_}
 use Rattle.netlist.proofs.SectionLaws.{too-short, bad-trailer, inside-of, answers}
 use borrow.Author.Needs.{needs}
 use Rattle.netlist.proofs.check.Statement.{statement}
 use Rattle.netlist.proofs.check.Tie as tie
-use Rattle.netlist.proofs.check.Reads as reads
-use Rattle.netlist.proofs.check.Lts as lts
-use Rattle.netlist.proofs.fields.wide.Reads as wide-reads
-use Rattle.netlist.proofs.fields.word.Reads as word-reads
-use Rattle.netlist.proofs.sections.check_sections.Reads as check-sections-reads
-use Rattle.netlist.proofs.trailer_fits.Reads as trailer-fits-reads
 
 -- src/lib.rt:92:9
 returns : tie.Need-returns

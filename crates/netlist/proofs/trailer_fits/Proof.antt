@@ -1,8 +1,6 @@
 use Rattle.netlist.proofs.SectionLaws.{not-zero, many-ports, start-past, start-inside}
 use Rattle.netlist.proofs.trailer_fits.Statement.{statement}
 use Rattle.netlist.proofs.trailer_fits.Tie as tie
-use Rattle.netlist.proofs.trailer_fits.Reads as reads
-use Rattle.netlist.proofs.trailer_fits.Lts as lts
 
 -- src/lib.rt:75:9
 returns : tie.Need-returns

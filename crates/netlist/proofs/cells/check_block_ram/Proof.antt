@@ -3,23 +3,10 @@ use Rattle.netlist.proofs.CellLaws.{then-known}
 use Rattle.netlist.specs.declared.Bit.the-variants.{Zero}
 use mathlib.Core.List.{[]}
 use mathlib.Core.Option.{none}
-use mathlib.Core.Path.{_≡_, refl, sym, ap, _∙_}
+use mathlib.Core.Path.{_∙_}
 use borrow.Author.Needs.{needs}
 use Rattle.netlist.proofs.cells.check_block_ram.Statement.{statement}
 use Rattle.netlist.proofs.cells.check_block_ram.Tie as tie
-use Rattle.netlist.proofs.cells.check_block_ram.Reads as reads
-use Rattle.netlist.proofs.cells.check_block_ram.Lts as lts
-use Rattle.netlist.proofs.cells.check_physical.Reads as check-physical-reads
-use Rattle.netlist.proofs.cells.check_second.Reads as check-second-reads
-use Rattle.netlist.proofs.fields.wide.Reads as wide-reads
-use Rattle.netlist.proofs.walk.check_below.Reads as check-below-reads
-use Rattle.netlist.proofs.walk.check_bit.Reads as check-bit-reads
-use Rattle.netlist.proofs.walk.check_bits.Reads as check-bits-reads
-use Rattle.netlist.proofs.walk.check_control.Reads as check-control-reads
-use Rattle.netlist.proofs.walk.check_optional_control.Reads as check-optional-control-reads
-use Rattle.netlist.proofs.walk.check_wires.Reads as check-wires-reads
-use Rattle.netlist.proofs.walk.check_within.Reads as check-within-reads
-use Rattle.netlist.proofs.walk.last.Reads as last-reads
 
 -- src/cells.rt:104:9
 check-within-requires : tie.Need-check-within-requires

@@ -2,11 +2,6 @@ use Rattle.netlist.proofs.CellLaws.{then-known}
 use borrow.Author.Needs.{needs}
 use Rattle.netlist.proofs.cells.check_cell.Statement.{statement}
 use Rattle.netlist.proofs.cells.check_cell.Tie as tie
-use Rattle.netlist.proofs.cells.check_cell.Reads as reads
-use Rattle.netlist.proofs.cells.check_cell.Lts as lts
-use Rattle.netlist.proofs.cells.check_kind.Reads as check-kind-reads
-use Rattle.netlist.proofs.walk.check_below.Reads as check-below-reads
-use Rattle.netlist.proofs.walk.last.Reads as last-reads
 
 -- src/cells.rt:194:9
 check-below-requires : tie.Need-check-below-requires

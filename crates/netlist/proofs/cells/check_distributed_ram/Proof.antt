@@ -1,19 +1,9 @@
 use Rattle.netlist.proofs.WalkLaws.{then-go, passed-done}
-use Rattle.netlist.proofs.CellLaws.{then-known}
 use Rattle.netlist.specs.declared.Bit.the-variants.{Zero}
 use mathlib.Core.List.{[]}
-use mathlib.Core.Option.{none}
-use mathlib.Core.Path.{_≡_, refl, sym, ap, _∙_}
 use borrow.Author.Needs.{needs}
 use Rattle.netlist.proofs.cells.check_distributed_ram.Statement.{statement}
 use Rattle.netlist.proofs.cells.check_distributed_ram.Tie as tie
-use Rattle.netlist.proofs.cells.check_distributed_ram.Reads as reads
-use Rattle.netlist.proofs.cells.check_distributed_ram.Lts as lts
-use Rattle.netlist.proofs.walk.check_below.Reads as check-below-reads
-use Rattle.netlist.proofs.walk.check_bit.Reads as check-bit-reads
-use Rattle.netlist.proofs.walk.check_bits.Reads as check-bits-reads
-use Rattle.netlist.proofs.walk.check_control.Reads as check-control-reads
-use Rattle.netlist.proofs.walk.check_wires.Reads as check-wires-reads
 
 -- src/cells.rt:126:9
 check-bits-requires : tie.Need-check-bits-requires

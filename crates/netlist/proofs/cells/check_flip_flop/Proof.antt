@@ -1,19 +1,9 @@
 use Rattle.netlist.proofs.WalkLaws.{then-go, passed-done}
-use Rattle.netlist.proofs.CellLaws.{then-known}
 use Rattle.netlist.specs.declared.Bit.the-variants.{Zero}
-use mathlib.Core.List.{[]}
 use mathlib.Core.Option.{none}
-use mathlib.Core.Path.{_≡_, refl, sym, ap, _∙_}
 use borrow.Author.Needs.{needs}
 use Rattle.netlist.proofs.cells.check_flip_flop.Statement.{statement}
 use Rattle.netlist.proofs.cells.check_flip_flop.Tie as tie
-use Rattle.netlist.proofs.cells.check_flip_flop.Reads as reads
-use Rattle.netlist.proofs.cells.check_flip_flop.Lts as lts
-use Rattle.netlist.proofs.walk.check_below.Reads as check-below-reads
-use Rattle.netlist.proofs.walk.check_bit.Reads as check-bit-reads
-use Rattle.netlist.proofs.walk.check_optional_control.Reads as check-optional-control-reads
-use Rattle.netlist.proofs.walk.check_optional_reset.Reads as check-optional-reset-reads
-use Rattle.netlist.proofs.walk.check_wire.Reads as check-wire-reads
 
 -- src/cells.rt:69:9
 check-bit-requires : tie.Need-check-bit-requires

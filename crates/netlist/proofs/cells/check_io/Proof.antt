@@ -1,16 +1,8 @@
 use Rattle.netlist.proofs.WalkLaws.{then-go, passed-done}
-use Rattle.netlist.proofs.CellLaws.{then-known}
 use Rattle.netlist.specs.declared.Bit.the-variants.{Zero}
-use mathlib.Core.List.{[]}
-use mathlib.Core.Option.{none}
-use mathlib.Core.Path.{_≡_, refl, sym, ap, _∙_}
 use borrow.Author.Needs.{needs}
 use Rattle.netlist.proofs.cells.check_io.Statement.{statement}
 use Rattle.netlist.proofs.cells.check_io.Tie as tie
-use Rattle.netlist.proofs.cells.check_io.Reads as reads
-use Rattle.netlist.proofs.cells.check_io.Lts as lts
-use Rattle.netlist.proofs.walk.check_bit.Reads as check-bit-reads
-use Rattle.netlist.proofs.walk.check_wire.Reads as check-wire-reads
 
 -- src/cells.rt:139:9
 check-wire-requires : tie.Need-check-wire-requires

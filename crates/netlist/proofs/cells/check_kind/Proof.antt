@@ -2,13 +2,6 @@ use Rattle.netlist.proofs.CellLaws.{kind-is}
 use borrow.Author.Needs.{needs}
 use Rattle.netlist.proofs.cells.check_kind.Statement.{statement}
 use Rattle.netlist.proofs.cells.check_kind.Tie as tie
-use Rattle.netlist.proofs.cells.check_kind.Reads as reads
-use Rattle.netlist.proofs.cells.check_kind.Lts as lts
-use Rattle.netlist.proofs.cells.check_ccu2c.Reads as check-ccu2c-reads
-use Rattle.netlist.proofs.cells.check_late_kind.Reads as check-late-kind-reads
-use Rattle.netlist.proofs.cells.check_lut4.Reads as check-lut4-reads
-use Rattle.netlist.proofs.cells.check_multiplier.Reads as check-multiplier-reads
-use Rattle.netlist.proofs.cells.check_mux.Reads as check-mux-reads
 
 -- src/cells.rt:182:14
 check-lut4-requires : tie.Need-check-lut4-requires

@@ -2,14 +2,6 @@ use Rattle.netlist.proofs.CellLaws.{kind-is, kind-last}
 use borrow.Author.Needs.{needs}
 use Rattle.netlist.proofs.cells.check_late_kind.Statement.{statement}
 use Rattle.netlist.proofs.cells.check_late_kind.Tie as tie
-use Rattle.netlist.proofs.cells.check_late_kind.Reads as reads
-use Rattle.netlist.proofs.cells.check_late_kind.Lts as lts
-use Rattle.netlist.proofs.cells.check_block_ram.Reads as check-block-ram-reads
-use Rattle.netlist.proofs.cells.check_distributed_ram.Reads as check-distributed-ram-reads
-use Rattle.netlist.proofs.cells.check_flip_flop.Reads as check-flip-flop-reads
-use Rattle.netlist.proofs.cells.check_io.Reads as check-io-reads
-use Rattle.netlist.proofs.cells.check_jtagg.Reads as check-jtagg-reads
-use Rattle.netlist.proofs.cells.check_pll.Reads as check-pll-reads
 
 -- src/cells.rt:169:14
 check-flip-flop-requires : tie.Need-check-flip-flop-requires

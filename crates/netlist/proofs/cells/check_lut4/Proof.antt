@@ -1,17 +1,8 @@
 use Rattle.netlist.proofs.WalkLaws.{then-go, passed-done}
-use Rattle.netlist.proofs.CellLaws.{then-known}
-use Rattle.netlist.specs.declared.Bit.the-variants.{Zero}
 use mathlib.Core.List.{[]}
-use mathlib.Core.Option.{none}
-use mathlib.Core.Path.{_≡_, refl, sym, ap, _∙_}
 use borrow.Author.Needs.{needs}
 use Rattle.netlist.proofs.cells.check_lut4.Statement.{statement}
 use Rattle.netlist.proofs.cells.check_lut4.Tie as tie
-use Rattle.netlist.proofs.cells.check_lut4.Reads as reads
-use Rattle.netlist.proofs.cells.check_lut4.Lts as lts
-use Rattle.netlist.proofs.walk.check_below.Reads as check-below-reads
-use Rattle.netlist.proofs.walk.check_bits.Reads as check-bits-reads
-use Rattle.netlist.proofs.walk.check_wire.Reads as check-wire-reads
 
 -- src/cells.rt:28:9
 check-bits-requires : tie.Need-check-bits-requires

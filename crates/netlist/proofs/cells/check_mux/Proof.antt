@@ -3,10 +3,6 @@ use Rattle.netlist.specs.declared.Bit.the-variants.{Zero}
 use borrow.Author.Needs.{needs}
 use Rattle.netlist.proofs.cells.check_mux.Statement.{statement}
 use Rattle.netlist.proofs.cells.check_mux.Tie as tie
-use Rattle.netlist.proofs.cells.check_mux.Reads as reads
-use Rattle.netlist.proofs.cells.check_mux.Lts as lts
-use Rattle.netlist.proofs.walk.check_bit.Reads as check-bit-reads
-use Rattle.netlist.proofs.walk.check_wire.Reads as check-wire-reads
 
 -- src/cells.rt:37:9
 check-bit-requires : tie.Need-check-bit-requires

@@ -1,15 +1,10 @@
 use Rattle.netlist.proofs.WalkLaws.{passed-test}
 use Prim.Native.Nat.{ℕ}
-use mathlib.Core.Path.{_≡_, refl, sym, ap, _∙_}
+use mathlib.Core.Path.{ap, _∙_}
 use Rattle.netlist.specs.Reader.{base, shiftOf, shiftFits}
 use borrow.Author.Needs.{needs}
 use Rattle.netlist.proofs.cells.check_physical.Statement.{statement}
 use Rattle.netlist.proofs.cells.check_physical.Tie as tie
-use Rattle.netlist.proofs.cells.check_physical.Reads as reads
-use Rattle.netlist.proofs.cells.check_physical.Lts as lts
-use Rattle.netlist.proofs.ram.shift_fits.Reads as shift-fits-reads
-use Rattle.netlist.proofs.walk.check_word.Reads as check-word-reads
-use Rattle.netlist.proofs.walk.peek.Reads as peek-reads
 
 -- src/cells.rt:81:32
 peek-requires : tie.Need-peek-requires

@@ -2,19 +2,10 @@ use Rattle.netlist.proofs.WalkLaws.{then-go, passed-done}
 use Rattle.netlist.proofs.CellLaws.{then-known}
 use Rattle.netlist.specs.declared.Bit.the-variants.{Zero}
 use mathlib.Core.List.{[]}
-use mathlib.Core.Option.{none}
-use mathlib.Core.Path.{_≡_, refl, sym, ap, _∙_}
+use mathlib.Core.Path.{_∙_}
 use borrow.Author.Needs.{needs}
 use Rattle.netlist.proofs.cells.check_pll.Statement.{statement}
 use Rattle.netlist.proofs.cells.check_pll.Tie as tie
-use Rattle.netlist.proofs.cells.check_pll.Reads as reads
-use Rattle.netlist.proofs.cells.check_pll.Lts as lts
-use Rattle.netlist.proofs.fields.wide.Reads as wide-reads
-use Rattle.netlist.proofs.walk.check_below.Reads as check-below-reads
-use Rattle.netlist.proofs.walk.check_bit.Reads as check-bit-reads
-use Rattle.netlist.proofs.walk.check_wire.Reads as check-wire-reads
-use Rattle.netlist.proofs.walk.check_wires.Reads as check-wires-reads
-use Rattle.netlist.proofs.walk.last.Reads as last-reads
 
 -- src/cells.rt:154:9
 check-bit-requires : tie.Need-check-bit-requires

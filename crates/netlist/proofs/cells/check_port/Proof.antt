@@ -1,19 +1,10 @@
 use Rattle.netlist.proofs.WalkLaws.{then-go, passed-done}
 use Rattle.netlist.proofs.CellLaws.{then-known}
-use Rattle.netlist.specs.declared.Bit.the-variants.{Zero}
 use mathlib.Core.List.{[]}
-use mathlib.Core.Option.{none}
-use mathlib.Core.Path.{_≡_, refl, sym, ap, _∙_}
+use mathlib.Core.Path.{_∙_}
 use borrow.Author.Needs.{needs}
 use Rattle.netlist.proofs.cells.check_port.Statement.{statement}
 use Rattle.netlist.proofs.cells.check_port.Tie as tie
-use Rattle.netlist.proofs.cells.check_port.Reads as reads
-use Rattle.netlist.proofs.cells.check_port.Lts as lts
-use Rattle.netlist.proofs.fields.wide.Reads as wide-reads
-use Rattle.netlist.proofs.walk.check_below.Reads as check-below-reads
-use Rattle.netlist.proofs.walk.check_bits.Reads as check-bits-reads
-use Rattle.netlist.proofs.walk.check_within.Reads as check-within-reads
-use Rattle.netlist.proofs.walk.last.Reads as last-reads
 
 -- src/cells.rt:202:9
 check-below-requires : tie.Need-check-below-requires

@@ -6,14 +6,6 @@ use mathlib.Core.Option.{none}
 use borrow.Author.Needs.{needs}
 use Rattle.netlist.proofs.cells.check_second.Statement.{statement}
 use Rattle.netlist.proofs.cells.check_second.Tie as tie
-use Rattle.netlist.proofs.cells.check_second.Reads as reads
-use Rattle.netlist.proofs.cells.check_second.Lts as lts
-use Rattle.netlist.proofs.walk.check_below.Reads as check-below-reads
-use Rattle.netlist.proofs.walk.check_bit.Reads as check-bit-reads
-use Rattle.netlist.proofs.walk.check_bits.Reads as check-bits-reads
-use Rattle.netlist.proofs.walk.check_control.Reads as check-control-reads
-use Rattle.netlist.proofs.walk.check_optional_control.Reads as check-optional-control-reads
-use Rattle.netlist.proofs.walk.check_wires.Reads as check-wires-reads
 
 -- src/cells.rt:89:9
 returns : tie.Need-returns

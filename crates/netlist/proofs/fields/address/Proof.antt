@@ -1,19 +1,15 @@
-use mathlib.Core.Path.{_≡_, refl, sym, ap, _∙_}
+use mathlib.Core.Path.{_≡_, refl, sym, _∙_}
 use native.Mathlib.Omega.{arith}
 use borrow.Author.Needs.{needs}
-use Prim.Native.Nat.{ℕ, _≤_, _<_, _-_, _+_}
+use Prim.Native.Nat.{_≤_, _<_, _-_, _+_}
 use denote.Ref.{now}
-use lib.ListN.{length, take, getD, length-set}
+use lib.ListN.{length, take, length-set}
 use lib.Seq.{take-suc-set, take-all}
 use native.Mathlib.Numerals.{add-one}
 use Rattle.netlist.specs.Fields.{recordsAt, bitsAt}
 use Rattle.netlist.proofs.WordLaws.{bits-more, bit-ahead}
 use Rattle.netlist.proofs.fields.address.Statement.{statement}
 use Rattle.netlist.proofs.fields.address.Tie as tie
-use Rattle.netlist.proofs.fields.address.Reads as reads
-use Rattle.netlist.proofs.fields.address.Lts as lts
-use Rattle.netlist.proofs.fields.ahead.Reads as ahead-reads
-use Rattle.netlist.proofs.fields.bit_at.Reads as bit-at-reads
 
 abbrev Inv-loop : tie.InvT-loop
 Inv-loop words at offset i bits₀ k₀ bits k = (k ≤ 14) × (length bits ≡ 14) × (take k bits ≡ bitsAt words (at + offset) k)

@@ -1,12 +1,8 @@
-use mathlib.Core.Path.{_≡_, refl, sym, ap, _∙_}
+use mathlib.Core.Path.{ap, _∙_}
 use Rattle.netlist.specs.Netlist.{bitOf}
 use borrow.Author.Needs.{needs}
 use Rattle.netlist.proofs.fields.bit_at.Statement.{statement}
 use Rattle.netlist.proofs.fields.bit_at.Tie as tie
-use Rattle.netlist.proofs.fields.bit_at.Reads as reads
-use Rattle.netlist.proofs.fields.bit_at.Lts as lts
-use Rattle.netlist.proofs.fields.bit_of.Reads as bit-of-reads
-use Rattle.netlist.proofs.fields.field.Reads as field-reads
 
 -- src/fields.rt:65:12
 field-requires : tie.Need-field-requires

@@ -2,8 +2,6 @@ use Rattle.netlist.proofs.WordLaws.{bitOf-wire}
 use borrow.Author.Needs.{needs}
 use Rattle.netlist.proofs.fields.bit_of.Statement.{statement}
 use Rattle.netlist.proofs.fields.bit_of.Tie as tie
-use Rattle.netlist.proofs.fields.bit_of.Reads as reads
-use Rattle.netlist.proofs.fields.bit_of.Lts as lts
 
 -- src/fields.rt:58:19
 sub-t6 : tie.Need-sub-t6

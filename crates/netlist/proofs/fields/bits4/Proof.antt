@@ -3,10 +3,6 @@ use Rattle.netlist.proofs.WordLaws.{four-ahead}
 use borrow.Author.Needs.{needs}
 use Rattle.netlist.proofs.fields.bits4.Statement.{statement}
 use Rattle.netlist.proofs.fields.bits4.Tie as tie
-use Rattle.netlist.proofs.fields.bits4.Reads as reads
-use Rattle.netlist.proofs.fields.bits4.Lts as lts
-use Rattle.netlist.proofs.fields.ahead.Reads as ahead-reads
-use Rattle.netlist.proofs.fields.bit_at.Reads as bit-at-reads
 
 -- src/fields.rt:71:9
 ahead-requires : tie.Need-ahead-requires

@@ -1,15 +1,11 @@
 use Rattle.netlist.specs.Fields.{secondSize, wordAt}
-use Prim.Native.Nat.{ℕ, _+_}
+use Prim.Native.Nat.{_+_}
 use Rattle.netlist.proofs.WordLaws.{size-absent, size-present}
-use mathlib.Core.Path.{_≡_, refl, sym, ap, _∙_}
+use mathlib.Core.Path.{sym, _∙_}
 use native.Mathlib.Omega.{arith}
 use borrow.Author.Needs.{needs}
 use Rattle.netlist.proofs.fields.block_ram_size.Statement.{statement}
 use Rattle.netlist.proofs.fields.block_ram_size.Tie as tie
-use Rattle.netlist.proofs.fields.block_ram_size.Reads as reads
-use Rattle.netlist.proofs.fields.block_ram_size.Lts as lts
-use Rattle.netlist.proofs.fields.field.Reads as field-reads
-use Rattle.netlist.proofs.fields.wide.Reads as wide-reads
 
 -- src/fields.rt:161:22
 field-requires : tie.Need-field-requires

@@ -1,15 +1,9 @@
 use Rattle.netlist.proofs.WordLaws.{size-of, size-rest}
-use mathlib.Core.Path.{_≡_, refl, sym, ap, _∙_}
-use native.Mathlib.Omega.{arith}
+use mathlib.Core.Path.{refl, ap, _∙_}
 use Prim.Native.Nat.{ℕ, _+_}
 use borrow.Author.Needs.{needs}
 use Rattle.netlist.proofs.fields.cell_size.Statement.{statement}
 use Rattle.netlist.proofs.fields.cell_size.Tie as tie
-use Rattle.netlist.proofs.fields.cell_size.Reads as reads
-use Rattle.netlist.proofs.fields.cell_size.Lts as lts
-use Rattle.netlist.proofs.fields.block_ram_size.Reads as block-ram-size-reads
-use Rattle.netlist.proofs.fields.field.Reads as field-reads
-use Rattle.netlist.proofs.fields.wide.Reads as wide-reads
 
 -- src/fields.rt:173:11
 field-requires : tie.Need-field-requires

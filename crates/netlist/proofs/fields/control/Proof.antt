@@ -3,11 +3,6 @@ use Rattle.netlist.proofs.WordLaws.{control-ahead}
 use borrow.Author.Needs.{needs}
 use Rattle.netlist.proofs.fields.control.Statement.{statement}
 use Rattle.netlist.proofs.fields.control.Tie as tie
-use Rattle.netlist.proofs.fields.control.Reads as reads
-use Rattle.netlist.proofs.fields.control.Lts as lts
-use Rattle.netlist.proofs.fields.ahead.Reads as ahead-reads
-use Rattle.netlist.proofs.fields.bit_at.Reads as bit-at-reads
-use Rattle.netlist.proofs.fields.field.Reads as field-reads
 
 -- src/fields.rt:103:9
 ahead-requires : tie.Need-ahead-requires

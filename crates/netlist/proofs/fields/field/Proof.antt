@@ -4,8 +4,6 @@ use native.Mathlib.Omega.{arith}
 use borrow.Author.Needs.{needs}
 use Rattle.netlist.proofs.fields.field.Statement.{statement}
 use Rattle.netlist.proofs.fields.field.Tie as tie
-use Rattle.netlist.proofs.fields.field.Reads as reads
-use Rattle.netlist.proofs.fields.field.Lts as lts
 
 -- src/fields.rt:31:21
 sub-if2 : tie.Need-sub-if2

@@ -1,15 +1,10 @@
 use Prim.Native.Nat.{_+_}
-use Rattle.netlist.specs.Fields.{wordAt, controlAt, resetAt}
+use Rattle.netlist.specs.Fields.{wordAt, controlAt}
 use Rattle.netlist.proofs.WordLaws.{set-absent, set-present, word-here, control-after}
-use mathlib.Core.Path.{_≡_, refl, sym, ap, _∙_}
+use mathlib.Core.Path.{sym, _∙_}
 use borrow.Author.Needs.{needs}
 use Rattle.netlist.proofs.fields.optional_control.Statement.{statement}
 use Rattle.netlist.proofs.fields.optional_control.Tie as tie
-use Rattle.netlist.proofs.fields.optional_control.Reads as reads
-use Rattle.netlist.proofs.fields.optional_control.Lts as lts
-use Rattle.netlist.proofs.fields.ahead.Reads as ahead-reads
-use Rattle.netlist.proofs.fields.control.Reads as control-reads
-use Rattle.netlist.proofs.fields.field.Reads as field-reads
 
 -- src/fields.rt:120:9
 ahead-requires : tie.Need-ahead-requires

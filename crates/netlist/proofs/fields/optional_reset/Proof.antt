@@ -1,15 +1,10 @@
 use Prim.Native.Nat.{_+_}
-use Rattle.netlist.specs.Fields.{wordAt, controlAt, resetAt}
+use Rattle.netlist.specs.Fields.{wordAt, resetAt}
 use Rattle.netlist.proofs.WordLaws.{set-absent, set-present, word-here, reset-ahead}
-use mathlib.Core.Path.{_≡_, refl, sym, ap, _∙_}
+use mathlib.Core.Path.{sym, _∙_}
 use borrow.Author.Needs.{needs}
 use Rattle.netlist.proofs.fields.optional_reset.Statement.{statement}
 use Rattle.netlist.proofs.fields.optional_reset.Tie as tie
-use Rattle.netlist.proofs.fields.optional_reset.Reads as reads
-use Rattle.netlist.proofs.fields.optional_reset.Lts as lts
-use Rattle.netlist.proofs.fields.ahead.Reads as ahead-reads
-use Rattle.netlist.proofs.fields.bit_at.Reads as bit-at-reads
-use Rattle.netlist.proofs.fields.field.Reads as field-reads
 
 -- src/fields.rt:135:9
 ahead-requires : tie.Need-ahead-requires

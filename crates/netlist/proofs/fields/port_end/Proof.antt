@@ -1,14 +1,8 @@
-use mathlib.Core.Path.{_≡_, refl, sym, ap, _∙_}
 use native.Mathlib.Omega.{arith}
 use Rattle.netlist.specs.Fields.{portSize}
 use borrow.Author.Needs.{needs}
 use Rattle.netlist.proofs.fields.port_end.Statement.{statement}
 use Rattle.netlist.proofs.fields.port_end.Tie as tie
-use Rattle.netlist.proofs.fields.port_end.Reads as reads
-use Rattle.netlist.proofs.fields.port_end.Lts as lts
-use Rattle.netlist.proofs.fields.ahead.Reads as ahead-reads
-use Rattle.netlist.proofs.fields.field.Reads as field-reads
-use Rattle.netlist.proofs.fields.wide.Reads as wide-reads
 
 -- src/fields.rt:155:31
 field-requires : tie.Need-field-requires

@@ -2,8 +2,6 @@ use Rattle.netlist.proofs.WordLaws.{word-past}
 use borrow.Author.Needs.{needs}
 use Rattle.netlist.proofs.fields.word.Statement.{statement}
 use Rattle.netlist.proofs.fields.word.Tie as tie
-use Rattle.netlist.proofs.fields.word.Reads as reads
-use Rattle.netlist.proofs.fields.word.Lts as lts
 
 -- src/fields.rt:24:26
 mul-result : tie.Need-mul-result

@@ -1,10 +1,8 @@
-use mathlib.Core.Path.{_≡_, refl, sym, ap, _∙_}
+use mathlib.Core.Path.{sym, ap}
 use Rattle.netlist.specs.Reader.{shiftOf}
 use Rattle.netlist.proofs.RamLaws.{shift-none}
 use Rattle.netlist.proofs.ram.address_shift.Statement.{statement}
 use Rattle.netlist.proofs.ram.address_shift.Tie as tie
-use Rattle.netlist.proofs.ram.address_shift.Reads as reads
-use Rattle.netlist.proofs.ram.address_shift.Lts as lts
 
 -- src/ram.rt:14:1
 returns : tie.Need-returns

@@ -1,13 +1,9 @@
 use native.Mathlib.Omega.{arith}
-use mathlib.Core.Path.{_≡_, refl, sym, ap, _∙_}
 use borrow.Author.Needs.{needs}
-use Prim.Native.Nat.{ℕ, _-_}
+use Prim.Native.Nat.{_-_}
 use Rattle.netlist.proofs.RamLaws.{Widening, widening-start, widening-more, widening-end}
 use Rattle.netlist.proofs.ram.address_width.Statement.{statement}
 use Rattle.netlist.proofs.ram.address_width.Tie as tie
-use Rattle.netlist.proofs.ram.address_width.Reads as reads
-use Rattle.netlist.proofs.ram.address_width.Lts as lts
-use Rattle.netlist.proofs.fields.wide.Reads as wide-reads
 
 abbrev Inv-loop : tie.InvT-loop
 Inv-loop depth n width₀ room₀ width room = Widening depth width room

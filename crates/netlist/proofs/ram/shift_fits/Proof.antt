@@ -1,14 +1,8 @@
-use mathlib.Core.Path.{_≡_, refl, sym, ap, _∙_}
-use native.Mathlib.Omega.{arith}
+use mathlib.Core.Path.{_∙_}
 use Rattle.netlist.proofs.RamLaws.{not-fits, by-fits}
 use borrow.Author.Needs.{needs}
 use Rattle.netlist.proofs.ram.shift_fits.Statement.{statement}
 use Rattle.netlist.proofs.ram.shift_fits.Tie as tie
-use Rattle.netlist.proofs.ram.shift_fits.Reads as reads
-use Rattle.netlist.proofs.ram.shift_fits.Lts as lts
-use Rattle.netlist.proofs.fields.wide.Reads as wide-reads
-use Rattle.netlist.proofs.ram.address_shift.Reads as address-shift-reads
-use Rattle.netlist.proofs.ram.address_width.Reads as address-width-reads
 
 -- src/ram.rt:44:9
 address-shift-requires : tie.Need-address-shift-requires

@@ -1,10 +1,6 @@
 use borrow.Author.Needs.{needs}
 use Rattle.netlist.proofs.records.ccu2c_at.Statement.{statement}
 use Rattle.netlist.proofs.records.ccu2c_at.Tie as tie
-use Rattle.netlist.proofs.records.ccu2c_at.Reads as reads
-use Rattle.netlist.proofs.records.ccu2c_at.Lts as lts
-use Rattle.netlist.proofs.fields.bit_at.Reads as bit-at-reads
-use Rattle.netlist.proofs.fields.field.Reads as field-reads
 
 -- src/records.rt:79:9
 bit-at-requires : tie.Need-bit-at-requires

@@ -1,12 +1,6 @@
 use borrow.Author.Needs.{needs}
 use Rattle.netlist.proofs.records.flip_flop_at.Statement.{statement}
 use Rattle.netlist.proofs.records.flip_flop_at.Tie as tie
-use Rattle.netlist.proofs.records.flip_flop_at.Reads as reads
-use Rattle.netlist.proofs.records.flip_flop_at.Lts as lts
-use Rattle.netlist.proofs.fields.bit_at.Reads as bit-at-reads
-use Rattle.netlist.proofs.fields.field.Reads as field-reads
-use Rattle.netlist.proofs.fields.optional_control.Reads as optional-control-reads
-use Rattle.netlist.proofs.fields.optional_reset.Reads as optional-reset-reads
 
 -- src/records.rt:111:9
 bit-at-requires : tie.Need-bit-at-requires

@@ -1,12 +1,6 @@
 use borrow.Author.Needs.{needs}
 use Rattle.netlist.proofs.records.second_port_at.Statement.{statement}
 use Rattle.netlist.proofs.records.second_port_at.Tie as tie
-use Rattle.netlist.proofs.records.second_port_at.Reads as reads
-use Rattle.netlist.proofs.records.second_port_at.Lts as lts
-use Rattle.netlist.proofs.fields.bit_at.Reads as bit-at-reads
-use Rattle.netlist.proofs.fields.control.Reads as control-reads
-use Rattle.netlist.proofs.fields.field.Reads as field-reads
-use Rattle.netlist.proofs.fields.optional_control.Reads as optional-control-reads
 
 -- src/records.rt:185:9
 control-requires : tie.Need-control-requires

@@ -1,15 +1,9 @@
 use native.Mathlib.Omega.{arith}
-use mathlib.Core.Path.{_≡_, refl, sym, ap, _∙_}
 use borrow.Author.Needs.{needs}
-use Prim.Native.Nat.{ℕ, _-_, _≤_}
+use Prim.Native.Nat.{_-_, _≤_}
 use Rattle.netlist.proofs.SectionLaws.{CellsGone, cells-start, cells-more, cells-stop, cells-end}
 use Rattle.netlist.proofs.sections.check_cells.Statement.{statement}
 use Rattle.netlist.proofs.sections.check_cells.Tie as tie
-use Rattle.netlist.proofs.sections.check_cells.Reads as reads
-use Rattle.netlist.proofs.sections.check_cells.Lts as lts
-use Rattle.netlist.proofs.cells.check_cell.Reads as check-cell-reads
-use Rattle.netlist.proofs.sections.check_end.Reads as check-end-reads
-use Rattle.netlist.proofs.sections.first_of.Reads as first-of-reads
 
 abbrev Inv-loop : tie.InvT-loop
 Inv-loop limits words end start count i₀ six₀ k₀ i six k = (k ≤ count) × CellsGone limits words end start k i six

@@ -2,8 +2,6 @@ use Rattle.netlist.proofs.SectionLaws.{ends-here, ends-later}
 use borrow.Author.Needs.{needs}
 use Rattle.netlist.proofs.sections.check_end.Statement.{statement}
 use Rattle.netlist.proofs.sections.check_end.Tie as tie
-use Rattle.netlist.proofs.sections.check_end.Reads as reads
-use Rattle.netlist.proofs.sections.check_end.Lts as lts
 
 -- src/sections.rt:37:18
 enum-known-w : tie.Need-enum-known-w

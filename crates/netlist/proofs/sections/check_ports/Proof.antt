@@ -1,15 +1,10 @@
 use native.Mathlib.Omega.{arith}
-use mathlib.Core.Path.{_≡_, refl, sym, ap, _∙_}
 use borrow.Author.Needs.{needs}
-use Prim.Native.Nat.{ℕ, _-_, _≤_}
+use Prim.Native.Nat.{_-_, _≤_}
 use Rattle.netlist.specs.Reader
 use Rattle.netlist.proofs.SectionLaws.{Gone, gone-start, gone-more, gone-stop, gone-end, any-end}
 use Rattle.netlist.proofs.sections.check_ports.Statement.{statement}
 use Rattle.netlist.proofs.sections.check_ports.Tie as tie
-use Rattle.netlist.proofs.sections.check_ports.Reads as reads
-use Rattle.netlist.proofs.sections.check_ports.Lts as lts
-use Rattle.netlist.proofs.cells.check_port.Reads as check-port-reads
-use Rattle.netlist.proofs.sections.check_end.Reads as check-end-reads
 
 abbrev Inv-loop : tie.InvT-loop
 Inv-loop limits words end count i₀ k₀ i k = (k ≤ count) × Gone (Reader.readPort limits words end) 0 k i

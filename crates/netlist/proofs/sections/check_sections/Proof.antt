@@ -1,13 +1,8 @@
-use mathlib.Core.Path.{_≡_, refl, sym, ap, _∙_}
+use mathlib.Core.Path.{refl}
 use Rattle.netlist.proofs.SectionLaws.{ports-refused, cells-refused, six-refused, accepted}
 use borrow.Author.Needs.{needs}
 use Rattle.netlist.proofs.sections.check_sections.Statement.{statement}
 use Rattle.netlist.proofs.sections.check_sections.Tie as tie
-use Rattle.netlist.proofs.sections.check_sections.Reads as reads
-use Rattle.netlist.proofs.sections.check_sections.Lts as lts
-use Rattle.netlist.proofs.fields.wide.Reads as wide-reads
-use Rattle.netlist.proofs.sections.check_cells.Reads as check-cells-reads
-use Rattle.netlist.proofs.sections.check_ports.Reads as check-ports-reads
 
 -- src/sections.rt:117:58
 wide-requires : tie.Need-wide-requires

@@ -1,12 +1,9 @@
-use mathlib.Core.Path.{_≡_, refl, sym, ap, _∙_}
+use mathlib.Core.Path.{sym, _∙_}
 use Rattle.netlist.proofs.SectionLaws.{first-found, first-next}
 use mathlib.Core.Bool.{true, false}
 use borrow.Author.Needs.{needs}
 use Rattle.netlist.proofs.sections.first_of.Statement.{statement}
 use Rattle.netlist.proofs.sections.first_of.Tie as tie
-use Rattle.netlist.proofs.sections.first_of.Reads as reads
-use Rattle.netlist.proofs.sections.first_of.Lts as lts
-use Rattle.netlist.proofs.sections.one_clock.Reads as one-clock-reads
 
 enum-told : tie.Need-enum-told
 enum-told c = search needs

@@ -1,13 +1,8 @@
-use mathlib.Core.Path.{_≡_, refl, sym, ap, _∙_}
+use mathlib.Core.Path.{_∙_}
 use Rattle.netlist.proofs.SectionLaws.{clock-other, clock-single, clock-differs, clock-same}
 use borrow.Author.Needs.{needs}
 use Rattle.netlist.proofs.sections.one_clock.Statement.{statement}
 use Rattle.netlist.proofs.sections.one_clock.Tie as tie
-use Rattle.netlist.proofs.sections.one_clock.Reads as reads
-use Rattle.netlist.proofs.sections.one_clock.Lts as lts
-use Rattle.netlist.proofs.fields.ahead.Reads as ahead-reads
-use Rattle.netlist.proofs.fields.field.Reads as field-reads
-use Rattle.netlist.proofs.fields.wide.Reads as wide-reads
 
 -- src/sections.rt:67:8
 field-requires : tie.Need-field-requires

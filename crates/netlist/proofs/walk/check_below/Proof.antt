@@ -1,16 +1,11 @@
 use Rattle.netlist.proofs.WalkLaws.{passed-test}
-use lib.Dec.{ltb, leb}
+use lib.Dec.{ltb}
 use Prim.Native.Nat.{ℕ}
-use mathlib.Core.Path.{_≡_, refl, sym, ap, _∙_}
+use mathlib.Core.Path.{ap, _∙_}
 use Rattle.netlist.specs.Reader.{base}
 use borrow.Author.Needs.{needs}
 use Rattle.netlist.proofs.walk.check_below.Statement.{statement}
 use Rattle.netlist.proofs.walk.check_below.Tie as tie
-use Rattle.netlist.proofs.walk.check_below.Reads as reads
-use Rattle.netlist.proofs.walk.check_below.Lts as lts
-use Rattle.netlist.proofs.walk.check_word.Reads as check-word-reads
-use Rattle.netlist.proofs.walk.is_below.Reads as is-below-reads
-use Rattle.netlist.proofs.walk.peek.Reads as peek-reads
 
 -- src/walk.rt:69:23
 peek-requires : tie.Need-peek-requires

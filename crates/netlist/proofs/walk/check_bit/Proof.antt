@@ -2,10 +2,6 @@ use Rattle.netlist.proofs.WalkLaws.{bit-passed}
 use borrow.Author.Needs.{needs}
 use Rattle.netlist.proofs.walk.check_bit.Statement.{statement}
 use Rattle.netlist.proofs.walk.check_bit.Tie as tie
-use Rattle.netlist.proofs.walk.check_bit.Reads as reads
-use Rattle.netlist.proofs.walk.check_bit.Lts as lts
-use Rattle.netlist.proofs.fields.wide.Reads as wide-reads
-use Rattle.netlist.proofs.walk.check_below.Reads as check-below-reads
 
 -- src/walk.rt:124:36
 wide-requires : tie.Need-wide-requires

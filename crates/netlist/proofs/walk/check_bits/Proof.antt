@@ -2,10 +2,6 @@ use Rattle.netlist.proofs.WalkLaws.{bits-passed}
 use borrow.Author.Needs.{needs}
 use Rattle.netlist.proofs.walk.check_bits.Statement.{statement}
 use Rattle.netlist.proofs.walk.check_bits.Tie as tie
-use Rattle.netlist.proofs.walk.check_bits.Reads as reads
-use Rattle.netlist.proofs.walk.check_bits.Lts as lts
-use Rattle.netlist.proofs.fields.wide.Reads as wide-reads
-use Rattle.netlist.proofs.walk.check_run.Reads as check-run-reads
 
 -- src/walk.rt:130:41
 wide-requires : tie.Need-wide-requires

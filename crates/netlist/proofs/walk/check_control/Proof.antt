@@ -3,10 +3,6 @@ use Rattle.netlist.specs.declared.Bit.the-variants.{Zero}
 use borrow.Author.Needs.{needs}
 use Rattle.netlist.proofs.walk.check_control.Statement.{statement}
 use Rattle.netlist.proofs.walk.check_control.Tie as tie
-use Rattle.netlist.proofs.walk.check_control.Reads as reads
-use Rattle.netlist.proofs.walk.check_control.Lts as lts
-use Rattle.netlist.proofs.walk.check_below.Reads as check-below-reads
-use Rattle.netlist.proofs.walk.check_bit.Reads as check-bit-reads
 
 -- src/walk.rt:136:9
 check-bit-requires : tie.Need-check-bit-requires

@@ -2,11 +2,6 @@ use Rattle.netlist.proofs.WalkLaws.{optional-control-absent, optional-c
 use borrow.Author.Needs.{needs}
 use Rattle.netlist.proofs.walk.check_optional_control.Statement.{statement}
 use Rattle.netlist.proofs.walk.check_optional_control.Tie as tie
-use Rattle.netlist.proofs.walk.check_optional_control.Reads as reads
-use Rattle.netlist.proofs.walk.check_optional_control.Lts as lts
-use Rattle.netlist.proofs.walk.check_below.Reads as check-below-reads
-use Rattle.netlist.proofs.walk.check_control.Reads as check-control-reads
-use Rattle.netlist.proofs.walk.last.Reads as last-reads
 
 -- src/walk.rt:143:9
 check-below-requires : tie.Need-check-below-requires

@@ -2,11 +2,6 @@ use Rattle.netlist.proofs.WalkLaws.{optional-reset-absent, optional-res
 use borrow.Author.Needs.{needs}
 use Rattle.netlist.proofs.walk.check_optional_reset.Statement.{statement}
 use Rattle.netlist.proofs.walk.check_optional_reset.Tie as tie
-use Rattle.netlist.proofs.walk.check_optional_reset.Reads as reads
-use Rattle.netlist.proofs.walk.check_optional_reset.Lts as lts
-use Rattle.netlist.proofs.walk.check_below.Reads as check-below-reads
-use Rattle.netlist.proofs.walk.check_bit.Reads as check-bit-reads
-use Rattle.netlist.proofs.walk.last.Reads as last-reads
 
 -- src/walk.rt:154:9
 check-below-requires : tie.Need-check-below-requires

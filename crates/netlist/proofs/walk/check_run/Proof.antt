@@ -1,15 +1,10 @@
 use Rattle.netlist.proofs.WalkLaws.{Running, stays, running-start, running-more, running-missing, running-wrong, running-end}
-use mathlib.Core.Path.{_≡_, refl, sym, ap, _∙_}
 use native.Mathlib.Omega.{arith}
 use borrow.Author.Needs.{needs}
-use Prim.Native.Nat.{ℕ, _-_, _≤_}
+use Prim.Native.Nat.{_-_}
 use Rattle.netlist.specs.Reader.{base}
 use Rattle.netlist.proofs.walk.check_run.Statement.{statement}
 use Rattle.netlist.proofs.walk.check_run.Tie as tie
-use Rattle.netlist.proofs.walk.check_run.Reads as reads
-use Rattle.netlist.proofs.walk.check_run.Lts as lts
-use Rattle.netlist.proofs.fields.wide.Reads as wide-reads
-use Rattle.netlist.proofs.fields.word.Reads as word-reads
 
 abbrev Inv-loop : tie.InvT-loop
 Inv-loop words end count bound start i₀ k₀ i k = Running base words end bound start count i k

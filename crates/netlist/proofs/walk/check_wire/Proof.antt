@@ -2,10 +2,6 @@ use Rattle.netlist.proofs.WalkLaws.{wire-passed}
 use borrow.Author.Needs.{needs}
 use Rattle.netlist.proofs.walk.check_wire.Statement.{statement}
 use Rattle.netlist.proofs.walk.check_wire.Tie as tie
-use Rattle.netlist.proofs.walk.check_wire.Reads as reads
-use Rattle.netlist.proofs.walk.check_wire.Lts as lts
-use Rattle.netlist.proofs.fields.wide.Reads as wide-reads
-use Rattle.netlist.proofs.walk.check_below.Reads as check-below-reads
 
 -- src/walk.rt:112:32
 wide-requires : tie.Need-wide-requires

@@ -2,10 +2,6 @@ use Rattle.netlist.proofs.WalkLaws.{wires-passed}
 use borrow.Author.Needs.{needs}
 use Rattle.netlist.proofs.walk.check_wires.Statement.{statement}
 use Rattle.netlist.proofs.walk.check_wires.Tie as tie
-use Rattle.netlist.proofs.walk.check_wires.Reads as reads
-use Rattle.netlist.proofs.walk.check_wires.Lts as lts
-use Rattle.netlist.proofs.fields.wide.Reads as wide-reads
-use Rattle.netlist.proofs.walk.check_run.Reads as check-run-reads
 
 -- src/walk.rt:118:37
 wide-requires : tie.Need-wide-requires

@@ -1,17 +1,12 @@
 use Rattle.netlist.proofs.WalkLaws.{passed-test}
-use lib.Dec.{ltb, leb}
+use lib.Dec.{leb}
 use mathlib.Core.Bool.{_&&_}
 use Prim.Native.Nat.{ℕ}
-use mathlib.Core.Path.{_≡_, refl, sym, ap, _∙_}
+use mathlib.Core.Path.{ap, _∙_}
 use Rattle.netlist.specs.Reader.{base}
 use borrow.Author.Needs.{needs}
 use Rattle.netlist.proofs.walk.check_within.Statement.{statement}
 use Rattle.netlist.proofs.walk.check_within.Tie as tie
-use Rattle.netlist.proofs.walk.check_within.Reads as reads
-use Rattle.netlist.proofs.walk.check_within.Lts as lts
-use Rattle.netlist.proofs.walk.check_word.Reads as check-word-reads
-use Rattle.netlist.proofs.walk.is_within.Reads as is-within-reads
-use Rattle.netlist.proofs.walk.peek.Reads as peek-reads
 
 -- src/walk.rt:82:24
 peek-requires : tie.Need-peek-requires

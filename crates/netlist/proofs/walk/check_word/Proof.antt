@@ -2,8 +2,6 @@ use Rattle.netlist.proofs.WalkLaws.{word-ends, word-taken, word-wrong}
 use borrow.Author.Needs.{needs}
 use Rattle.netlist.proofs.walk.check_word.Statement.{statement}
 use Rattle.netlist.proofs.walk.check_word.Tie as tie
-use Rattle.netlist.proofs.walk.check_word.Reads as reads
-use Rattle.netlist.proofs.walk.check_word.Lts as lts
 
 -- src/walk.rt:48:18
 enum-known-w : tie.Need-enum-known-w

@@ -1,12 +1,9 @@
 use lib.Dec.{ltb}
 use Prim.Native.Nat.{ℕ}
-use mathlib.Core.Path.{_≡_, refl, sym, ap, _∙_}
+use mathlib.Core.Path.{ap}
 use borrow.Author.Needs.{needs}
 use Rattle.netlist.proofs.walk.is_below.Statement.{statement}
 use Rattle.netlist.proofs.walk.is_below.Tie as tie
-use Rattle.netlist.proofs.walk.is_below.Reads as reads
-use Rattle.netlist.proofs.walk.is_below.Lts as lts
-use Rattle.netlist.proofs.fields.wide.Reads as wide-reads
 
 -- src/walk.rt:63:5
 wide-requires : tie.Need-wide-requires

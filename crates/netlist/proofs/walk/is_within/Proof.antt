@@ -1,8 +1,6 @@
 use Rattle.netlist.proofs.WalkLaws.{both-hold, first-fails}
 use Rattle.netlist.proofs.walk.is_within.Statement.{statement}
 use Rattle.netlist.proofs.walk.is_within.Tie as tie
-use Rattle.netlist.proofs.walk.is_within.Reads as reads
-use Rattle.netlist.proofs.walk.is_within.Lts as lts
 
 -- src/walk.rt:73:1
 returns : tie.Need-returns

@@ -2,9 +2,6 @@ use Rattle.netlist.proofs.WalkLaws.{last-first, last-passed}
 use borrow.Author.Needs.{needs}
 use Rattle.netlist.proofs.walk.last.Statement.{statement}
 use Rattle.netlist.proofs.walk.last.Tie as tie
-use Rattle.netlist.proofs.walk.last.Reads as reads
-use Rattle.netlist.proofs.walk.last.Lts as lts
-use Rattle.netlist.proofs.fields.word.Reads as word-reads
 
 -- src/walk.rt:35:18
 enum-known-w : tie.Need-enum-known-w

@@ -2,9 +2,6 @@ use Rattle.netlist.proofs.WalkLaws.{peeked}
 use borrow.Author.Needs.{needs}
 use Rattle.netlist.proofs.walk.peek.Statement.{statement}
 use Rattle.netlist.proofs.walk.peek.Tie as tie
-use Rattle.netlist.proofs.walk.peek.Reads as reads
-use Rattle.netlist.proofs.walk.peek.Lts as lts
-use Rattle.netlist.proofs.fields.word.Reads as word-reads
 
 -- src/walk.rt:25:18
 enum-known-w : tie.Need-enum-known-w
