@@ -1,0 +1,24 @@
+use borrow.Author.Needs.{needs}
+use Rattle.cells.proofs.answers.unread.Statement.{statement}
+use Rattle.cells.proofs.answers.unread.Tie as tie
+use Rattle.cells.proofs.answers.unread.Reads as reads
+use Rattle.cells.proofs.answers.unread.Lts as lts
+
+-- src/answers.rt:41:23
+enum-known-r : tie.Need-enum-known-r
+enum-known-r c = search needs
+
+-- src/answers.rt:42:26
+enum-known-r-2 : tie.Need-enum-known-r-2
+enum-known-r-2 c = search needs
+
+-- src/answers.rt:37:1
+returns : tie.Need-returns
+returns c = ?
+
+-- src/answers.rt:37:1
+returns-2 : tie.Need-returns-2
+returns-2 c = ?
+
+pub unread-spec : {M : Type 1} → statement M
+unread-spec = tie.close (tie.spec enum-known-r enum-known-r-2 returns returns-2)

@@ -1,0 +1,174 @@
+use borrow.Author.Needs.{needs}
+use Rattle.cells.proofs.ccu2c.emit_ccu2c.Statement.{statement}
+use Rattle.cells.proofs.ccu2c.emit_ccu2c.Tie as tie
+use Rattle.cells.proofs.ccu2c.emit_ccu2c.Reads as reads
+use Rattle.cells.proofs.ccu2c.emit_ccu2c.Lts as lts
+use Rattle.cells.proofs.answers.stopped.Reads as stopped-reads
+use Rattle.cells.proofs.ccu2c.emit_slice.Reads as emit-slice-reads
+use Rattle.wires.proofs.expressions.assign_wire.Reads as assign-wire-reads
+use Rattle.wires.proofs.expressions.bit_expression.Reads as bit-expression-reads
+
+-- src/ccu2c.rt:87:16
+array-copy-out-row0 : tie.Need-array-copy-out-row0
+array-copy-out-row0 c = search needs
+
+-- src/ccu2c.rt:88:16
+array-copy-out-row1 : tie.Need-array-copy-out-row1
+array-copy-out-row1 c = search needs
+
+-- src/ccu2c.rt:89:9
+bit-expression-requires : tie.Need-bit-expression-requires
+bit-expression-requires c κs = search needs
+
+-- src/ccu2c.rt:90:23
+enum-known-r : tie.Need-enum-known-r
+enum-known-r c = search needs
+
+-- src/ccu2c.rt:91:9
+enum-told : tie.Need-enum-told
+enum-told c = search needs
+
+-- src/ccu2c.rt:91:9
+stopped-requires : tie.Need-stopped-requires
+stopped-requires c κs = search needs
+
+-- src/ccu2c.rt:91:9
+same-length : tie.Need-same-length
+same-length c = search needs
+
+-- src/ccu2c.rt:91:9
+returns : tie.Need-returns
+returns c = ?
+
+-- src/ccu2c.rt:100:9
+array-read-emit-slice : tie.Need-array-read-emit-slice
+array-read-emit-slice c = search needs
+
+-- src/ccu2c.rt:101:9
+array-read-emit-slice-2 : tie.Need-array-read-emit-slice-2
+array-read-emit-slice-2 c = search needs
+
+-- src/ccu2c.rt:102:9
+array-read-emit-slice-3 : tie.Need-array-read-emit-slice-3
+array-read-emit-slice-3 c = search needs
+
+-- src/ccu2c.rt:93:9
+emit-slice-requires : tie.Need-emit-slice-requires
+emit-slice-requires c κs = search needs
+
+-- src/ccu2c.rt:105:23
+enum-known-r2 : tie.Need-enum-known-r2
+enum-known-r2 c = search needs
+
+-- src/ccu2c.rt:106:9
+enum-told-2 : tie.Need-enum-told-2
+enum-told-2 c = search needs
+
+-- src/ccu2c.rt:106:9
+stopped-requires-2 : tie.Need-stopped-requires-2
+stopped-requires-2 c κs = search needs
+
+-- src/ccu2c.rt:106:9
+same-length-2 : tie.Need-same-length-2
+same-length-2 c = search needs
+
+-- src/ccu2c.rt:106:9
+same-length-3 : tie.Need-same-length-3
+same-length-3 c = search needs
+
+-- src/ccu2c.rt:106:9
+returns-2 : tie.Need-returns-2
+returns-2 c = ?
+
+-- src/ccu2c.rt:115:9
+array-read-emit-slice-4 : tie.Need-array-read-emit-slice-4
+array-read-emit-slice-4 c = search needs
+
+-- src/ccu2c.rt:116:9
+array-read-emit-slice-5 : tie.Need-array-read-emit-slice-5
+array-read-emit-slice-5 c = search needs
+
+-- src/ccu2c.rt:117:9
+array-read-emit-slice-6 : tie.Need-array-read-emit-slice-6
+array-read-emit-slice-6 c = search needs
+
+-- src/ccu2c.rt:108:9
+emit-slice-requires-2 : tie.Need-emit-slice-requires-2
+emit-slice-requires-2 c κs = search needs
+
+-- src/ccu2c.rt:120:23
+enum-known-r3 : tie.Need-enum-known-r3
+enum-known-r3 c = search needs
+
+-- src/ccu2c.rt:121:9
+enum-told-3 : tie.Need-enum-told-3
+enum-told-3 c = search needs
+
+-- src/ccu2c.rt:121:9
+stopped-requires-3 : tie.Need-stopped-requires-3
+stopped-requires-3 c κs = search needs
+
+-- src/ccu2c.rt:121:9
+same-length-4 : tie.Need-same-length-4
+same-length-4 c = ?
+
+-- src/ccu2c.rt:121:9
+same-length-5 : tie.Need-same-length-5
+same-length-5 c = search needs
+
+-- src/ccu2c.rt:121:9
+returns-3 : tie.Need-returns-3
+returns-3 c = ?
+
+-- src/ccu2c.rt:123:5
+assign-wire-requires : tie.Need-assign-wire-requires
+assign-wire-requires c κs = search needs
+
+-- src/ccu2c.rt:72:1
+same-length-6 : tie.Need-same-length-6
+same-length-6 c = ?
+
+-- src/ccu2c.rt:72:1
+same-length-7 : tie.Need-same-length-7
+same-length-7 c = ?
+
+-- src/ccu2c.rt:72:1
+returns-4 : tie.Need-returns-4
+returns-4 c = ?
+
+pub emit-ccu2c-spec : {M : Type 1} → statement M
+emit-ccu2c-spec =
+    tie.close
+    (tie.spec
+    array-copy-out-row0
+    array-copy-out-row1
+    bit-expression-requires
+    enum-known-r
+    enum-told
+    stopped-requires
+    same-length
+    returns
+    array-read-emit-slice
+    array-read-emit-slice-2
+    array-read-emit-slice-3
+    emit-slice-requires
+    enum-known-r2
+    enum-told-2
+    stopped-requires-2
+    same-length-2
+    same-length-3
+    returns-2
+    array-read-emit-slice-4
+    array-read-emit-slice-5
+    array-read-emit-slice-6
+    emit-slice-requires-2
+    enum-known-r3
+    enum-told-3
+    stopped-requires-3
+    same-length-4
+    same-length-5
+    returns-3
+    assign-wire-requires
+    same-length-6
+    same-length-7
+    returns-4)

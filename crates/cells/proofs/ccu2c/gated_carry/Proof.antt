@@ -1,0 +1,15 @@
+use Rattle.cells.proofs.ccu2c.gated_carry.Statement.{statement}
+use Rattle.cells.proofs.ccu2c.gated_carry.Tie as tie
+use Rattle.cells.proofs.ccu2c.gated_carry.Reads as reads
+use Rattle.cells.proofs.ccu2c.gated_carry.Lts as lts
+
+-- src/ccu2c.rt:25:1
+returns : tie.Need-returns
+returns c = ?
+
+-- src/ccu2c.rt:25:1
+returns-2 : tie.Need-returns-2
+returns-2 c = ?
+
+pub gated-carry-spec : {M : Type 1} → statement M
+gated-carry-spec = tie.close (tie.spec returns returns-2)

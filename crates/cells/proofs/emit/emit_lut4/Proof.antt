@@ -1,0 +1,100 @@
+use borrow.Author.Needs.{needs}
+use Rattle.cells.proofs.emit.emit_lut4.Statement.{statement}
+use Rattle.cells.proofs.emit.emit_lut4.Tie as tie
+use Rattle.cells.proofs.emit.emit_lut4.Reads as reads
+use Rattle.cells.proofs.emit.emit_lut4.Lts as lts
+use Rattle.cells.proofs.answers.stopped.Reads as stopped-reads
+use Rattle.cells.proofs.answers.stopped_read.Reads as stopped-read-reads
+use Rattle.cells.proofs.emit.read4.Reads as read4-reads
+use Rattle.optimize.proofs.lut.lut.Reads as lut-reads
+use Rattle.wires.proofs.expressions.assign_wire.Reads as assign-wire-reads
+
+-- src/emit.rt:99:9
+read4-requires : tie.Need-read4-requires
+read4-requires c κs = search needs
+
+-- src/emit.rt:100:21
+enum-known-r : tie.Need-enum-known-r
+enum-known-r c = search needs
+
+-- src/emit.rt:101:24
+enum-told : tie.Need-enum-told
+enum-told c = search needs
+
+-- src/emit.rt:101:24
+stopped-read-requires : tie.Need-stopped-read-requires
+stopped-read-requires c κs = search needs
+
+-- src/emit.rt:101:9
+stopped-requires : tie.Need-stopped-requires
+stopped-requires c κs = search needs
+
+-- src/emit.rt:101:9
+same-length : tie.Need-same-length
+same-length c = search needs
+
+-- src/emit.rt:101:9
+returns : tie.Need-returns
+returns c = ?
+
+-- src/emit.rt:104:9
+lut-requires : tie.Need-lut-requires
+lut-requires c κs = search needs
+
+-- src/emit.rt:105:23
+enum-known-r2 : tie.Need-enum-known-r2
+enum-known-r2 c = search needs
+
+-- src/emit.rt:106:9
+enum-told-2 : tie.Need-enum-told-2
+enum-told-2 c = search needs
+
+-- src/emit.rt:106:9
+stopped-requires-2 : tie.Need-stopped-requires-2
+stopped-requires-2 c κs = search needs
+
+-- src/emit.rt:106:9
+same-length-2 : tie.Need-same-length-2
+same-length-2 c = search needs
+
+-- src/emit.rt:106:9
+returns-2 : tie.Need-returns-2
+returns-2 c = ?
+
+-- src/emit.rt:108:5
+assign-wire-requires : tie.Need-assign-wire-requires
+assign-wire-requires c κs = search needs
+
+-- src/emit.rt:87:1
+same-length-3 : tie.Need-same-length-3
+same-length-3 c = search needs
+
+-- src/emit.rt:87:1
+same-length-4 : tie.Need-same-length-4
+same-length-4 c = search needs
+
+-- src/emit.rt:87:1
+returns-3 : tie.Need-returns-3
+returns-3 c = ?
+
+pub emit-lut4-spec : {M : Type 1} → statement M
+emit-lut4-spec =
+    tie.close
+    (tie.spec
+    read4-requires
+    enum-known-r
+    enum-told
+    stopped-read-requires
+    stopped-requires
+    same-length
+    returns
+    lut-requires
+    enum-known-r2
+    enum-told-2
+    stopped-requires-2
+    same-length-2
+    returns-2
+    assign-wire-requires
+    same-length-3
+    same-length-4
+    returns-3)

@@ -1,0 +1,161 @@
+use borrow.Author.Needs.{needs}
+use Rattle.cells.proofs.emit.emit_multiplier.Statement.{statement}
+use Rattle.cells.proofs.emit.emit_multiplier.Tie as tie
+use Rattle.cells.proofs.emit.emit_multiplier.Reads as reads
+use Rattle.cells.proofs.emit.emit_multiplier.Lts as lts
+use Rattle.cells.proofs.answers.stopped.Reads as stopped-reads
+use Rattle.netlist.proofs.fields.ahead.Reads as ahead-reads
+use Rattle.netlist.proofs.fields.field.Reads as field-reads
+use Rattle.recorder.proofs.builder.multiply.Reads as multiply-reads
+use Rattle.wires.proofs.expressions.assign_wire.Reads as assign-wire-reads
+use Rattle.wires.proofs.expressions.bits_expression.Reads as bits-expression-reads
+
+-- src/emit.rt:69:9
+ahead-requires : tie.Need-ahead-requires
+ahead-requires c κs = search needs
+
+-- src/emit.rt:70:9
+ahead-requires-2 : tie.Need-ahead-requires-2
+ahead-requires-2 c κs = search needs
+
+-- src/emit.rt:71:9
+field-requires : tie.Need-field-requires
+field-requires c κs = search needs
+
+-- src/emit.rt:72:9
+bits-expression-requires : tie.Need-bits-expression-requires
+bits-expression-requires c κs = search needs
+
+-- src/emit.rt:73:23
+enum-known-r : tie.Need-enum-known-r
+enum-known-r c = search needs
+
+-- src/emit.rt:74:9
+enum-told : tie.Need-enum-told
+enum-told c = search needs
+
+-- src/emit.rt:74:9
+stopped-requires : tie.Need-stopped-requires
+stopped-requires c κs = search needs
+
+-- src/emit.rt:74:9
+same-length : tie.Need-same-length
+same-length c = search needs
+
+-- src/emit.rt:74:9
+same-length-2 : tie.Need-same-length-2
+same-length-2 c = search needs
+
+-- src/emit.rt:74:9
+returns : tie.Need-returns
+returns c = ?
+
+-- src/emit.rt:76:9
+bits-expression-requires-2 : tie.Need-bits-expression-requires-2
+bits-expression-requires-2 c κs = search needs
+
+-- src/emit.rt:77:23
+enum-known-r2 : tie.Need-enum-known-r2
+enum-known-r2 c = search needs
+
+-- src/emit.rt:78:9
+enum-told-2 : tie.Need-enum-told-2
+enum-told-2 c = search needs
+
+-- src/emit.rt:78:9
+stopped-requires-2 : tie.Need-stopped-requires-2
+stopped-requires-2 c κs = search needs
+
+-- src/emit.rt:78:9
+same-length-3 : tie.Need-same-length-3
+same-length-3 c = search needs
+
+-- src/emit.rt:78:9
+same-length-4 : tie.Need-same-length-4
+same-length-4 c = search needs
+
+-- src/emit.rt:78:9
+returns-2 : tie.Need-returns-2
+returns-2 c = ?
+
+-- src/emit.rt:80:9
+multiply-requires : tie.Need-multiply-requires
+multiply-requires c κs = search needs
+
+-- src/emit.rt:81:23
+enum-known-r3 : tie.Need-enum-known-r3
+enum-known-r3 c = search needs
+
+-- src/emit.rt:82:9
+enum-told-3 : tie.Need-enum-told-3
+enum-told-3 c = search needs
+
+-- src/emit.rt:82:9
+stopped-requires-3 : tie.Need-stopped-requires-3
+stopped-requires-3 c κs = search needs
+
+-- src/emit.rt:82:9
+same-length-5 : tie.Need-same-length-5
+same-length-5 c = ?
+
+-- src/emit.rt:82:9
+same-length-6 : tie.Need-same-length-6
+same-length-6 c = ?
+
+-- src/emit.rt:82:9
+returns-3 : tie.Need-returns-3
+returns-3 c = ?
+
+-- src/emit.rt:84:5
+assign-wire-requires : tie.Need-assign-wire-requires
+assign-wire-requires c κs = search needs
+
+-- src/emit.rt:57:1
+same-length-7 : tie.Need-same-length-7
+same-length-7 c = ?
+
+-- src/emit.rt:57:1
+same-length-8 : tie.Need-same-length-8
+same-length-8 c = search needs
+
+-- src/emit.rt:57:1
+same-length-9 : tie.Need-same-length-9
+same-length-9 c = ?
+
+-- src/emit.rt:57:1
+returns-4 : tie.Need-returns-4
+returns-4 c = ?
+
+pub emit-multiplier-spec : {M : Type 1} → statement M
+emit-multiplier-spec =
+    tie.close
+    (tie.spec
+    ahead-requires
+    ahead-requires-2
+    field-requires
+    bits-expression-requires
+    enum-known-r
+    enum-told
+    stopped-requires
+    same-length
+    same-length-2
+    returns
+    bits-expression-requires-2
+    enum-known-r2
+    enum-told-2
+    stopped-requires-2
+    same-length-3
+    same-length-4
+    returns-2
+    multiply-requires
+    enum-known-r3
+    enum-told-3
+    stopped-requires-3
+    same-length-5
+    same-length-6
+    returns-3
+    assign-wire-requires
+    same-length-7
+    same-length-8
+    same-length-9
+    returns-4)

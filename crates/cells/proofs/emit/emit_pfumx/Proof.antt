@@ -1,0 +1,154 @@
+use borrow.Author.Needs.{needs}
+use Rattle.cells.proofs.emit.emit_pfumx.Statement.{statement}
+use Rattle.cells.proofs.emit.emit_pfumx.Tie as tie
+use Rattle.cells.proofs.emit.emit_pfumx.Reads as reads
+use Rattle.cells.proofs.emit.emit_pfumx.Lts as lts
+use Rattle.cells.proofs.answers.stopped.Reads as stopped-reads
+use Rattle.optimize.proofs.optimizer.mux.Reads as mux-reads
+use Rattle.wires.proofs.expressions.assign_wire.Reads as assign-wire-reads
+use Rattle.wires.proofs.expressions.bit_expression.Reads as bit-expression-reads
+
+-- src/emit.rt:124:9
+bit-expression-requires : tie.Need-bit-expression-requires
+bit-expression-requires c κs = search needs
+
+-- src/emit.rt:125:23
+enum-known-r : tie.Need-enum-known-r
+enum-known-r c = search needs
+
+-- src/emit.rt:126:9
+enum-told : tie.Need-enum-told
+enum-told c = search needs
+
+-- src/emit.rt:126:9
+stopped-requires : tie.Need-stopped-requires
+stopped-requires c κs = search needs
+
+-- src/emit.rt:126:9
+same-length : tie.Need-same-length
+same-length c = search needs
+
+-- src/emit.rt:126:9
+returns : tie.Need-returns
+returns c = ?
+
+-- src/emit.rt:128:9
+bit-expression-requires-2 : tie.Need-bit-expression-requires-2
+bit-expression-requires-2 c κs = search needs
+
+-- src/emit.rt:129:23
+enum-known-r2 : tie.Need-enum-known-r2
+enum-known-r2 c = search needs
+
+-- src/emit.rt:130:9
+enum-told-2 : tie.Need-enum-told-2
+enum-told-2 c = search needs
+
+-- src/emit.rt:130:9
+stopped-requires-2 : tie.Need-stopped-requires-2
+stopped-requires-2 c κs = search needs
+
+-- src/emit.rt:130:9
+same-length-2 : tie.Need-same-length-2
+same-length-2 c = search needs
+
+-- src/emit.rt:130:9
+returns-2 : tie.Need-returns-2
+returns-2 c = ?
+
+-- src/emit.rt:132:9
+bit-expression-requires-3 : tie.Need-bit-expression-requires-3
+bit-expression-requires-3 c κs = search needs
+
+-- src/emit.rt:133:23
+enum-known-r3 : tie.Need-enum-known-r3
+enum-known-r3 c = search needs
+
+-- src/emit.rt:134:9
+enum-told-3 : tie.Need-enum-told-3
+enum-told-3 c = search needs
+
+-- src/emit.rt:134:9
+stopped-requires-3 : tie.Need-stopped-requires-3
+stopped-requires-3 c κs = search needs
+
+-- src/emit.rt:134:9
+same-length-3 : tie.Need-same-length-3
+same-length-3 c = search needs
+
+-- src/emit.rt:134:9
+returns-3 : tie.Need-returns-3
+returns-3 c = ?
+
+-- src/emit.rt:136:9
+mux-requires : tie.Need-mux-requires
+mux-requires c κs = search needs
+
+-- src/emit.rt:137:23
+enum-known-r4 : tie.Need-enum-known-r4
+enum-known-r4 c = search needs
+
+-- src/emit.rt:138:9
+enum-told-4 : tie.Need-enum-told-4
+enum-told-4 c = search needs
+
+-- src/emit.rt:138:9
+stopped-requires-4 : tie.Need-stopped-requires-4
+stopped-requires-4 c κs = search needs
+
+-- src/emit.rt:138:9
+same-length-4 : tie.Need-same-length-4
+same-length-4 c = ?
+
+-- src/emit.rt:138:9
+returns-4 : tie.Need-returns-4
+returns-4 c = ?
+
+-- src/emit.rt:140:5
+assign-wire-requires : tie.Need-assign-wire-requires
+assign-wire-requires c κs = search needs
+
+-- src/emit.rt:111:1
+same-length-5 : tie.Need-same-length-5
+same-length-5 c = ?
+
+-- src/emit.rt:111:1
+same-length-6 : tie.Need-same-length-6
+same-length-6 c = search needs
+
+-- src/emit.rt:111:1
+returns-5 : tie.Need-returns-5
+returns-5 c = ?
+
+pub emit-pfumx-spec : {M : Type 1} → statement M
+emit-pfumx-spec =
+    tie.close
+    (tie.spec
+    bit-expression-requires
+    enum-known-r
+    enum-told
+    stopped-requires
+    same-length
+    returns
+    bit-expression-requires-2
+    enum-known-r2
+    enum-told-2
+    stopped-requires-2
+    same-length-2
+    returns-2
+    bit-expression-requires-3
+    enum-known-r3
+    enum-told-3
+    stopped-requires-3
+    same-length-3
+    returns-3
+    mux-requires
+    enum-known-r4
+    enum-told-4
+    stopped-requires-4
+    same-length-4
+    returns-4
+    assign-wire-requires
+    same-length-5
+    same-length-6
+    returns-5)

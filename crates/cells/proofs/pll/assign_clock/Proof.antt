@@ -1,0 +1,25 @@
+use borrow.Author.Needs.{needs}
+use Rattle.cells.proofs.pll.assign_clock.Statement.{statement}
+use Rattle.cells.proofs.pll.assign_clock.Tie as tie
+use Rattle.cells.proofs.pll.assign_clock.Reads as reads
+use Rattle.cells.proofs.pll.assign_clock.Lts as lts
+use Rattle.cells.proofs.pll.assign_unless.Reads as assign-unless-reads
+
+-- src/pll.rt:56:9
+returns : tie.Need-returns
+returns c = ?
+
+-- src/pll.rt:58:5
+assign-unless-requires : tie.Need-assign-unless-requires
+assign-unless-requires c κs = search needs
+
+-- src/pll.rt:43:1
+same-length : tie.Need-same-length
+same-length c = search needs
+
+-- src/pll.rt:43:1
+returns-2 : tie.Need-returns-2
+returns-2 c = ?
+
+pub assign-clock-spec : {M : Type 1} → statement M
+assign-clock-spec = tie.close (tie.spec returns assign-unless-requires same-length returns-2)

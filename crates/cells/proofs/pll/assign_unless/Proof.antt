@@ -1,0 +1,25 @@
+use borrow.Author.Needs.{needs}
+use Rattle.cells.proofs.pll.assign_unless.Statement.{statement}
+use Rattle.cells.proofs.pll.assign_unless.Tie as tie
+use Rattle.cells.proofs.pll.assign_unless.Reads as reads
+use Rattle.cells.proofs.pll.assign_unless.Lts as lts
+use Rattle.wires.proofs.expressions.assign_wire.Reads as assign-wire-reads
+
+-- src/pll.rt:37:9
+returns : tie.Need-returns
+returns c = ?
+
+-- src/pll.rt:39:5
+assign-wire-requires : tie.Need-assign-wire-requires
+assign-wire-requires c κs = search needs
+
+-- src/pll.rt:25:1
+same-length : tie.Need-same-length
+same-length c = search needs
+
+-- src/pll.rt:25:1
+returns-2 : tie.Need-returns-2
+returns-2 c = ?
+
+pub assign-unless-spec : {M : Type 1} → statement M
+assign-unless-spec = tie.close (tie.spec returns assign-wire-requires same-length returns-2)
