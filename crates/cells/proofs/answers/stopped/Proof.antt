@@ -1,3 +1,7 @@
+use Rattle.cells.specs.Answers.{changed, nothing, nought, first, fourfold, readOf}
+use Rattle.recorder.specs.declared.Emitted.{Emitted}
+use Rattle.recorder.specs.Lists.{emitted, stated}
+use mathlib.Core.Path.{_≡_, refl, sym, ap, _∙_}
 use borrow.Author.Needs.{needs}
 use Rattle.cells.proofs.answers.stopped.Statement.{statement}
 use Rattle.cells.proofs.answers.stopped.Tie as tie
@@ -14,11 +18,13 @@ enum-known-r-2 c = search needs
 
 -- src/answers.rt:10:1
 returns : tie.Need-returns
-returns c = ?
+unfolding changed
+returns c = sym (ap (λ (x : Emitted). changed nothing (emitted x)) (c .before .r .given .1))
 
 -- src/answers.rt:10:1
 returns-2 : tie.Need-returns-2
-returns-2 c = ?
+unfolding changed
+returns-2 c = sym (ap (λ (x : Emitted). changed nothing (emitted x)) (c .before .r2 .given .1))
 
 pub stopped-spec : {M : Type 1} → statement M
 stopped-spec = tie.close (tie.spec enum-known-r enum-known-r-2 returns returns-2)

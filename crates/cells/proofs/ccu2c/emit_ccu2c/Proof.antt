@@ -1,3 +1,9 @@
+use Rattle.cells.specs.Cells.{emitCcu2c}
+use Rattle.cells.specs.Answers.{nothing}
+use Rattle.cells.proofs.Laws.{then-changed}
+use Rattle.recorder.proofs.Wrote.{then-done}
+use Rattle.recorder.specs.Lists.{emitted}
+use mathlib.Core.Path.{_≡_, refl, sym, ap, _∙_}
 use borrow.Author.Needs.{needs}
 use Rattle.cells.proofs.ccu2c.emit_ccu2c.Statement.{statement}
 use Rattle.cells.proofs.ccu2c.emit_ccu2c.Tie as tie
@@ -38,7 +44,8 @@ same-length c = search needs
 
 -- src/ccu2c.rt:91:9
 returns : tie.Need-returns
-returns c = ?
+unfolding emitCcu2c
+returns c = λ s. then-changed nothing (c .before .before .before .before .before .bit-expression .ensures s _) _ (ap emitted (c .before .enum-told .given .1)) (c .stopped .ensures)
 
 -- src/ccu2c.rt:100:9
 array-read-emit-slice : tie.Need-array-read-emit-slice
@@ -78,7 +85,8 @@ same-length-3 c = search needs
 
 -- src/ccu2c.rt:106:9
 returns-2 : tie.Need-returns-2
-returns-2 c = ?
+unfolding emitCcu2c
+returns-2 c = λ s. then-done (c .before .before .before .before .before .before .before .before .before .before .before .before .before .before .before .bit-expression .ensures s _) _ (ap emitted (c .before .before .before .before .before .before .before .before .before .before .before .r .given .1)) (then-changed nothing (c .before .before .before .before .before .before .before .emit-slice .ensures s) _ (ap emitted (c .before .enum-told2 .given .1)) (c .stopped2 .ensures))
 
 -- src/ccu2c.rt:115:9
 array-read-emit-slice-4 : tie.Need-array-read-emit-slice-4
@@ -110,7 +118,7 @@ stopped-requires-3 c κs = search needs
 
 -- src/ccu2c.rt:121:9
 same-length-4 : tie.Need-same-length-4
-same-length-4 c = ?
+same-length-4 c = c .before .before .before .before .before .before .exprs3 .given ∙ c .before .before .before .before .before .before .before .before .before .before .before .before .before .before .before .before .exprs2 .given ∙ c .before .before .before .before .before .before .before .before .before .before .before .before .before .before .before .before .before .before .before .before .before .before .before .before .exprs .given
 
 -- src/ccu2c.rt:121:9
 same-length-5 : tie.Need-same-length-5
@@ -118,7 +126,8 @@ same-length-5 c = search needs
 
 -- src/ccu2c.rt:121:9
 returns-3 : tie.Need-returns-3
-returns-3 c = ?
+unfolding emitCcu2c
+returns-3 c = λ s. then-done (c .before .before .before .before .before .before .before .before .before .before .before .before .before .before .before .before .before .before .before .before .before .before .before .before .before .bit-expression .ensures s _) _ (ap emitted (c .before .before .before .before .before .before .before .before .before .before .before .before .before .before .before .before .before .before .before .before .before .r .given .1)) (then-done (c .before .before .before .before .before .before .before .before .before .before .before .before .before .before .before .before .before .emit-slice .ensures s) _ (ap emitted (c .before .before .before .before .before .before .before .before .before .before .before .r2 .given .1)) (then-changed nothing (c .before .before .before .before .before .before .before .emit-slice2 .ensures s) _ (ap emitted (c .before .enum-told3 .given .1)) (c .stopped3 .ensures)))
 
 -- src/ccu2c.rt:123:5
 assign-wire-requires : tie.Need-assign-wire-requires
@@ -126,15 +135,16 @@ assign-wire-requires c κs = search needs
 
 -- src/ccu2c.rt:72:1
 same-length-6 : tie.Need-same-length-6
-same-length-6 c = ?
+same-length-6 c = c .before .before .before .before .before .before .before .before .before .before .exprs3 .given ∙ c .before .before .before .before .before .before .before .before .before .before .before .before .before .before .before .before .before .before .before .before .exprs2 .given ∙ c .before .before .before .before .before .before .before .before .before .before .before .before .before .before .before .before .before .before .before .before .before .before .before .before .before .before .before .before .exprs .given
 
 -- src/ccu2c.rt:72:1
 same-length-7 : tie.Need-same-length-7
-same-length-7 c = ?
+same-length-7 c = c .before .stmts3 .given ∙ c .before .before .before .before .before .before .before .before .stmts2 .given ∙ c .before .before .before .before .before .before .before .before .before .before .before .before .before .before .before .before .before .before .stmts .given
 
 -- src/ccu2c.rt:72:1
 returns-4 : tie.Need-returns-4
-returns-4 c = ?
+unfolding emitCcu2c
+returns-4 c = λ s. then-done (c .before .before .before .before .before .before .before .before .before .before .before .before .before .before .before .before .before .before .before .before .before .before .before .before .before .before .before .before .before .bit-expression .ensures s _) _ (ap emitted (c .before .before .before .before .before .before .before .before .before .before .before .before .before .before .before .before .before .before .before .before .before .before .before .before .before .r .given .1)) (then-done (c .before .before .before .before .before .before .before .before .before .before .before .before .before .before .before .before .before .before .before .before .before .emit-slice .ensures s) _ (ap emitted (c .before .before .before .before .before .before .before .before .before .before .before .before .before .before .before .r2 .given .1)) (then-done (c .before .before .before .before .before .before .before .before .before .before .before .emit-slice2 .ensures s) _ (ap emitted (c .before .before .before .before .before .r3 .given .1)) (c .before .before .assign-wire .ensures s _)))
 
 pub emit-ccu2c-spec : {M : Type 1} → statement M
 emit-ccu2c-spec =

@@ -1,3 +1,9 @@
+use Rattle.cells.specs.Cells.{emitL6mux21}
+use Rattle.cells.specs.Answers.{nothing}
+use Rattle.cells.proofs.Laws.{then-changed}
+use Rattle.recorder.proofs.Wrote.{then-done}
+use Rattle.recorder.specs.Lists.{emitted}
+use mathlib.Core.Path.{_≡_, refl, sym, ap, _∙_}
 use borrow.Author.Needs.{needs}
 use Rattle.cells.proofs.emit.emit_l6mux21.Statement.{statement}
 use Rattle.cells.proofs.emit.emit_l6mux21.Tie as tie
@@ -30,7 +36,8 @@ same-length c = search needs
 
 -- src/emit.rt:158:9
 returns : tie.Need-returns
-returns c = ?
+unfolding emitL6mux21
+returns c = λ s. then-changed nothing (c .before .before .before .before .before .bit-expression .ensures s _) _ (ap emitted (c .before .enum-told .given .1)) (c .stopped .ensures)
 
 -- src/emit.rt:160:9
 bit-expression-requires-2 : tie.Need-bit-expression-requires-2
@@ -54,7 +61,8 @@ same-length-2 c = search needs
 
 -- src/emit.rt:162:9
 returns-2 : tie.Need-returns-2
-returns-2 c = ?
+unfolding emitL6mux21
+returns-2 c = λ s. then-done (c .before .before .before .before .before .before .before .before .before .before .before .before .bit-expression .ensures s _) _ (ap emitted (c .before .before .before .before .before .before .before .before .r .given .1)) (then-changed nothing (c .before .before .before .before .before .bit-expression2 .ensures s _) _ (ap emitted (c .before .enum-told2 .given .1)) (c .stopped2 .ensures))
 
 -- src/emit.rt:164:9
 bit-expression-requires-3 : tie.Need-bit-expression-requires-3
@@ -78,7 +86,8 @@ same-length-3 c = search needs
 
 -- src/emit.rt:166:9
 returns-3 : tie.Need-returns-3
-returns-3 c = ?
+unfolding emitL6mux21
+returns-3 c = λ s. then-done (c .before .before .before .before .before .before .before .before .before .before .before .before .before .before .before .before .before .before .before .bit-expression .ensures s _) _ (ap emitted (c .before .before .before .before .before .before .before .before .before .before .before .before .before .before .before .r .given .1)) (then-done (c .before .before .before .before .before .before .before .before .before .before .before .before .bit-expression2 .ensures s _) _ (ap emitted (c .before .before .before .before .before .before .before .before .r2 .given .1)) (then-changed nothing (c .before .before .before .before .before .bit-expression3 .ensures s _) _ (ap emitted (c .before .enum-told3 .given .1)) (c .stopped3 .ensures)))
 
 -- src/emit.rt:168:9
 mux-requires : tie.Need-mux-requires
@@ -98,11 +107,12 @@ stopped-requires-4 c κs = search needs
 
 -- src/emit.rt:170:9
 same-length-4 : tie.Need-same-length-4
-same-length-4 c = ?
+same-length-4 c = c .before .before .before .before .exprs4 .given ∙ c .before .before .before .before .before .before .before .before .before .before .before .exprs3 .given ∙ c .before .before .before .before .before .before .before .before .before .before .before .before .before .before .before .before .before .before .exprs2 .given ∙ c .before .before .before .before .before .before .before .before .before .before .before .before .before .before .before .before .before .before .before .before .before .before .before .before .before .exprs .given
 
 -- src/emit.rt:170:9
 returns-4 : tie.Need-returns-4
-returns-4 c = ?
+unfolding emitL6mux21
+returns-4 c = λ s. then-done (c .before .before .before .before .before .before .before .before .before .before .before .before .before .before .before .before .before .before .before .before .before .before .before .before .before .before .bit-expression .ensures s _) _ (ap emitted (c .before .before .before .before .before .before .before .before .before .before .before .before .before .before .before .before .before .before .before .before .before .before .r .given .1)) (then-done (c .before .before .before .before .before .before .before .before .before .before .before .before .before .before .before .before .before .before .before .bit-expression2 .ensures s _) _ (ap emitted (c .before .before .before .before .before .before .before .before .before .before .before .before .before .before .before .r2 .given .1)) (then-done (c .before .before .before .before .before .before .before .before .before .before .before .before .bit-expression3 .ensures s _) _ (ap emitted (c .before .before .before .before .before .before .before .before .r3 .given .1)) (then-changed nothing (c .before .before .before .before .before .mux .ensures s _) _ (ap emitted (c .before .enum-told4 .given .1)) (c .stopped4 .ensures))))
 
 -- src/emit.rt:172:5
 assign-wire-requires : tie.Need-assign-wire-requires
@@ -110,7 +120,7 @@ assign-wire-requires c κs = search needs
 
 -- src/emit.rt:143:1
 same-length-5 : tie.Need-same-length-5
-same-length-5 c = ?
+same-length-5 c = c .before .before .before .before .before .before .before .before .exprs4 .given ∙ c .before .before .before .before .before .before .before .before .before .before .before .before .before .before .before .exprs3 .given ∙ c .before .before .before .before .before .before .before .before .before .before .before .before .before .before .before .before .before .before .before .before .before .before .exprs2 .given ∙ c .before .before .before .before .before .before .before .before .before .before .before .before .before .before .before .before .before .before .before .before .before .before .before .before .before .before .before .before .before .exprs .given
 
 -- src/emit.rt:143:1
 same-length-6 : tie.Need-same-length-6
@@ -118,7 +128,8 @@ same-length-6 c = search needs
 
 -- src/emit.rt:143:1
 returns-5 : tie.Need-returns-5
-returns-5 c = ?
+unfolding emitL6mux21
+returns-5 c = λ s. then-done (c .before .before .before .before .before .before .before .before .before .before .before .before .before .before .before .before .before .before .before .before .before .before .before .before .before .before .before .before .before .before .bit-expression .ensures s _) _ (ap emitted (c .before .before .before .before .before .before .before .before .before .before .before .before .before .before .before .before .before .before .before .before .before .before .before .before .before .before .r .given .1)) (then-done (c .before .before .before .before .before .before .before .before .before .before .before .before .before .before .before .before .before .before .before .before .before .before .before .bit-expression2 .ensures s _) _ (ap emitted (c .before .before .before .before .before .before .before .before .before .before .before .before .before .before .before .before .before .before .before .r2 .given .1)) (then-done (c .before .before .before .before .before .before .before .before .before .before .before .before .before .before .before .before .bit-expression3 .ensures s _) _ (ap emitted (c .before .before .before .before .before .before .before .before .before .before .before .before .r3 .given .1)) (then-done (c .before .before .before .before .before .before .before .before .before .mux .ensures s _) _ (ap emitted (c .before .before .before .before .before .r4 .given .1)) (c .before .before .assign-wire .ensures s _))))
 
 pub emit-l6mux21-spec : {M : Type 1} → statement M
 emit-l6mux21-spec =

@@ -1,3 +1,9 @@
+use Rattle.cells.specs.Cells.{emitLut4}
+use Rattle.cells.specs.Answers.{first, nothing, readOf}
+use Rattle.cells.proofs.Laws.{then-failed, changed-failed, then-changed}
+use Rattle.recorder.proofs.Wrote.{then-done}
+use Rattle.recorder.specs.Lists.{emitted}
+use mathlib.Core.Path.{_≡_, refl, sym, ap, _∙_}
 use borrow.Author.Needs.{needs}
 use Rattle.cells.proofs.emit.emit_lut4.Statement.{statement}
 use Rattle.cells.proofs.emit.emit_lut4.Tie as tie
@@ -35,7 +41,8 @@ same-length c = search needs
 
 -- src/emit.rt:101:9
 returns : tie.Need-returns
-returns c = ?
+unfolding emitLut4
+returns c = λ s. then-failed (c .before .before .before .before .before .before .read4 .ensures s _) _ (ap readOf (c .before .before .enum-told .given .1)) (changed-failed nothing (c .stopped .ensures) (changed-failed first (c .before .stopped-read .ensures) (ap readOf (c .before .before .enum-told .given .1))))
 
 -- src/emit.rt:104:9
 lut-requires : tie.Need-lut-requires
@@ -59,7 +66,8 @@ same-length-2 c = search needs
 
 -- src/emit.rt:106:9
 returns-2 : tie.Need-returns-2
-returns-2 c = ?
+unfolding emitLut4
+returns-2 c = λ s. then-done (c .before .before .before .before .before .before .before .before .before .before .before .before .read4 .ensures s _) _ (ap readOf (c .before .before .before .before .before .before .before .before .r .given .1)) (then-changed nothing (c .before .before .before .before .before .lut .ensures s _) _ (ap emitted (c .before .enum-told2 .given .1)) (c .stopped2 .ensures))
 
 -- src/emit.rt:108:5
 assign-wire-requires : tie.Need-assign-wire-requires
@@ -75,7 +83,8 @@ same-length-4 c = search needs
 
 -- src/emit.rt:87:1
 returns-3 : tie.Need-returns-3
-returns-3 c = ?
+unfolding emitLut4
+returns-3 c = λ s. then-done (c .before .before .before .before .before .before .before .before .before .before .before .before .before .before .before .before .read4 .ensures s _) _ (ap readOf (c .before .before .before .before .before .before .before .before .before .before .before .before .r .given .1)) (then-done (c .before .before .before .before .before .before .before .before .before .lut .ensures s _) _ (ap emitted (c .before .before .before .before .before .r2 .given .1)) (c .before .before .assign-wire .ensures s _))
 
 pub emit-lut4-spec : {M : Type 1} → statement M
 emit-lut4-spec =

@@ -1,3 +1,10 @@
+use Rattle.wires.specs.Wires.{wiresOf}
+use lib.ListN.{length}
+use Rattle.cells.specs.Answers.{fourfold}
+use Rattle.cells.proofs.Laws.{then-changed, read-four}
+use Rattle.recorder.proofs.Wrote.{wrote-as, wrote-pure, then-done}
+use Rattle.recorder.specs.Lists.{emitted}
+use mathlib.Core.Path.{_≡_, refl, sym, ap, _∙_}
 use borrow.Author.Needs.{needs}
 use Rattle.cells.proofs.emit.read4.Statement.{statement}
 use Rattle.cells.proofs.emit.read4.Tie as tie
@@ -32,7 +39,7 @@ same-length c = search needs
 
 -- src/emit.rt:39:9
 returns : tie.Need-returns
-returns c = ?
+returns c = λ s m. let st = c .before .before .before .before .before .before .before .before .before .before .before in let four : length (st .args .t5) ≡ 4 = search needs in wrote-as (read-four (wiresOf (c .before .before .before .before .before .before .before .before .before .before .before .args .signals .now) (c .before .before .before .before .before .before .before .before .before .before .before .args .places .now)) (c .before .before .before .before .before .before .before .before .before .before .before .args .t5) four) (then-changed fourfold (c .before .before .before .before .before .bit-expression .ensures s m) _ (ap emitted (c .before .enum-told .given .1)) (c .unread .ensures))
 
 -- src/emit.rt:41:62
 array-copy-out-bit-expression-2 : tie.Need-array-copy-out-bit-expression-2
@@ -60,7 +67,7 @@ same-length-2 c = search needs
 
 -- src/emit.rt:43:9
 returns-2 : tie.Need-returns-2
-returns-2 c = ?
+returns-2 c = λ s m. let st = c .before .before .before .before .before .before .before .before .before .before .before .before .before .before .before .before .before .before .before in let four : length (st .args .t5) ≡ 4 = search needs in wrote-as (read-four (wiresOf (c .before .before .before .before .before .before .before .before .before .before .before .before .before .before .before .before .before .before .before .args .signals .now) (c .before .before .before .before .before .before .before .before .before .before .before .before .before .before .before .before .before .before .before .args .places .now)) (c .before .before .before .before .before .before .before .before .before .before .before .before .before .before .before .before .before .before .before .args .t5) four) (then-done (c .before .before .before .before .before .before .before .before .before .before .before .before .before .bit-expression .ensures s m) _ (ap emitted (c .before .before .before .before .before .before .before .before .before .r .given .1)) (then-changed fourfold (c .before .before .before .before .before .bit-expression2 .ensures s m) _ (ap emitted (c .before .enum-told2 .given .1)) (c .unread2 .ensures)))
 
 -- src/emit.rt:45:62
 array-copy-out-bit-expression-3 : tie.Need-array-copy-out-bit-expression-3
@@ -84,11 +91,11 @@ unread-requires-3 c κs = search needs
 
 -- src/emit.rt:47:9
 same-length-3 : tie.Need-same-length-3
-same-length-3 c = ?
+same-length-3 c = c .before .before .before .before .exprs3 .given ∙ c .before .before .before .before .before .before .before .before .before .before .before .before .exprs2 .given ∙ c .before .before .before .before .before .before .before .before .before .before .before .before .before .before .before .before .before .before .before .before .exprs .given
 
 -- src/emit.rt:47:9
 returns-3 : tie.Need-returns-3
-returns-3 c = ?
+returns-3 c = λ s m. let st = c .before .before .before .before .before .before .before .before .before .before .before .before .before .before .before .before .before .before .before .before .before .before .before .before .before .before .before in let four : length (st .args .t5) ≡ 4 = search needs in wrote-as (read-four (wiresOf (c .before .before .before .before .before .before .before .before .before .before .before .before .before .before .before .before .before .before .before .before .before .before .before .before .before .before .before .args .signals .now) (c .before .before .before .before .before .before .before .before .before .before .before .before .before .before .before .before .before .before .before .before .before .before .before .before .before .before .before .args .places .now)) (c .before .before .before .before .before .before .before .before .before .before .before .before .before .before .before .before .before .before .before .before .before .before .before .before .before .before .before .args .t5) four) (then-done (c .before .before .before .before .before .before .before .before .before .before .before .before .before .before .before .before .before .before .before .before .before .bit-expression .ensures s m) _ (ap emitted (c .before .before .before .before .before .before .before .before .before .before .before .before .before .before .before .before .before .r .given .1)) (then-done (c .before .before .before .before .before .before .before .before .before .before .before .before .before .bit-expression2 .ensures s m) _ (ap emitted (c .before .before .before .before .before .before .before .before .before .r2 .given .1)) (then-changed fourfold (c .before .before .before .before .before .bit-expression3 .ensures s m) _ (ap emitted (c .before .enum-told3 .given .1)) (c .unread3 .ensures))))
 
 -- src/emit.rt:49:62
 array-copy-out-bit-expression-4 : tie.Need-array-copy-out-bit-expression-4
@@ -112,19 +119,19 @@ unread-requires-4 c κs = search needs
 
 -- src/emit.rt:51:9
 same-length-4 : tie.Need-same-length-4
-same-length-4 c = ?
+same-length-4 c = c .before .before .before .before .exprs4 .given ∙ c .before .before .before .before .before .before .before .before .before .before .before .before .exprs3 .given ∙ c .before .before .before .before .before .before .before .before .before .before .before .before .before .before .before .before .before .before .before .before .exprs2 .given ∙ c .before .before .before .before .before .before .before .before .before .before .before .before .before .before .before .before .before .before .before .before .before .before .before .before .before .before .before .before .exprs .given
 
 -- src/emit.rt:51:9
 returns-4 : tie.Need-returns-4
-returns-4 c = ?
+returns-4 c = λ s m. let st = c .before .before .before .before .before .before .before .before .before .before .before .before .before .before .before .before .before .before .before .before .before .before .before .before .before .before .before .before .before .before .before .before .before .before .before in let four : length (st .args .t5) ≡ 4 = search needs in wrote-as (read-four (wiresOf (c .before .before .before .before .before .before .before .before .before .before .before .before .before .before .before .before .before .before .before .before .before .before .before .before .before .before .before .before .before .before .before .before .before .before .before .args .signals .now) (c .before .before .before .before .before .before .before .before .before .before .before .before .before .before .before .before .before .before .before .before .before .before .before .before .before .before .before .before .before .before .before .before .before .before .before .args .places .now)) (c .before .before .before .before .before .before .before .before .before .before .before .before .before .before .before .before .before .before .before .before .before .before .before .before .before .before .before .before .before .before .before .before .before .before .before .args .t5) four) (then-done (c .before .before .before .before .before .before .before .before .before .before .before .before .before .before .before .before .before .before .before .before .before .before .before .before .before .before .before .before .before .bit-expression .ensures s m) _ (ap emitted (c .before .before .before .before .before .before .before .before .before .before .before .before .before .before .before .before .before .before .before .before .before .before .before .before .before .r .given .1)) (then-done (c .before .before .before .before .before .before .before .before .before .before .before .before .before .before .before .before .before .before .before .before .before .bit-expression2 .ensures s m) _ (ap emitted (c .before .before .before .before .before .before .before .before .before .before .before .before .before .before .before .before .before .r2 .given .1)) (then-done (c .before .before .before .before .before .before .before .before .before .before .before .before .before .bit-expression3 .ensures s m) _ (ap emitted (c .before .before .before .before .before .before .before .before .before .r3 .given .1)) (then-changed fourfold (c .before .before .before .before .before .bit-expression4 .ensures s m) _ (ap emitted (c .before .enum-told4 .given .1)) (c .unread4 .ensures)))))
 
 -- src/emit.rt:28:1
 same-length-5 : tie.Need-same-length-5
-same-length-5 c = ?
+same-length-5 c = c .before .before .before .before .exprs4 .given ∙ c .before .before .before .before .before .before .before .before .before .before .before .before .exprs3 .given ∙ c .before .before .before .before .before .before .before .before .before .before .before .before .before .before .before .before .before .before .before .before .exprs2 .given ∙ c .before .before .before .before .before .before .before .before .before .before .before .before .before .before .before .before .before .before .before .before .before .before .before .before .before .before .before .before .exprs .given
 
 -- src/emit.rt:28:1
 returns-5 : tie.Need-returns-5
-returns-5 c = ?
+returns-5 c = λ s m. let st = c .before .before .before .before .before .before .before .before .before .before .before .before .before .before .before .before .before .before .before .before .before .before .before .before .before .before .before .before .before .before .before .before .before .before .before in let four : length (st .args .t5) ≡ 4 = search needs in wrote-as (read-four (wiresOf (c .before .before .before .before .before .before .before .before .before .before .before .before .before .before .before .before .before .before .before .before .before .before .before .before .before .before .before .before .before .before .before .before .before .before .before .args .signals .now) (c .before .before .before .before .before .before .before .before .before .before .before .before .before .before .before .before .before .before .before .before .before .before .before .before .before .before .before .before .before .before .before .before .before .before .before .args .places .now)) (c .before .before .before .before .before .before .before .before .before .before .before .before .before .before .before .before .before .before .before .before .before .before .before .before .before .before .before .before .before .before .before .before .before .before .before .args .t5) four) (then-done (c .before .before .before .before .before .before .before .before .before .before .before .before .before .before .before .before .before .before .before .before .before .before .before .before .before .before .before .before .before .bit-expression .ensures s m) _ (ap emitted (c .before .before .before .before .before .before .before .before .before .before .before .before .before .before .before .before .before .before .before .before .before .before .before .before .before .r .given .1)) (then-done (c .before .before .before .before .before .before .before .before .before .before .before .before .before .before .before .before .before .before .before .before .before .bit-expression2 .ensures s m) _ (ap emitted (c .before .before .before .before .before .before .before .before .before .before .before .before .before .before .before .before .before .r2 .given .1)) (then-done (c .before .before .before .before .before .before .before .before .before .before .before .before .before .bit-expression3 .ensures s m) _ (ap emitted (c .before .before .before .before .before .before .before .before .before .r3 .given .1)) (then-done (c .before .before .before .before .before .bit-expression4 .ensures s m) _ (ap emitted (c .before .r4 .given .1)) wrote-pure))))
 
 pub read4-spec : {M : Type 1} → statement M
 read4-spec =

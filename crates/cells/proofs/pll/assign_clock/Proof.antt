@@ -1,3 +1,5 @@
+use Rattle.recorder.proofs.Wrote.{wrote-as, wrote-pure}
+use borrow.Author.Tests.{eq-eqb, ne-eqb}
 use borrow.Author.Needs.{needs}
 use Rattle.cells.proofs.pll.assign_clock.Statement.{statement}
 use Rattle.cells.proofs.pll.assign_clock.Tie as tie
@@ -7,7 +9,7 @@ use Rattle.cells.proofs.pll.assign_unless.Reads as assign-unless-reads
 
 -- src/pll.rt:56:9
 returns : tie.Need-returns
-returns c = ?
+returns c = λ s e. wrote-as (rw (eq-eqb _ _ (c .if1 .taken))) wrote-pure
 
 -- src/pll.rt:58:5
 assign-unless-requires : tie.Need-assign-unless-requires
@@ -19,7 +21,7 @@ same-length c = search needs
 
 -- src/pll.rt:43:1
 returns-2 : tie.Need-returns-2
-returns-2 c = ?
+returns-2 c = λ s e. wrote-as (rw (ne-eqb _ _ (c .before .before .before .before .if1 .left))) (c .before .before .assign-unless .ensures s e)
 
 pub assign-clock-spec : {M : Type 1} → statement M
 assign-clock-spec = tie.close (tie.spec returns assign-unless-requires same-length returns-2)

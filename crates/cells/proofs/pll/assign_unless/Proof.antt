@@ -1,3 +1,5 @@
+use Rattle.recorder.proofs.Wrote.{wrote-as, wrote-pure}
+use borrow.Author.Tests.{eq-eqb, ne-eqb}
 use borrow.Author.Needs.{needs}
 use Rattle.cells.proofs.pll.assign_unless.Statement.{statement}
 use Rattle.cells.proofs.pll.assign_unless.Tie as tie
@@ -7,7 +9,7 @@ use Rattle.wires.proofs.expressions.assign_wire.Reads as assign-wire-reads
 
 -- src/pll.rt:37:9
 returns : tie.Need-returns
-returns c = ?
+returns c = λ s e. wrote-as (rw (eq-eqb _ _ (c .if1 .taken))) wrote-pure
 
 -- src/pll.rt:39:5
 assign-wire-requires : tie.Need-assign-wire-requires
@@ -19,7 +21,7 @@ same-length c = search needs
 
 -- src/pll.rt:25:1
 returns-2 : tie.Need-returns-2
-returns-2 c = ?
+returns-2 c = λ s e. wrote-as (rw (ne-eqb _ _ (c .before .before .before .before .if1 .left))) (c .before .before .assign-wire .ensures s e)
 
 pub assign-unless-spec : {M : Type 1} → statement M
 assign-unless-spec = tie.close (tie.spec returns assign-wire-requires same-length returns-2)
