@@ -2,7 +2,6 @@ use Rattle.cells.specs.Answers.{changed, nothing, nought, first, fourfol
 use Rattle.cells.specs.declared.Read4.{Read4}
 use Rattle.recorder.specs.Lists.{emitted, stated}
 use mathlib.Core.Path.{_≡_, refl, sym, ap, _∙_}
-use borrow.Author.Needs.{needs}
 use Rattle.cells.proofs.answers.stopped_read.Statement.{statement}
 use Rattle.cells.proofs.answers.stopped_read.Tie as tie
 use Rattle.cells.proofs.answers.stopped_read.Reads as reads
@@ -10,11 +9,11 @@ use Rattle.cells.proofs.answers.stopped_read.Lts as lts
 
 -- src/answers.rt:32:21
 enum-known-r : tie.Need-enum-known-r
-enum-known-r c = search needs
+enum-known-r c = c .match .keys1
 
 -- src/answers.rt:33:24
 enum-known-r-2 : tie.Need-enum-known-r-2
-enum-known-r-2 c = search needs
+enum-known-r-2 c = c .match .keys2
 
 -- src/answers.rt:28:1
 returns : tie.Need-returns

@@ -2,7 +2,6 @@ use Rattle.cells.specs.Answers.{changed, nothing, nought, first, fourfol
 use Rattle.recorder.specs.declared.Emitted.{Emitted}
 use Rattle.recorder.specs.Lists.{emitted, stated}
 use mathlib.Core.Path.{_≡_, refl, sym, ap, _∙_}
-use borrow.Author.Needs.{needs}
 use Rattle.cells.proofs.answers.unread.Statement.{statement}
 use Rattle.cells.proofs.answers.unread.Tie as tie
 use Rattle.cells.proofs.answers.unread.Reads as reads
@@ -10,11 +9,11 @@ use Rattle.cells.proofs.answers.unread.Lts as lts
 
 -- src/answers.rt:41:23
 enum-known-r : tie.Need-enum-known-r
-enum-known-r c = search needs
+enum-known-r c = c .match .keys1
 
 -- src/answers.rt:42:26
 enum-known-r-2 : tie.Need-enum-known-r-2
-enum-known-r-2 c = search needs
+enum-known-r-2 c = c .match .keys2
 
 -- src/answers.rt:37:1
 returns : tie.Need-returns

@@ -4,7 +4,6 @@ use Rattle.wires.specs.Expressions.{assignWire}
 use Rattle.wires.specs.Wires.{wiresOf}
 use Rattle.recorder.specs.Lists.{stated}
 use Rattle.netlist.specs.Fields.{wiresAt}
-use borrow.Author.Needs.{needs}
 use native.Mathlib.Omega.{arith}
 use lib.ListN.{length}
 use Prim.Native.Nat.{_+_, _-_, _≤_}
@@ -25,7 +24,7 @@ abbrev μ-loop : tie.MeasureT-loop
 
 -- src/assigns.rt:28:9
 ahead-requires : tie.Need-ahead-requires Inv-loop μ-loop
-ahead-requires c κs = search needs
+ahead-requires c κs = tt
 
 -- src/assigns.rt:31:5
 loop-holds : tie.Need-loop-holds Inv-loop μ-loop
@@ -33,19 +32,19 @@ loop-holds c = (omega arith, refl, doing-start (assign-each (wiresOf (c .before 
 
 -- src/assigns.rt:32:13
 field-requires : tie.Need-field-requires Inv-loop μ-loop
-field-requires c κs = search needs
+field-requires c κs = tt
 
 -- src/assigns.rt:33:13
 assign-wire-requires : tie.Need-assign-wire-requires Inv-loop μ-loop
-assign-wire-requires c κs = search needs
+assign-wire-requires c κs = tt
 
 -- src/assigns.rt:34:26
 enum-known-r : tie.Need-enum-known-r Inv-loop μ-loop
-enum-known-r c = search needs
+enum-known-r c = c .match .keys1
 
 -- src/assigns.rt:35:13
 enum-told : tie.Need-enum-told Inv-loop μ-loop
-enum-told c = search needs
+enum-told c = c .match .keys2
 
 -- src/assigns.rt:35:13
 same-length : tie.Need-same-length Inv-loop μ-loop

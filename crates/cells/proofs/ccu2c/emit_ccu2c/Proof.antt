@@ -24,23 +24,23 @@ array-copy-out-row1 c = search needs
 
 -- src/ccu2c.rt:89:9
 bit-expression-requires : tie.Need-bit-expression-requires
-bit-expression-requires c κs = search needs
+bit-expression-requires c κs = tt
 
 -- src/ccu2c.rt:90:23
 enum-known-r : tie.Need-enum-known-r
-enum-known-r c = search needs
+enum-known-r c = c .match .keys1
 
 -- src/ccu2c.rt:91:9
 enum-told : tie.Need-enum-told
-enum-told c = search needs
+enum-told c = c .match .keys2
 
 -- src/ccu2c.rt:91:9
 stopped-requires : tie.Need-stopped-requires
-stopped-requires c κs = search needs
+stopped-requires c κs = tt
 
 -- src/ccu2c.rt:91:9
 same-length : tie.Need-same-length
-same-length c = search needs
+same-length c = c .before .before .before .before .exprs .given
 
 -- src/ccu2c.rt:91:9
 returns : tie.Need-returns
@@ -61,27 +61,27 @@ array-read-emit-slice-3 c = search needs
 
 -- src/ccu2c.rt:93:9
 emit-slice-requires : tie.Need-emit-slice-requires
-emit-slice-requires c κs = search needs
+emit-slice-requires c κs = tt
 
 -- src/ccu2c.rt:105:23
 enum-known-r2 : tie.Need-enum-known-r2
-enum-known-r2 c = search needs
+enum-known-r2 c = c .match2 .keys1
 
 -- src/ccu2c.rt:106:9
 enum-told-2 : tie.Need-enum-told-2
-enum-told-2 c = search needs
+enum-told-2 c = c .match2 .keys2
 
 -- src/ccu2c.rt:106:9
 stopped-requires-2 : tie.Need-stopped-requires-2
-stopped-requires-2 c κs = search needs
+stopped-requires-2 c κs = tt
 
 -- src/ccu2c.rt:106:9
 same-length-2 : tie.Need-same-length-2
-same-length-2 c = search needs
+same-length-2 c = c .before .before .before .before .before .before .exprs2 .given ∙ c .before .before .before .before .before .before .before .before .before .before .before .before .before .before .exprs .given
 
 -- src/ccu2c.rt:106:9
 same-length-3 : tie.Need-same-length-3
-same-length-3 c = search needs
+same-length-3 c = c .before .before .before .before .stmts .given
 
 -- src/ccu2c.rt:106:9
 returns-2 : tie.Need-returns-2
@@ -102,19 +102,19 @@ array-read-emit-slice-6 c = search needs
 
 -- src/ccu2c.rt:108:9
 emit-slice-requires-2 : tie.Need-emit-slice-requires-2
-emit-slice-requires-2 c κs = search needs
+emit-slice-requires-2 c κs = tt
 
 -- src/ccu2c.rt:120:23
 enum-known-r3 : tie.Need-enum-known-r3
-enum-known-r3 c = search needs
+enum-known-r3 c = c .match3 .keys1
 
 -- src/ccu2c.rt:121:9
 enum-told-3 : tie.Need-enum-told-3
-enum-told-3 c = search needs
+enum-told-3 c = c .match3 .keys2
 
 -- src/ccu2c.rt:121:9
 stopped-requires-3 : tie.Need-stopped-requires-3
-stopped-requires-3 c κs = search needs
+stopped-requires-3 c κs = tt
 
 -- src/ccu2c.rt:121:9
 same-length-4 : tie.Need-same-length-4
@@ -122,7 +122,7 @@ same-length-4 c = c .before .before .before .before .before .before .exprs3 .giv
 
 -- src/ccu2c.rt:121:9
 same-length-5 : tie.Need-same-length-5
-same-length-5 c = search needs
+same-length-5 c = c .before .before .before .before .stmts2 .given ∙ c .before .before .before .before .before .before .before .before .before .before .before .before .before .before .stmts .given
 
 -- src/ccu2c.rt:121:9
 returns-3 : tie.Need-returns-3
@@ -131,7 +131,7 @@ returns-3 c = λ s. then-done (c .before .before .before .before .before .before
 
 -- src/ccu2c.rt:123:5
 assign-wire-requires : tie.Need-assign-wire-requires
-assign-wire-requires c κs = search needs
+assign-wire-requires c κs = tt
 
 -- src/ccu2c.rt:72:1
 same-length-6 : tie.Need-same-length-6

@@ -4,7 +4,6 @@ use Rattle.cells.proofs.Laws.{then-changed, row-from}
 use Rattle.recorder.proofs.Wrote.{wrote-as, then-done, then-same}
 use Rattle.recorder.specs.Lists.{emitted, stated}
 use mathlib.Core.Path.{_≡_, refl, sym, ap, _∙_}
-use borrow.Author.Needs.{needs}
 use Rattle.cells.proofs.ccu2c.emit_slice.Statement.{statement}
 use Rattle.cells.proofs.ccu2c.emit_slice.Tie as tie
 use Rattle.cells.proofs.ccu2c.emit_slice.Reads as reads
@@ -20,27 +19,27 @@ use Rattle.wires.proofs.expressions.assign_wire.Reads as assign-wire-reads
 
 -- src/ccu2c.rt:46:9
 gated-carry-requires : tie.Need-gated-carry-requires
-gated-carry-requires c κs = search needs
+gated-carry-requires c κs = tt
 
 -- src/ccu2c.rt:47:9
 read4-requires : tie.Need-read4-requires
-read4-requires c κs = search needs
+read4-requires c κs = tt
 
 -- src/ccu2c.rt:48:21
 enum-known-r : tie.Need-enum-known-r
-enum-known-r c = search needs
+enum-known-r c = c .match .keys1
 
 -- src/ccu2c.rt:49:9
 enum-told : tie.Need-enum-told
-enum-told c = search needs
+enum-told c = c .match .keys2
 
 -- src/ccu2c.rt:49:9
 stopped-read-requires : tie.Need-stopped-read-requires
-stopped-read-requires c κs = search needs
+stopped-read-requires c κs = tt
 
 -- src/ccu2c.rt:49:9
 same-length : tie.Need-same-length
-same-length c = search needs
+same-length c = c .before .before .before .before .exprs .given
 
 -- src/ccu2c.rt:49:9
 returns : tie.Need-returns
@@ -48,19 +47,19 @@ returns c = λ s. wrote-as (row-from (wiresOf (c .before .before .before .before
 
 -- src/ccu2c.rt:52:9
 lut-requires : tie.Need-lut-requires
-lut-requires c κs = search needs
+lut-requires c κs = tt
 
 -- src/ccu2c.rt:53:23
 enum-known-r2 : tie.Need-enum-known-r2
-enum-known-r2 c = search needs
+enum-known-r2 c = c .match2 .keys1
 
 -- src/ccu2c.rt:54:9
 enum-told-2 : tie.Need-enum-told-2
-enum-told-2 c = search needs
+enum-told-2 c = c .match2 .keys2
 
 -- src/ccu2c.rt:54:9
 same-length-2 : tie.Need-same-length-2
-same-length-2 c = search needs
+same-length-2 c = c .before .before .before .exprs2 .given ∙ c .before .before .before .before .before .before .before .before .before .before .exprs .given
 
 -- src/ccu2c.rt:54:9
 returns-2 : tie.Need-returns-2
@@ -68,19 +67,19 @@ returns-2 c = λ s. wrote-as (row-from (wiresOf (c .before .before .before .befo
 
 -- src/ccu2c.rt:57:9
 lut-requires-2 : tie.Need-lut-requires-2
-lut-requires-2 c κs = search needs
+lut-requires-2 c κs = tt
 
 -- src/ccu2c.rt:58:23
 enum-known-r3 : tie.Need-enum-known-r3
-enum-known-r3 c = search needs
+enum-known-r3 c = c .match3 .keys1
 
 -- src/ccu2c.rt:59:9
 enum-told-3 : tie.Need-enum-told-3
-enum-told-3 c = search needs
+enum-told-3 c = c .match3 .keys2
 
 -- src/ccu2c.rt:59:9
 same-length-3 : tie.Need-same-length-3
-same-length-3 c = search needs
+same-length-3 c = c .before .before .before .exprs3 .given ∙ c .before .before .before .before .before .before .before .before .before .before .exprs2 .given ∙ c .before .before .before .before .before .before .before .before .before .before .before .before .before .before .before .before .before .exprs .given
 
 -- src/ccu2c.rt:59:9
 returns-3 : tie.Need-returns-3
@@ -88,15 +87,15 @@ returns-3 c = λ s. wrote-as (row-from (wiresOf (c .before .before .before .befo
 
 -- src/ccu2c.rt:61:9
 xor-requires : tie.Need-xor-requires
-xor-requires c κs = search needs
+xor-requires c κs = tt
 
 -- src/ccu2c.rt:62:23
 enum-known-r4 : tie.Need-enum-known-r4
-enum-known-r4 c = search needs
+enum-known-r4 c = c .match4 .keys1
 
 -- src/ccu2c.rt:63:9
 enum-told-4 : tie.Need-enum-told-4
-enum-told-4 c = search needs
+enum-told-4 c = c .match4 .keys2
 
 -- src/ccu2c.rt:63:9
 same-length-4 : tie.Need-same-length-4
@@ -108,19 +107,19 @@ returns-4 c = λ s. wrote-as (row-from (wiresOf (c .before .before .before .befo
 
 -- src/ccu2c.rt:65:9
 assign-wire-requires : tie.Need-assign-wire-requires
-assign-wire-requires c κs = search needs
+assign-wire-requires c κs = tt
 
 -- src/ccu2c.rt:66:22
 enum-known-r5 : tie.Need-enum-known-r5
-enum-known-r5 c = search needs
+enum-known-r5 c = c .match5 .keys1
 
 -- src/ccu2c.rt:67:9
 enum-told-5 : tie.Need-enum-told-5
-enum-told-5 c = search needs
+enum-told-5 c = c .match5 .keys2
 
 -- src/ccu2c.rt:67:9
 stopped-stated-requires : tie.Need-stopped-stated-requires
-stopped-stated-requires c κs = search needs
+stopped-stated-requires c κs = tt
 
 -- src/ccu2c.rt:67:9
 same-length-5 : tie.Need-same-length-5
@@ -128,7 +127,7 @@ same-length-5 c = c .before .before .before .before .before .before .before .bef
 
 -- src/ccu2c.rt:67:9
 same-length-6 : tie.Need-same-length-6
-same-length-6 c = search needs
+same-length-6 c = c .before .before .before .before .stmts .given
 
 -- src/ccu2c.rt:67:9
 returns-5 : tie.Need-returns-5
@@ -136,7 +135,7 @@ returns-5 c = λ s. wrote-as (row-from (wiresOf (c .before .before .before .befo
 
 -- src/ccu2c.rt:69:5
 mux-requires : tie.Need-mux-requires
-mux-requires c κs = search needs
+mux-requires c κs = tt
 
 -- src/ccu2c.rt:32:1
 same-length-7 : tie.Need-same-length-7
@@ -144,7 +143,7 @@ same-length-7 c = c .before .exprs5 .given ∙ c .before .before .before .before
 
 -- src/ccu2c.rt:32:1
 same-length-8 : tie.Need-same-length-8
-same-length-8 c = search needs
+same-length-8 c = c .before .before .before .before .before .before .before .before .stmts .given
 
 -- src/ccu2c.rt:32:1
 returns-6 : tie.Need-returns-6

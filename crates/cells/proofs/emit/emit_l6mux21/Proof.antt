@@ -4,7 +4,6 @@ use Rattle.cells.proofs.Laws.{then-changed}
 use Rattle.recorder.proofs.Wrote.{then-done}
 use Rattle.recorder.specs.Lists.{emitted}
 use mathlib.Core.Path.{_≡_, refl, sym, ap, _∙_}
-use borrow.Author.Needs.{needs}
 use Rattle.cells.proofs.emit.emit_l6mux21.Statement.{statement}
 use Rattle.cells.proofs.emit.emit_l6mux21.Tie as tie
 use Rattle.cells.proofs.emit.emit_l6mux21.Reads as reads
@@ -16,23 +15,23 @@ use Rattle.wires.proofs.expressions.bit_expression.Reads as bit-expression-read
 
 -- src/emit.rt:156:9
 bit-expression-requires : tie.Need-bit-expression-requires
-bit-expression-requires c κs = search needs
+bit-expression-requires c κs = tt
 
 -- src/emit.rt:157:23
 enum-known-r : tie.Need-enum-known-r
-enum-known-r c = search needs
+enum-known-r c = c .match .keys1
 
 -- src/emit.rt:158:9
 enum-told : tie.Need-enum-told
-enum-told c = search needs
+enum-told c = c .match .keys2
 
 -- src/emit.rt:158:9
 stopped-requires : tie.Need-stopped-requires
-stopped-requires c κs = search needs
+stopped-requires c κs = tt
 
 -- src/emit.rt:158:9
 same-length : tie.Need-same-length
-same-length c = search needs
+same-length c = c .before .before .before .before .exprs .given
 
 -- src/emit.rt:158:9
 returns : tie.Need-returns
@@ -41,23 +40,23 @@ returns c = λ s. then-changed nothing (c .before .before .before .before .befor
 
 -- src/emit.rt:160:9
 bit-expression-requires-2 : tie.Need-bit-expression-requires-2
-bit-expression-requires-2 c κs = search needs
+bit-expression-requires-2 c κs = tt
 
 -- src/emit.rt:161:23
 enum-known-r2 : tie.Need-enum-known-r2
-enum-known-r2 c = search needs
+enum-known-r2 c = c .match2 .keys1
 
 -- src/emit.rt:162:9
 enum-told-2 : tie.Need-enum-told-2
-enum-told-2 c = search needs
+enum-told-2 c = c .match2 .keys2
 
 -- src/emit.rt:162:9
 stopped-requires-2 : tie.Need-stopped-requires-2
-stopped-requires-2 c κs = search needs
+stopped-requires-2 c κs = tt
 
 -- src/emit.rt:162:9
 same-length-2 : tie.Need-same-length-2
-same-length-2 c = search needs
+same-length-2 c = c .before .before .before .before .exprs2 .given ∙ c .before .before .before .before .before .before .before .before .before .before .before .exprs .given
 
 -- src/emit.rt:162:9
 returns-2 : tie.Need-returns-2
@@ -66,23 +65,23 @@ returns-2 c = λ s. then-done (c .before .before .before .before .before .before
 
 -- src/emit.rt:164:9
 bit-expression-requires-3 : tie.Need-bit-expression-requires-3
-bit-expression-requires-3 c κs = search needs
+bit-expression-requires-3 c κs = tt
 
 -- src/emit.rt:165:23
 enum-known-r3 : tie.Need-enum-known-r3
-enum-known-r3 c = search needs
+enum-known-r3 c = c .match3 .keys1
 
 -- src/emit.rt:166:9
 enum-told-3 : tie.Need-enum-told-3
-enum-told-3 c = search needs
+enum-told-3 c = c .match3 .keys2
 
 -- src/emit.rt:166:9
 stopped-requires-3 : tie.Need-stopped-requires-3
-stopped-requires-3 c κs = search needs
+stopped-requires-3 c κs = tt
 
 -- src/emit.rt:166:9
 same-length-3 : tie.Need-same-length-3
-same-length-3 c = search needs
+same-length-3 c = c .before .before .before .before .exprs3 .given ∙ c .before .before .before .before .before .before .before .before .before .before .before .exprs2 .given ∙ c .before .before .before .before .before .before .before .before .before .before .before .before .before .before .before .before .before .before .exprs .given
 
 -- src/emit.rt:166:9
 returns-3 : tie.Need-returns-3
@@ -91,19 +90,19 @@ returns-3 c = λ s. then-done (c .before .before .before .before .before .before
 
 -- src/emit.rt:168:9
 mux-requires : tie.Need-mux-requires
-mux-requires c κs = search needs
+mux-requires c κs = tt
 
 -- src/emit.rt:169:23
 enum-known-r4 : tie.Need-enum-known-r4
-enum-known-r4 c = search needs
+enum-known-r4 c = c .match4 .keys1
 
 -- src/emit.rt:170:9
 enum-told-4 : tie.Need-enum-told-4
-enum-told-4 c = search needs
+enum-told-4 c = c .match4 .keys2
 
 -- src/emit.rt:170:9
 stopped-requires-4 : tie.Need-stopped-requires-4
-stopped-requires-4 c κs = search needs
+stopped-requires-4 c κs = tt
 
 -- src/emit.rt:170:9
 same-length-4 : tie.Need-same-length-4
@@ -116,7 +115,7 @@ returns-4 c = λ s. then-done (c .before .before .before .before .before .before
 
 -- src/emit.rt:172:5
 assign-wire-requires : tie.Need-assign-wire-requires
-assign-wire-requires c κs = search needs
+assign-wire-requires c κs = tt
 
 -- src/emit.rt:143:1
 same-length-5 : tie.Need-same-length-5
@@ -124,7 +123,7 @@ same-length-5 c = c .before .before .before .before .before .before .before .bef
 
 -- src/emit.rt:143:1
 same-length-6 : tie.Need-same-length-6
-same-length-6 c = search needs
+same-length-6 c = c .before .stmts .given
 
 -- src/emit.rt:143:1
 returns-5 : tie.Need-returns-5

@@ -4,7 +4,6 @@ use Rattle.cells.proofs.Laws.{then-failed, changed-failed, then-changed
 use Rattle.recorder.proofs.Wrote.{then-done}
 use Rattle.recorder.specs.Lists.{emitted}
 use mathlib.Core.Path.{_≡_, refl, sym, ap, _∙_}
-use borrow.Author.Needs.{needs}
 use Rattle.cells.proofs.emit.emit_lut4.Statement.{statement}
 use Rattle.cells.proofs.emit.emit_lut4.Tie as tie
 use Rattle.cells.proofs.emit.emit_lut4.Reads as reads
@@ -17,27 +16,27 @@ use Rattle.wires.proofs.expressions.assign_wire.Reads as assign-wire-reads
 
 -- src/emit.rt:99:9
 read4-requires : tie.Need-read4-requires
-read4-requires c κs = search needs
+read4-requires c κs = tt
 
 -- src/emit.rt:100:21
 enum-known-r : tie.Need-enum-known-r
-enum-known-r c = search needs
+enum-known-r c = c .match .keys1
 
 -- src/emit.rt:101:24
 enum-told : tie.Need-enum-told
-enum-told c = search needs
+enum-told c = c .match .keys2
 
 -- src/emit.rt:101:24
 stopped-read-requires : tie.Need-stopped-read-requires
-stopped-read-requires c κs = search needs
+stopped-read-requires c κs = tt
 
 -- src/emit.rt:101:9
 stopped-requires : tie.Need-stopped-requires
-stopped-requires c κs = search needs
+stopped-requires c κs = tt
 
 -- src/emit.rt:101:9
 same-length : tie.Need-same-length
-same-length c = search needs
+same-length c = c .before .before .before .before .before .exprs .given
 
 -- src/emit.rt:101:9
 returns : tie.Need-returns
@@ -46,23 +45,23 @@ returns c = λ s. then-failed (c .before .before .before .before .before .before
 
 -- src/emit.rt:104:9
 lut-requires : tie.Need-lut-requires
-lut-requires c κs = search needs
+lut-requires c κs = tt
 
 -- src/emit.rt:105:23
 enum-known-r2 : tie.Need-enum-known-r2
-enum-known-r2 c = search needs
+enum-known-r2 c = c .match2 .keys1
 
 -- src/emit.rt:106:9
 enum-told-2 : tie.Need-enum-told-2
-enum-told-2 c = search needs
+enum-told-2 c = c .match2 .keys2
 
 -- src/emit.rt:106:9
 stopped-requires-2 : tie.Need-stopped-requires-2
-stopped-requires-2 c κs = search needs
+stopped-requires-2 c κs = tt
 
 -- src/emit.rt:106:9
 same-length-2 : tie.Need-same-length-2
-same-length-2 c = search needs
+same-length-2 c = c .before .before .before .before .exprs2 .given ∙ c .before .before .before .before .before .before .before .before .before .before .before .exprs .given
 
 -- src/emit.rt:106:9
 returns-2 : tie.Need-returns-2
@@ -71,15 +70,15 @@ returns-2 c = λ s. then-done (c .before .before .before .before .before .before
 
 -- src/emit.rt:108:5
 assign-wire-requires : tie.Need-assign-wire-requires
-assign-wire-requires c κs = search needs
+assign-wire-requires c κs = tt
 
 -- src/emit.rt:87:1
 same-length-3 : tie.Need-same-length-3
-same-length-3 c = search needs
+same-length-3 c = c .before .before .before .before .before .before .before .before .exprs2 .given ∙ c .before .before .before .before .before .before .before .before .before .before .before .before .before .before .before .exprs .given
 
 -- src/emit.rt:87:1
 same-length-4 : tie.Need-same-length-4
-same-length-4 c = search needs
+same-length-4 c = c .before .stmts .given
 
 -- src/emit.rt:87:1
 returns-3 : tie.Need-returns-3

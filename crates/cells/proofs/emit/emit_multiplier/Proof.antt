@@ -4,7 +4,6 @@ use Rattle.cells.proofs.Laws.{then-changed, multiplier-roomy}
 use Rattle.recorder.proofs.Wrote.{wrote-as, then-done}
 use Rattle.recorder.specs.Lists.{emitted}
 use mathlib.Core.Path.{_≡_, refl, sym, ap, _∙_}
-use borrow.Author.Needs.{needs}
 use Rattle.cells.proofs.emit.emit_multiplier.Statement.{statement}
 use Rattle.cells.proofs.emit.emit_multiplier.Tie as tie
 use Rattle.cells.proofs.emit.emit_multiplier.Reads as reads
@@ -18,39 +17,39 @@ use Rattle.wires.proofs.expressions.bits_expression.Reads as bits-expression-re
 
 -- src/emit.rt:69:9
 ahead-requires : tie.Need-ahead-requires
-ahead-requires c κs = search needs
+ahead-requires c κs = tt
 
 -- src/emit.rt:70:9
 ahead-requires-2 : tie.Need-ahead-requires-2
-ahead-requires-2 c κs = search needs
+ahead-requires-2 c κs = tt
 
 -- src/emit.rt:71:9
 field-requires : tie.Need-field-requires
-field-requires c κs = search needs
+field-requires c κs = tt
 
 -- src/emit.rt:72:9
 bits-expression-requires : tie.Need-bits-expression-requires
-bits-expression-requires c κs = search needs
+bits-expression-requires c κs = tt
 
 -- src/emit.rt:73:23
 enum-known-r : tie.Need-enum-known-r
-enum-known-r c = search needs
+enum-known-r c = c .match .keys1
 
 -- src/emit.rt:74:9
 enum-told : tie.Need-enum-told
-enum-told c = search needs
+enum-told c = c .match .keys2
 
 -- src/emit.rt:74:9
 stopped-requires : tie.Need-stopped-requires
-stopped-requires c κs = search needs
+stopped-requires c κs = tt
 
 -- src/emit.rt:74:9
 same-length : tie.Need-same-length
-same-length c = search needs
+same-length c = c .before .before .before .before .before .before .exprs .given
 
 -- src/emit.rt:74:9
 same-length-2 : tie.Need-same-length-2
-same-length-2 c = search needs
+same-length-2 c = c .before .before .before .before .parts .given
 
 -- src/emit.rt:74:9
 returns : tie.Need-returns
@@ -58,27 +57,27 @@ returns c = λ s. wrote-as (multiplier-roomy (wiresOf (c .before .before .before
 
 -- src/emit.rt:76:9
 bits-expression-requires-2 : tie.Need-bits-expression-requires-2
-bits-expression-requires-2 c κs = search needs
+bits-expression-requires-2 c κs = tt
 
 -- src/emit.rt:77:23
 enum-known-r2 : tie.Need-enum-known-r2
-enum-known-r2 c = search needs
+enum-known-r2 c = c .match2 .keys1
 
 -- src/emit.rt:78:9
 enum-told-2 : tie.Need-enum-told-2
-enum-told-2 c = search needs
+enum-told-2 c = c .match2 .keys2
 
 -- src/emit.rt:78:9
 stopped-requires-2 : tie.Need-stopped-requires-2
-stopped-requires-2 c κs = search needs
+stopped-requires-2 c κs = tt
 
 -- src/emit.rt:78:9
 same-length-3 : tie.Need-same-length-3
-same-length-3 c = search needs
+same-length-3 c = c .before .before .before .before .before .before .exprs2 .given ∙ c .before .before .before .before .before .before .before .before .before .before .before .before .before .before .before .before .exprs .given
 
 -- src/emit.rt:78:9
 same-length-4 : tie.Need-same-length-4
-same-length-4 c = search needs
+same-length-4 c = c .before .before .before .before .parts2 .given ∙ c .before .before .before .before .before .before .before .before .before .before .before .before .before .before .parts .given
 
 -- src/emit.rt:78:9
 returns-2 : tie.Need-returns-2
@@ -86,19 +85,19 @@ returns-2 c = λ s. wrote-as (multiplier-roomy (wiresOf (c .before .before .befo
 
 -- src/emit.rt:80:9
 multiply-requires : tie.Need-multiply-requires
-multiply-requires c κs = search needs
+multiply-requires c κs = tt
 
 -- src/emit.rt:81:23
 enum-known-r3 : tie.Need-enum-known-r3
-enum-known-r3 c = search needs
+enum-known-r3 c = c .match3 .keys1
 
 -- src/emit.rt:82:9
 enum-told-3 : tie.Need-enum-told-3
-enum-told-3 c = search needs
+enum-told-3 c = c .match3 .keys2
 
 -- src/emit.rt:82:9
 stopped-requires-3 : tie.Need-stopped-requires-3
-stopped-requires-3 c κs = search needs
+stopped-requires-3 c κs = tt
 
 -- src/emit.rt:82:9
 same-length-5 : tie.Need-same-length-5
@@ -114,7 +113,7 @@ returns-3 c = λ s. wrote-as (multiplier-roomy (wiresOf (c .before .before .befo
 
 -- src/emit.rt:84:5
 assign-wire-requires : tie.Need-assign-wire-requires
-assign-wire-requires c κs = search needs
+assign-wire-requires c κs = tt
 
 -- src/emit.rt:57:1
 same-length-7 : tie.Need-same-length-7
@@ -122,7 +121,7 @@ same-length-7 c = c .before .before .before .before .before .before .before .bef
 
 -- src/emit.rt:57:1
 same-length-8 : tie.Need-same-length-8
-same-length-8 c = search needs
+same-length-8 c = c .before .stmts .given
 
 -- src/emit.rt:57:1
 same-length-9 : tie.Need-same-length-9

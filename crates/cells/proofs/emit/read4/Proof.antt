@@ -19,23 +19,23 @@ array-copy-out-bit-expression c = search needs
 
 -- src/emit.rt:37:9
 bit-expression-requires : tie.Need-bit-expression-requires
-bit-expression-requires c κs = search needs
+bit-expression-requires c κs = tt
 
 -- src/emit.rt:38:23
 enum-known-r : tie.Need-enum-known-r
-enum-known-r c = search needs
+enum-known-r c = c .match .keys1
 
 -- src/emit.rt:39:9
 enum-told : tie.Need-enum-told
-enum-told c = search needs
+enum-told c = c .match .keys2
 
 -- src/emit.rt:39:9
 unread-requires : tie.Need-unread-requires
-unread-requires c κs = search needs
+unread-requires c κs = tt
 
 -- src/emit.rt:39:9
 same-length : tie.Need-same-length
-same-length c = search needs
+same-length c = c .before .before .before .before .exprs .given
 
 -- src/emit.rt:39:9
 returns : tie.Need-returns
@@ -47,23 +47,23 @@ array-copy-out-bit-expression-2 c = search needs
 
 -- src/emit.rt:41:9
 bit-expression-requires-2 : tie.Need-bit-expression-requires-2
-bit-expression-requires-2 c κs = search needs
+bit-expression-requires-2 c κs = tt
 
 -- src/emit.rt:42:23
 enum-known-r2 : tie.Need-enum-known-r2
-enum-known-r2 c = search needs
+enum-known-r2 c = c .match2 .keys1
 
 -- src/emit.rt:43:9
 enum-told-2 : tie.Need-enum-told-2
-enum-told-2 c = search needs
+enum-told-2 c = c .match2 .keys2
 
 -- src/emit.rt:43:9
 unread-requires-2 : tie.Need-unread-requires-2
-unread-requires-2 c κs = search needs
+unread-requires-2 c κs = tt
 
 -- src/emit.rt:43:9
 same-length-2 : tie.Need-same-length-2
-same-length-2 c = search needs
+same-length-2 c = c .before .before .before .before .exprs2 .given ∙ c .before .before .before .before .before .before .before .before .before .before .before .before .exprs .given
 
 -- src/emit.rt:43:9
 returns-2 : tie.Need-returns-2
@@ -75,19 +75,19 @@ array-copy-out-bit-expression-3 c = search needs
 
 -- src/emit.rt:45:9
 bit-expression-requires-3 : tie.Need-bit-expression-requires-3
-bit-expression-requires-3 c κs = search needs
+bit-expression-requires-3 c κs = tt
 
 -- src/emit.rt:46:23
 enum-known-r3 : tie.Need-enum-known-r3
-enum-known-r3 c = search needs
+enum-known-r3 c = c .match3 .keys1
 
 -- src/emit.rt:47:9
 enum-told-3 : tie.Need-enum-told-3
-enum-told-3 c = search needs
+enum-told-3 c = c .match3 .keys2
 
 -- src/emit.rt:47:9
 unread-requires-3 : tie.Need-unread-requires-3
-unread-requires-3 c κs = search needs
+unread-requires-3 c κs = tt
 
 -- src/emit.rt:47:9
 same-length-3 : tie.Need-same-length-3
@@ -103,19 +103,19 @@ array-copy-out-bit-expression-4 c = search needs
 
 -- src/emit.rt:49:9
 bit-expression-requires-4 : tie.Need-bit-expression-requires-4
-bit-expression-requires-4 c κs = search needs
+bit-expression-requires-4 c κs = tt
 
 -- src/emit.rt:50:23
 enum-known-r4 : tie.Need-enum-known-r4
-enum-known-r4 c = search needs
+enum-known-r4 c = c .match4 .keys1
 
 -- src/emit.rt:51:9
 enum-told-4 : tie.Need-enum-told-4
-enum-told-4 c = search needs
+enum-told-4 c = c .match4 .keys2
 
 -- src/emit.rt:51:9
 unread-requires-4 : tie.Need-unread-requires-4
-unread-requires-4 c κs = search needs
+unread-requires-4 c κs = tt
 
 -- src/emit.rt:51:9
 same-length-4 : tie.Need-same-length-4

@@ -1,6 +1,5 @@
 use Rattle.recorder.proofs.Wrote.{wrote-as, wrote-pure}
 use borrow.Author.Tests.{eq-eqb, ne-eqb}
-use borrow.Author.Needs.{needs}
 use Rattle.cells.proofs.pll.assign_clock.Statement.{statement}
 use Rattle.cells.proofs.pll.assign_clock.Tie as tie
 use Rattle.cells.proofs.pll.assign_clock.Reads as reads
@@ -13,11 +12,11 @@ returns c = λ s e. wrote-as (rw (eq-eqb _ _ (c .if1 .taken))) wrote-pure
 
 -- src/pll.rt:58:5
 assign-unless-requires : tie.Need-assign-unless-requires
-assign-unless-requires c κs = search needs
+assign-unless-requires c κs = tt
 
 -- src/pll.rt:43:1
 same-length : tie.Need-same-length
-same-length c = search needs
+same-length c = c .before .stmts .given
 
 -- src/pll.rt:43:1
 returns-2 : tie.Need-returns-2

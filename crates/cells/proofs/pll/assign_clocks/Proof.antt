@@ -3,7 +3,6 @@ use Rattle.cells.specs.Cells.{pllClocks}
 use Rattle.wires.specs.Wires.{wiresOf}
 use Rattle.recorder.specs.Lists.{stated}
 use Rattle.netlist.specs.Fields.{wiresAt}
-use borrow.Author.Needs.{needs}
 use native.Mathlib.Omega.{arith}
 use lib.ListN.{length}
 use Prim.Native.Nat.{_+_, _-_, _≤_}
@@ -24,7 +23,7 @@ abbrev μ-loop : tie.MeasureT-loop
 
 -- src/pll.rt:76:9
 ahead-requires : tie.Need-ahead-requires Inv-loop μ-loop
-ahead-requires c κs = search needs
+ahead-requires c κs = tt
 
 -- src/pll.rt:79:5
 loop-holds : tie.Need-loop-holds Inv-loop μ-loop
@@ -32,19 +31,19 @@ loop-holds c = (omega arith, refl, doing-start (clocks-each (wiresOf (c .before 
 
 -- src/pll.rt:80:13
 field-requires : tie.Need-field-requires Inv-loop μ-loop
-field-requires c κs = search needs
+field-requires c κs = tt
 
 -- src/pll.rt:81:13
 assign-clock-requires : tie.Need-assign-clock-requires Inv-loop μ-loop
-assign-clock-requires c κs = search needs
+assign-clock-requires c κs = tt
 
 -- src/pll.rt:82:26
 enum-known-r : tie.Need-enum-known-r Inv-loop μ-loop
-enum-known-r c = search needs
+enum-known-r c = c .match .keys1
 
 -- src/pll.rt:83:13
 enum-told : tie.Need-enum-told Inv-loop μ-loop
-enum-told c = search needs
+enum-told c = c .match .keys2
 
 -- src/pll.rt:83:13
 same-length : tie.Need-same-length Inv-loop μ-loop

@@ -1,6 +1,5 @@
 use Rattle.recorder.proofs.Wrote.{wrote-as, wrote-pure}
 use borrow.Author.Tests.{eq-eqb, ne-eqb}
-use borrow.Author.Needs.{needs}
 use Rattle.cells.proofs.pll.assign_unless.Statement.{statement}
 use Rattle.cells.proofs.pll.assign_unless.Tie as tie
 use Rattle.cells.proofs.pll.assign_unless.Reads as reads
@@ -13,11 +12,11 @@ returns c = λ s e. wrote-as (rw (eq-eqb _ _ (c .if1 .taken))) wrote-pure
 
 -- src/pll.rt:39:5
 assign-wire-requires : tie.Need-assign-wire-requires
-assign-wire-requires c κs = search needs
+assign-wire-requires c κs = tt
 
 -- src/pll.rt:25:1
 same-length : tie.Need-same-length
-same-length c = search needs
+same-length c = c .before .stmts .given
 
 -- src/pll.rt:25:1
 returns-2 : tie.Need-returns-2
