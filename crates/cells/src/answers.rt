@@ -1,11 +1,10 @@
 // A refusal handed on as another kind of answer.
 use crate::Read4;
 use recorder::Emitted;
-use recorder::ExprId;
 use recorder::Stated;
 ghost use mathlib.Core.Path.{_≡_};
 ghost use Rattle.recorder.specs.Lists.{emitted, stated};
-ghost use Rattle.cells.specs.Answers.{changed, nothing, nought, first, fourfold, readOf};
+ghost use Rattle.cells.specs.Answers.{changed, nothing, first, readOf};
 
 pub fn stopped(r: Emitted) -> Stated
     ensures { λ q. ⌜ stated q ≡ changed nothing (emitted r) ⌝ }
@@ -16,29 +15,11 @@ pub fn stopped(r: Emitted) -> Stated
     }
 }
 
-pub fn stopped_stated(r: Stated) -> Emitted
-    ensures { λ q. ⌜ emitted q ≡ changed nought (stated r) ⌝ }
-{
-    match r {
-        Stated::Done(t) => Emitted::Done(ExprId::ZERO, t),
-        Stated::Refused(x) => Emitted::Refused(x),
-    }
-}
-
 pub fn stopped_read(r: Read4) -> Emitted
     ensures { λ q. ⌜ emitted q ≡ changed first (readOf r) ⌝ }
 {
     match r {
         Read4::Done(a, _, _, _, t) => Emitted::Done(a, t),
         Read4::Refused(x) => Emitted::Refused(x),
-    }
-}
-
-pub fn unread(r: Emitted) -> Read4
-    ensures { λ q. ⌜ readOf q ≡ changed fourfold (emitted r) ⌝ }
-{
-    match r {
-        Emitted::Done(e, t) => Read4::Done(e, e, e, e, t),
-        Emitted::Refused(x) => Read4::Refused(x),
     }
 }

@@ -1,7 +1,6 @@
 use crate::Read4;
 use crate::answers::stopped;
 use crate::answers::stopped_read;
-use crate::answers::stopped_stated;
 use crate::emit::read4;
 use netlist::Bit;
 use optimize::lut::lut;
@@ -19,7 +18,16 @@ ghost use Rattle.bits.specs.Bits.{pick};
 ghost use Rattle.recorder.specs.Lists.{emitted, stated};
 ghost use Rattle.wires.specs.Wires.{wiresOf};
 ghost use Rattle.cells.specs.Cells.{ccuRow, emitCcu2c};
-ghost use Rattle.cells.specs.Answers.{WroteBoth, ccuOf};
+ghost use Rattle.cells.specs.Answers.{WroteBoth, changed, nought, ccuOf};
+
+fn stopped_stated(r: Stated) -> Emitted
+    ensures { λ q. ⌜ emitted q ≡ changed nought (stated r) ⌝ }
+{
+    match r {
+        Stated::Done(t) => Emitted::Done(ExprId::ZERO, t),
+        Stated::Refused(x) => Emitted::Refused(x),
+    }
+}
 
 // The carry that a row sees.
 fn gated_carry(inject: u32, carry: ExprId) -> ExprId
@@ -29,7 +37,7 @@ fn gated_carry(inject: u32, carry: ExprId) -> ExprId
 }
 
 // A row: its sum is assigned, the next carry answered.
-pub fn emit_slice(
+fn emit_slice(
     exprs: &mut [u32],
     stmts: &mut [u32],
     signals: &[u32],

@@ -2,7 +2,6 @@
 use crate::Read4;
 use crate::answers::stopped;
 use crate::answers::stopped_read;
-use crate::answers::unread;
 use netlist::Bit;
 use netlist::fields::ahead;
 use netlist::fields::field;
@@ -15,14 +14,25 @@ use recorder::builder::multiply;
 use wires::expressions::assign_wire;
 use wires::expressions::bit_expression;
 use wires::expressions::bits_expression;
+ghost use mathlib.Core.Path.{_≡_};
 ghost use mathlib.Core.List.{[]};
 ghost use Prim.Native.Nat.{_+_};
 ghost use Rattle.netlist.specs.Fields.{bitsAt, wiresAt};
-ghost use Rattle.recorder.specs.Lists.{WroteExprs, stated};
+ghost use Rattle.recorder.specs.Lists.{WroteExprs, emitted, stated};
 ghost use Rattle.wires.specs.Wires.{wiresOf};
 ghost use Rattle.wires.specs.Expressions.{readBits, roomy};
 ghost use Rattle.cells.specs.Cells.{emitMultiplier, emitLut4, emitPfumx, emitL6mux21, emitIo};
-ghost use Rattle.cells.specs.Answers.{WroteBoth, readOf};
+ghost use Rattle.cells.specs.Answers.{WroteBoth, readOf, changed, fourfold};
+
+// What is no reading of four.
+fn unread(r: Emitted) -> Read4
+    ensures { λ q. ⌜ readOf q ≡ changed fourfold (emitted r) ⌝ }
+{
+    match r {
+        Emitted::Done(e, t) => Read4::Done(e, e, e, e, t),
+        Emitted::Refused(x) => Read4::Refused(x),
+    }
+}
 
 // Four inputs, the lowest first.
 pub fn read4(

@@ -1,6 +1,5 @@
 // The small cells. (lib.rs of the Rust: emit_cell's arms, emit_cycle_pll, emit_idle_jtagg, emit_ccu2c.)
 pub mod answers;
-pub mod assigns;
 pub mod ccu2c;
 pub mod emit;
 pub mod jtagg;

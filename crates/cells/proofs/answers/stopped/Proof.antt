@@ -7,20 +7,16 @@ use Rattle.cells.proofs.answers.stopped.Tie as tie
 use Rattle.cells.proofs.answers.stopped.Reads as reads
 use Rattle.cells.proofs.answers.stopped.Lts as lts
 
--- src/answers.rt:14:26
 enum-known-r : tie.Need-enum-known-r
 enum-known-r c = c .match .keys1
 
--- src/answers.rt:15:26
 enum-known-r-2 : tie.Need-enum-known-r-2
 enum-known-r-2 c = c .match .keys2
 
--- src/answers.rt:10:1
 returns : tie.Need-returns
 unfolding changed
 returns c = sym (ap (λ (x : Emitted). changed nothing (emitted x)) (c .before .r .given .1))
 
--- src/answers.rt:10:1
 returns-2 : tie.Need-returns-2
 unfolding changed
 returns-2 c = sym (ap (λ (x : Emitted). changed nothing (emitted x)) (c .before .r2 .given .1))

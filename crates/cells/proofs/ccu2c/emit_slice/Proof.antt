@@ -9,7 +9,7 @@ use Rattle.cells.proofs.ccu2c.emit_slice.Tie as tie
 use Rattle.cells.proofs.ccu2c.emit_slice.Reads as reads
 use Rattle.cells.proofs.ccu2c.emit_slice.Lts as lts
 use Rattle.cells.proofs.answers.stopped_read.Reads as stopped-read-reads
-use Rattle.cells.proofs.answers.stopped_stated.Reads as stopped-stated-reads
+use Rattle.cells.proofs.ccu2c.stopped_stated.Reads as stopped-stated-reads
 use Rattle.cells.proofs.ccu2c.gated_carry.Reads as gated-carry-reads
 use Rattle.cells.proofs.emit.read4.Reads as read4-reads
 use Rattle.optimize.proofs.lut.lut.Reads as lut-reads
@@ -17,135 +17,102 @@ use Rattle.optimize.proofs.optimizer.mux.Reads as mux-reads
 use Rattle.optimize.proofs.optimizer.xor.Reads as xor-reads
 use Rattle.wires.proofs.expressions.assign_wire.Reads as assign-wire-reads
 
--- src/ccu2c.rt:46:9
 gated-carry-requires : tie.Need-gated-carry-requires
 gated-carry-requires c κs = tt
 
--- src/ccu2c.rt:47:9
 read4-requires : tie.Need-read4-requires
 read4-requires c κs = tt
 
--- src/ccu2c.rt:48:21
 enum-known-r : tie.Need-enum-known-r
 enum-known-r c = c .match .keys1
 
--- src/ccu2c.rt:49:9
 enum-told : tie.Need-enum-told
 enum-told c = c .match .keys2
 
--- src/ccu2c.rt:49:9
 stopped-read-requires : tie.Need-stopped-read-requires
 stopped-read-requires c κs = tt
 
--- src/ccu2c.rt:49:9
 same-length : tie.Need-same-length
 same-length c = c .before .before .before .before .exprs .given
 
--- src/ccu2c.rt:49:9
 returns : tie.Need-returns
 returns c = λ s. wrote-as (row-from (wiresOf (c .before .before .before .before .before .before .before .before .before .before .before .before .args .signals .now) (c .before .before .before .before .before .before .before .before .before .before .before .before .args .places .now)) (c .before .before .before .before .before .before .before .before .before .before .before .before .args .inputs) (c .before .before .before .before .before .before .before .before .before .before .before .before .args .init) (c .before .before .before .before .before .before .before .before .before .before .before .before .args .inject) (c .before .before .before .before .before .before .before .before .before .before .before .before .args .sum) (c .before .before .before .before .before .before .before .before .before .before .before .before .args .carry .0) (c .before .before .before .before .before .before .before .gated-carry .ensures)) (then-changed first (c .before .before .before .before .before .read4 .ensures s _) _ (ap readOf (c .before .enum-told .given .1)) (c .stopped-read .ensures))
 
--- src/ccu2c.rt:52:9
 lut-requires : tie.Need-lut-requires
 lut-requires c κs = tt
 
--- src/ccu2c.rt:53:23
 enum-known-r2 : tie.Need-enum-known-r2
 enum-known-r2 c = c .match2 .keys1
 
--- src/ccu2c.rt:54:9
 enum-told-2 : tie.Need-enum-told-2
 enum-told-2 c = c .match2 .keys2
 
--- src/ccu2c.rt:54:9
 same-length-2 : tie.Need-same-length-2
 same-length-2 c = c .before .before .before .exprs2 .given ∙ c .before .before .before .before .before .before .before .before .before .before .exprs .given
 
--- src/ccu2c.rt:54:9
 returns-2 : tie.Need-returns-2
 returns-2 c = λ s. wrote-as (row-from (wiresOf (c .before .before .before .before .before .before .before .before .before .before .before .before .before .before .before .before .before .before .args .signals .now) (c .before .before .before .before .before .before .before .before .before .before .before .before .before .before .before .before .before .before .args .places .now)) (c .before .before .before .before .before .before .before .before .before .before .before .before .before .before .before .before .before .before .args .inputs) (c .before .before .before .before .before .before .before .before .before .before .before .before .before .before .before .before .before .before .args .init) (c .before .before .before .before .before .before .before .before .before .before .before .before .before .before .before .before .before .before .args .inject) (c .before .before .before .before .before .before .before .before .before .before .before .before .before .before .before .before .before .before .args .sum) (c .before .before .before .before .before .before .before .before .before .before .before .before .before .before .before .before .before .before .args .carry .0) (c .before .before .before .before .before .before .before .before .before .before .before .before .before .gated-carry .ensures)) (then-done (c .before .before .before .before .before .before .before .before .before .before .before .read4 .ensures s _) _ (ap readOf (c .before .before .before .before .before .before .before .r .given .1)) (then-same (c .before .before .before .before .lut .ensures s _) _ (ap emitted (c .enum-told2 .given .1))))
 
--- src/ccu2c.rt:57:9
 lut-requires-2 : tie.Need-lut-requires-2
 lut-requires-2 c κs = tt
 
--- src/ccu2c.rt:58:23
 enum-known-r3 : tie.Need-enum-known-r3
 enum-known-r3 c = c .match3 .keys1
 
--- src/ccu2c.rt:59:9
 enum-told-3 : tie.Need-enum-told-3
 enum-told-3 c = c .match3 .keys2
 
--- src/ccu2c.rt:59:9
 same-length-3 : tie.Need-same-length-3
 same-length-3 c = c .before .before .before .exprs3 .given ∙ c .before .before .before .before .before .before .before .before .before .before .exprs2 .given ∙ c .before .before .before .before .before .before .before .before .before .before .before .before .before .before .before .before .before .exprs .given
 
--- src/ccu2c.rt:59:9
 returns-3 : tie.Need-returns-3
 returns-3 c = λ s. wrote-as (row-from (wiresOf (c .before .before .before .before .before .before .before .before .before .before .before .before .before .before .before .before .before .before .before .before .before .before .before .before .before .args .signals .now) (c .before .before .before .before .before .before .before .before .before .before .before .before .before .before .before .before .before .before .before .before .before .before .before .before .before .args .places .now)) (c .before .before .before .before .before .before .before .before .before .before .before .before .before .before .before .before .before .before .before .before .before .before .before .before .before .args .inputs) (c .before .before .before .before .before .before .before .before .before .before .before .before .before .before .before .before .before .before .before .before .before .before .before .before .before .args .init) (c .before .before .before .before .before .before .before .before .before .before .before .before .before .before .before .before .before .before .before .before .before .before .before .before .before .args .inject) (c .before .before .before .before .before .before .before .before .before .before .before .before .before .before .before .before .before .before .before .before .before .before .before .before .before .args .sum) (c .before .before .before .before .before .before .before .before .before .before .before .before .before .before .before .before .before .before .before .before .before .before .before .before .before .args .carry .0) (c .before .before .before .before .before .before .before .before .before .before .before .before .before .before .before .before .before .before .before .before .gated-carry .ensures)) (then-done (c .before .before .before .before .before .before .before .before .before .before .before .before .before .before .before .before .before .before .read4 .ensures s _) _ (ap readOf (c .before .before .before .before .before .before .before .before .before .before .before .before .before .before .r .given .1)) (then-done (c .before .before .before .before .before .before .before .before .before .before .before .lut .ensures s _) _ (ap emitted (c .before .before .before .before .before .before .before .r2 .given .1)) (then-same (c .before .before .before .before .lut2 .ensures s _) _ (ap emitted (c .enum-told3 .given .1)))))
 
--- src/ccu2c.rt:61:9
 xor-requires : tie.Need-xor-requires
 xor-requires c κs = tt
 
--- src/ccu2c.rt:62:23
 enum-known-r4 : tie.Need-enum-known-r4
 enum-known-r4 c = c .match4 .keys1
 
--- src/ccu2c.rt:63:9
 enum-told-4 : tie.Need-enum-told-4
 enum-told-4 c = c .match4 .keys2
 
--- src/ccu2c.rt:63:9
 same-length-4 : tie.Need-same-length-4
 same-length-4 c = c .before .before .before .exprs4 .given ∙ c .before .before .before .before .before .before .before .before .before .before .exprs3 .given ∙ c .before .before .before .before .before .before .before .before .before .before .before .before .before .before .before .before .before .exprs2 .given ∙ c .before .before .before .before .before .before .before .before .before .before .before .before .before .before .before .before .before .before .before .before .before .before .before .before .exprs .given
 
--- src/ccu2c.rt:63:9
 returns-4 : tie.Need-returns-4
 returns-4 c = λ s. wrote-as (row-from (wiresOf (c .before .before .before .before .before .before .before .before .before .before .before .before .before .before .before .before .before .before .before .before .before .before .before .before .before .before .before .before .before .before .before .before .args .signals .now) (c .before .before .before .before .before .before .before .before .before .before .before .before .before .before .before .before .before .before .before .before .before .before .before .before .before .before .before .before .before .before .before .before .args .places .now)) (c .before .before .before .before .before .before .before .before .before .before .before .before .before .before .before .before .before .before .before .before .before .before .before .before .before .before .before .before .before .before .before .before .args .inputs) (c .before .before .before .before .before .before .before .before .before .before .before .before .before .before .before .before .before .before .before .before .before .before .before .before .before .before .before .before .before .before .before .before .args .init) (c .before .before .before .before .before .before .before .before .before .before .before .before .before .before .before .before .before .before .before .before .before .before .before .before .before .before .before .before .before .before .before .before .args .inject) (c .before .before .before .before .before .before .before .before .before .before .before .before .before .before .before .before .before .before .before .before .before .before .before .before .before .before .before .before .before .before .before .before .args .sum) (c .before .before .before .before .before .before .before .before .before .before .before .before .before .before .before .before .before .before .before .before .before .before .before .before .before .before .before .before .before .before .before .before .args .carry .0) (c .before .before .before .before .before .before .before .before .before .before .before .before .before .before .before .before .before .before .before .before .before .before .before .before .before .before .before .gated-carry .ensures)) (then-done (c .before .before .before .before .before .before .before .before .before .before .before .before .before .before .before .before .before .before .before .before .before .before .before .before .before .read4 .ensures s _) _ (ap readOf (c .before .before .before .before .before .before .before .before .before .before .before .before .before .before .before .before .before .before .before .before .before .r .given .1)) (then-done (c .before .before .before .before .before .before .before .before .before .before .before .before .before .before .before .before .before .before .lut .ensures s _) _ (ap emitted (c .before .before .before .before .before .before .before .before .before .before .before .before .before .before .r2 .given .1)) (then-done (c .before .before .before .before .before .before .before .before .before .before .before .lut2 .ensures s _) _ (ap emitted (c .before .before .before .before .before .before .before .r3 .given .1)) (then-same (c .before .before .before .before .xor .ensures s _) _ (ap emitted (c .enum-told4 .given .1))))))
 
--- src/ccu2c.rt:65:9
 assign-wire-requires : tie.Need-assign-wire-requires
 assign-wire-requires c κs = tt
 
--- src/ccu2c.rt:66:22
 enum-known-r5 : tie.Need-enum-known-r5
 enum-known-r5 c = c .match5 .keys1
 
--- src/ccu2c.rt:67:9
 enum-told-5 : tie.Need-enum-told-5
 enum-told-5 c = c .match5 .keys2
 
--- src/ccu2c.rt:67:9
 stopped-stated-requires : tie.Need-stopped-stated-requires
 stopped-stated-requires c κs = tt
 
--- src/ccu2c.rt:67:9
 same-length-5 : tie.Need-same-length-5
 same-length-5 c = c .before .before .before .before .before .before .before .before .before .before .before .exprs4 .given ∙ c .before .before .before .before .before .before .before .before .before .before .before .before .before .before .before .before .before .before .exprs3 .given ∙ c .before .before .before .before .before .before .before .before .before .before .before .before .before .before .before .before .before .before .before .before .before .before .before .before .before .exprs2 .given ∙ c .before .before .before .before .before .before .before .before .before .before .before .before .before .before .before .before .before .before .before .before .before .before .before .before .before .before .before .before .before .before .before .before .exprs .given
 
--- src/ccu2c.rt:67:9
 same-length-6 : tie.Need-same-length-6
 same-length-6 c = c .before .before .before .before .stmts .given
 
--- src/ccu2c.rt:67:9
 returns-5 : tie.Need-returns-5
 returns-5 c = λ s. wrote-as (row-from (wiresOf (c .before .before .before .before .before .before .before .before .before .before .before .before .before .before .before .before .before .before .before .before .before .before .before .before .before .before .before .before .before .before .before .before .before .before .before .before .before .before .before .before .args .signals .now) (c .before .before .before .before .before .before .before .before .before .before .before .before .before .before .before .before .before .before .before .before .before .before .before .before .before .before .before .before .before .before .before .before .before .before .before .before .before .before .before .before .args .places .now)) (c .before .before .before .before .before .before .before .before .before .before .before .before .before .before .before .before .before .before .before .before .before .before .before .before .before .before .before .before .before .before .before .before .before .before .before .before .before .before .before .before .args .inputs) (c .before .before .before .before .before .before .before .before .before .before .before .before .before .before .before .before .before .before .before .before .before .before .before .before .before .before .before .before .before .before .before .before .before .before .before .before .before .before .before .before .args .init) (c .before .before .before .before .before .before .before .before .before .before .before .before .before .before .before .before .before .before .before .before .before .before .before .before .before .before .before .before .before .before .before .before .before .before .before .before .before .before .before .before .args .inject) (c .before .before .before .before .before .before .before .before .before .before .before .before .before .before .before .before .before .before .before .before .before .before .before .before .before .before .before .before .before .before .before .before .before .before .before .before .before .before .before .before .args .sum) (c .before .before .before .before .before .before .before .before .before .before .before .before .before .before .before .before .before .before .before .before .before .before .before .before .before .before .before .before .before .before .before .before .before .before .before .before .before .before .before .before .args .carry .0) (c .before .before .before .before .before .before .before .before .before .before .before .before .before .before .before .before .before .before .before .before .before .before .before .before .before .before .before .before .before .before .before .before .before .before .before .gated-carry .ensures)) (then-done (c .before .before .before .before .before .before .before .before .before .before .before .before .before .before .before .before .before .before .before .before .before .before .before .before .before .before .before .before .before .before .before .before .before .read4 .ensures s _) _ (ap readOf (c .before .before .before .before .before .before .before .before .before .before .before .before .before .before .before .before .before .before .before .before .before .before .before .before .before .before .before .before .before .r .given .1)) (then-done (c .before .before .before .before .before .before .before .before .before .before .before .before .before .before .before .before .before .before .before .before .before .before .before .before .before .before .lut .ensures s _) _ (ap emitted (c .before .before .before .before .before .before .before .before .before .before .before .before .before .before .before .before .before .before .before .before .before .before .r2 .given .1)) (then-done (c .before .before .before .before .before .before .before .before .before .before .before .before .before .before .before .before .before .before .before .lut2 .ensures s _) _ (ap emitted (c .before .before .before .before .before .before .before .before .before .before .before .before .before .before .before .r3 .given .1)) (then-done (c .before .before .before .before .before .before .before .before .before .before .before .before .xor .ensures s _) _ (ap emitted (c .before .before .before .before .before .before .before .before .r4 .given .1)) (then-changed nought (c .before .before .before .before .before .assign-wire .ensures s _) _ (ap stated (c .before .enum-told5 .given .1)) (c .stopped-stated .ensures))))))
 
--- src/ccu2c.rt:69:5
 mux-requires : tie.Need-mux-requires
 mux-requires c κs = tt
 
--- src/ccu2c.rt:32:1
 same-length-7 : tie.Need-same-length-7
 same-length-7 c = c .before .exprs5 .given ∙ c .before .before .before .before .before .before .before .before .before .before .before .before .before .before .before .exprs4 .given ∙ c .before .before .before .before .before .before .before .before .before .before .before .before .before .before .before .before .before .before .before .before .before .before .exprs3 .given ∙ c .before .before .before .before .before .before .before .before .before .before .before .before .before .before .before .before .before .before .before .before .before .before .before .before .before .before .before .before .before .exprs2 .given ∙ c .before .before .before .before .before .before .before .before .before .before .before .before .before .before .before .before .before .before .before .before .before .before .before .before .before .before .before .before .before .before .before .before .before .before .before .before .exprs .given
 
--- src/ccu2c.rt:32:1
 same-length-8 : tie.Need-same-length-8
 same-length-8 c = c .before .before .before .before .before .before .before .before .stmts .given
 
--- src/ccu2c.rt:32:1
 returns-6 : tie.Need-returns-6
 returns-6 c = λ s. wrote-as (row-from (wiresOf (c .before .before .before .before .before .before .before .before .before .before .before .before .before .before .before .before .before .before .before .before .before .before .before .before .before .before .before .before .before .before .before .before .before .before .before .before .before .before .before .before .before .before .before .before .args .signals .now) (c .before .before .before .before .before .before .before .before .before .before .before .before .before .before .before .before .before .before .before .before .before .before .before .before .before .before .before .before .before .before .before .before .before .before .before .before .before .before .before .before .before .before .before .before .args .places .now)) (c .before .before .before .before .before .before .before .before .before .before .before .before .before .before .before .before .before .before .before .before .before .before .before .before .before .before .before .before .before .before .before .before .before .before .before .before .before .before .before .before .before .before .before .before .args .inputs) (c .before .before .before .before .before .before .before .before .before .before .before .before .before .before .before .before .before .before .before .before .before .before .before .before .before .before .before .before .before .before .before .before .before .before .before .before .before .before .before .before .before .before .before .before .args .init) (c .before .before .before .before .before .before .before .before .before .before .before .before .before .before .before .before .before .before .before .before .before .before .before .before .before .before .before .before .before .before .before .before .before .before .before .before .before .before .before .before .before .before .before .before .args .inject) (c .before .before .before .before .before .before .before .before .before .before .before .before .before .before .before .before .before .before .before .before .before .before .before .before .before .before .before .before .before .before .before .before .before .before .before .before .before .before .before .before .before .before .before .before .args .sum) (c .before .before .before .before .before .before .before .before .before .before .before .before .before .before .before .before .before .before .before .before .before .before .before .before .before .before .before .before .before .before .before .before .before .before .before .before .before .before .before .before .before .before .before .before .args .carry .0) (c .before .before .before .before .before .before .before .before .before .before .before .before .before .before .before .before .before .before .before .before .before .before .before .before .before .before .before .before .before .before .before .before .before .before .before .before .before .before .before .gated-carry .ensures)) (then-done (c .before .before .before .before .before .before .before .before .before .before .before .before .before .before .before .before .before .before .before .before .before .before .before .before .before .before .before .before .before .before .before .before .before .before .before .before .before .read4 .ensures s _) _ (ap readOf (c .before .before .before .before .before .before .before .before .before .before .before .before .before .before .before .before .before .before .before .before .before .before .before .before .before .before .before .before .before .before .before .before .before .r .given .1)) (then-done (c .before .before .before .before .before .before .before .before .before .before .before .before .before .before .before .before .before .before .before .before .before .before .before .before .before .before .before .before .before .before .lut .ensures s _) _ (ap emitted (c .before .before .before .before .before .before .before .before .before .before .before .before .before .before .before .before .before .before .before .before .before .before .before .before .before .before .r2 .given .1)) (then-done (c .before .before .before .before .before .before .before .before .before .before .before .before .before .before .before .before .before .before .before .before .before .before .before .lut2 .ensures s _) _ (ap emitted (c .before .before .before .before .before .before .before .before .before .before .before .before .before .before .before .before .before .before .before .r3 .given .1)) (then-done (c .before .before .before .before .before .before .before .before .before .before .before .before .before .before .before .before .xor .ensures s _) _ (ap emitted (c .before .before .before .before .before .before .before .before .before .before .before .before .r4 .given .1)) (then-done (c .before .before .before .before .before .before .before .before .before .assign-wire .ensures s _) _ (ap stated (c .before .before .before .before .before .r5 .given .1)) (c .before .before .mux .ensures s _))))))
 

@@ -4,11 +4,9 @@ use Rattle.cells.proofs.ccu2c.gated_carry.Tie as tie
 use Rattle.cells.proofs.ccu2c.gated_carry.Reads as reads
 use Rattle.cells.proofs.ccu2c.gated_carry.Lts as lts
 
--- src/ccu2c.rt:25:1
 returns : tie.Need-returns
 returns c = rw (eq-eqb _ _ (c .if1 .taken))
 
--- src/ccu2c.rt:25:1
 returns-2 : tie.Need-returns-2
 returns-2 c = rw (ne-eqb _ _ (c .if1 .left))
 

@@ -14,73 +14,56 @@ use Rattle.cells.proofs.emit.read4.Reads as read4-reads
 use Rattle.optimize.proofs.lut.lut.Reads as lut-reads
 use Rattle.wires.proofs.expressions.assign_wire.Reads as assign-wire-reads
 
--- src/emit.rt:99:9
 read4-requires : tie.Need-read4-requires
 read4-requires c κs = tt
 
--- src/emit.rt:100:21
 enum-known-r : tie.Need-enum-known-r
 enum-known-r c = c .match .keys1
 
--- src/emit.rt:101:24
 enum-told : tie.Need-enum-told
 enum-told c = c .match .keys2
 
--- src/emit.rt:101:24
 stopped-read-requires : tie.Need-stopped-read-requires
 stopped-read-requires c κs = tt
 
--- src/emit.rt:101:9
 stopped-requires : tie.Need-stopped-requires
 stopped-requires c κs = tt
 
--- src/emit.rt:101:9
 same-length : tie.Need-same-length
 same-length c = c .before .before .before .before .before .exprs .given
 
--- src/emit.rt:101:9
 returns : tie.Need-returns
 unfolding emitLut4
 returns c = λ s. then-failed (c .before .before .before .before .before .before .read4 .ensures s _) _ (ap readOf (c .before .before .enum-told .given .1)) (changed-failed nothing (c .stopped .ensures) (changed-failed first (c .before .stopped-read .ensures) (ap readOf (c .before .before .enum-told .given .1))))
 
--- src/emit.rt:104:9
 lut-requires : tie.Need-lut-requires
 lut-requires c κs = tt
 
--- src/emit.rt:105:23
 enum-known-r2 : tie.Need-enum-known-r2
 enum-known-r2 c = c .match2 .keys1
 
--- src/emit.rt:106:9
 enum-told-2 : tie.Need-enum-told-2
 enum-told-2 c = c .match2 .keys2
 
--- src/emit.rt:106:9
 stopped-requires-2 : tie.Need-stopped-requires-2
 stopped-requires-2 c κs = tt
 
--- src/emit.rt:106:9
 same-length-2 : tie.Need-same-length-2
 same-length-2 c = c .before .before .before .before .exprs2 .given ∙ c .before .before .before .before .before .before .before .before .before .before .before .exprs .given
 
--- src/emit.rt:106:9
 returns-2 : tie.Need-returns-2
 unfolding emitLut4
 returns-2 c = λ s. then-done (c .before .before .before .before .before .before .before .before .before .before .before .before .read4 .ensures s _) _ (ap readOf (c .before .before .before .before .before .before .before .before .r .given .1)) (then-changed nothing (c .before .before .before .before .before .lut .ensures s _) _ (ap emitted (c .before .enum-told2 .given .1)) (c .stopped2 .ensures))
 
--- src/emit.rt:108:5
 assign-wire-requires : tie.Need-assign-wire-requires
 assign-wire-requires c κs = tt
 
--- src/emit.rt:87:1
 same-length-3 : tie.Need-same-length-3
 same-length-3 c = c .before .before .before .before .before .before .before .before .exprs2 .given ∙ c .before .before .before .before .before .before .before .before .before .before .before .before .before .before .before .exprs .given
 
--- src/emit.rt:87:1
 same-length-4 : tie.Need-same-length-4
 same-length-4 c = c .before .stmts .given
 
--- src/emit.rt:87:1
 returns-3 : tie.Need-returns-3
 unfolding emitLut4
 returns-3 c = λ s. then-done (c .before .before .before .before .before .before .before .before .before .before .before .before .before .before .before .before .read4 .ensures s _) _ (ap readOf (c .before .before .before .before .before .before .before .before .before .before .before .before .r .given .1)) (then-done (c .before .before .before .before .before .before .before .before .before .lut .ensures s _) _ (ap emitted (c .before .before .before .before .before .r2 .given .1)) (c .before .before .assign-wire .ensures s _))

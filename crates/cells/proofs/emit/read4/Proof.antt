@@ -10,126 +10,96 @@ use Rattle.cells.proofs.emit.read4.Statement.{statement}
 use Rattle.cells.proofs.emit.read4.Tie as tie
 use Rattle.cells.proofs.emit.read4.Reads as reads
 use Rattle.cells.proofs.emit.read4.Lts as lts
-use Rattle.cells.proofs.answers.unread.Reads as unread-reads
+use Rattle.cells.proofs.emit.unread.Reads as unread-reads
 use Rattle.wires.proofs.expressions.bit_expression.Reads as bit-expression-reads
 
--- src/emit.rt:37:55
 array-copy-out-bit-expression : tie.Need-array-copy-out-bit-expression
 array-copy-out-bit-expression c = search needs
 
--- src/emit.rt:37:9
 bit-expression-requires : tie.Need-bit-expression-requires
 bit-expression-requires c κs = tt
 
--- src/emit.rt:38:23
 enum-known-r : tie.Need-enum-known-r
 enum-known-r c = c .match .keys1
 
--- src/emit.rt:39:9
 enum-told : tie.Need-enum-told
 enum-told c = c .match .keys2
 
--- src/emit.rt:39:9
 unread-requires : tie.Need-unread-requires
 unread-requires c κs = tt
 
--- src/emit.rt:39:9
 same-length : tie.Need-same-length
 same-length c = c .before .before .before .before .exprs .given
 
--- src/emit.rt:39:9
 returns : tie.Need-returns
 returns c = λ s m. let st = c .before .before .before .before .before .before .before .before .before .before .before in let four : length (st .args .t5) ≡ 4 = search needs in wrote-as (read-four (wiresOf (c .before .before .before .before .before .before .before .before .before .before .before .args .signals .now) (c .before .before .before .before .before .before .before .before .before .before .before .args .places .now)) (c .before .before .before .before .before .before .before .before .before .before .before .args .t5) four) (then-changed fourfold (c .before .before .before .before .before .bit-expression .ensures s m) _ (ap emitted (c .before .enum-told .given .1)) (c .unread .ensures))
 
--- src/emit.rt:41:62
 array-copy-out-bit-expression-2 : tie.Need-array-copy-out-bit-expression-2
 array-copy-out-bit-expression-2 c = search needs
 
--- src/emit.rt:41:9
 bit-expression-requires-2 : tie.Need-bit-expression-requires-2
 bit-expression-requires-2 c κs = tt
 
--- src/emit.rt:42:23
 enum-known-r2 : tie.Need-enum-known-r2
 enum-known-r2 c = c .match2 .keys1
 
--- src/emit.rt:43:9
 enum-told-2 : tie.Need-enum-told-2
 enum-told-2 c = c .match2 .keys2
 
--- src/emit.rt:43:9
 unread-requires-2 : tie.Need-unread-requires-2
 unread-requires-2 c κs = tt
 
--- src/emit.rt:43:9
 same-length-2 : tie.Need-same-length-2
 same-length-2 c = c .before .before .before .before .exprs2 .given ∙ c .before .before .before .before .before .before .before .before .before .before .before .before .exprs .given
 
--- src/emit.rt:43:9
 returns-2 : tie.Need-returns-2
 returns-2 c = λ s m. let st = c .before .before .before .before .before .before .before .before .before .before .before .before .before .before .before .before .before .before .before in let four : length (st .args .t5) ≡ 4 = search needs in wrote-as (read-four (wiresOf (c .before .before .before .before .before .before .before .before .before .before .before .before .before .before .before .before .before .before .before .args .signals .now) (c .before .before .before .before .before .before .before .before .before .before .before .before .before .before .before .before .before .before .before .args .places .now)) (c .before .before .before .before .before .before .before .before .before .before .before .before .before .before .before .before .before .before .before .args .t5) four) (then-done (c .before .before .before .before .before .before .before .before .before .before .before .before .before .bit-expression .ensures s m) _ (ap emitted (c .before .before .before .before .before .before .before .before .before .r .given .1)) (then-changed fourfold (c .before .before .before .before .before .bit-expression2 .ensures s m) _ (ap emitted (c .before .enum-told2 .given .1)) (c .unread2 .ensures)))
 
--- src/emit.rt:45:62
 array-copy-out-bit-expression-3 : tie.Need-array-copy-out-bit-expression-3
 array-copy-out-bit-expression-3 c = search needs
 
--- src/emit.rt:45:9
 bit-expression-requires-3 : tie.Need-bit-expression-requires-3
 bit-expression-requires-3 c κs = tt
 
--- src/emit.rt:46:23
 enum-known-r3 : tie.Need-enum-known-r3
 enum-known-r3 c = c .match3 .keys1
 
--- src/emit.rt:47:9
 enum-told-3 : tie.Need-enum-told-3
 enum-told-3 c = c .match3 .keys2
 
--- src/emit.rt:47:9
 unread-requires-3 : tie.Need-unread-requires-3
 unread-requires-3 c κs = tt
 
--- src/emit.rt:47:9
 same-length-3 : tie.Need-same-length-3
 same-length-3 c = c .before .before .before .before .exprs3 .given ∙ c .before .before .before .before .before .before .before .before .before .before .before .before .exprs2 .given ∙ c .before .before .before .before .before .before .before .before .before .before .before .before .before .before .before .before .before .before .before .before .exprs .given
 
--- src/emit.rt:47:9
 returns-3 : tie.Need-returns-3
 returns-3 c = λ s m. let st = c .before .before .before .before .before .before .before .before .before .before .before .before .before .before .before .before .before .before .before .before .before .before .before .before .before .before .before in let four : length (st .args .t5) ≡ 4 = search needs in wrote-as (read-four (wiresOf (c .before .before .before .before .before .before .before .before .before .before .before .before .before .before .before .before .before .before .before .before .before .before .before .before .before .before .before .args .signals .now) (c .before .before .before .before .before .before .before .before .before .before .before .before .before .before .before .before .before .before .before .before .before .before .before .before .before .before .before .args .places .now)) (c .before .before .before .before .before .before .before .before .before .before .before .before .before .before .before .before .before .before .before .before .before .before .before .before .before .before .before .args .t5) four) (then-done (c .before .before .before .before .before .before .before .before .before .before .before .before .before .before .before .before .before .before .before .before .before .bit-expression .ensures s m) _ (ap emitted (c .before .before .before .before .before .before .before .before .before .before .before .before .before .before .before .before .before .r .given .1)) (then-done (c .before .before .before .before .before .before .before .before .before .before .before .before .before .bit-expression2 .ensures s m) _ (ap emitted (c .before .before .before .before .before .before .before .before .before .r2 .given .1)) (then-changed fourfold (c .before .before .before .before .before .bit-expression3 .ensures s m) _ (ap emitted (c .before .enum-told3 .given .1)) (c .unread3 .ensures))))
 
--- src/emit.rt:49:62
 array-copy-out-bit-expression-4 : tie.Need-array-copy-out-bit-expression-4
 array-copy-out-bit-expression-4 c = search needs
 
--- src/emit.rt:49:9
 bit-expression-requires-4 : tie.Need-bit-expression-requires-4
 bit-expression-requires-4 c κs = tt
 
--- src/emit.rt:50:23
 enum-known-r4 : tie.Need-enum-known-r4
 enum-known-r4 c = c .match4 .keys1
 
--- src/emit.rt:51:9
 enum-told-4 : tie.Need-enum-told-4
 enum-told-4 c = c .match4 .keys2
 
--- src/emit.rt:51:9
 unread-requires-4 : tie.Need-unread-requires-4
 unread-requires-4 c κs = tt
 
--- src/emit.rt:51:9
 same-length-4 : tie.Need-same-length-4
 same-length-4 c = c .before .before .before .before .exprs4 .given ∙ c .before .before .before .before .before .before .before .before .before .before .before .before .exprs3 .given ∙ c .before .before .before .before .before .before .before .before .before .before .before .before .before .before .before .before .before .before .before .before .exprs2 .given ∙ c .before .before .before .before .before .before .before .before .before .before .before .before .before .before .before .before .before .before .before .before .before .before .before .before .before .before .before .before .exprs .given
 
--- src/emit.rt:51:9
 returns-4 : tie.Need-returns-4
 returns-4 c = λ s m. let st = c .before .before .before .before .before .before .before .before .before .before .before .before .before .before .before .before .before .before .before .before .before .before .before .before .before .before .before .before .before .before .before .before .before .before .before in let four : length (st .args .t5) ≡ 4 = search needs in wrote-as (read-four (wiresOf (c .before .before .before .before .before .before .before .before .before .before .before .before .before .before .before .before .before .before .before .before .before .before .before .before .before .before .before .before .before .before .before .before .before .before .before .args .signals .now) (c .before .before .before .before .before .before .before .before .before .before .before .before .before .before .before .before .before .before .before .before .before .before .before .before .before .before .before .before .before .before .before .before .before .before .before .args .places .now)) (c .before .before .before .before .before .before .before .before .before .before .before .before .before .before .before .before .before .before .before .before .before .before .before .before .before .before .before .before .before .before .before .before .before .before .before .args .t5) four) (then-done (c .before .before .before .before .before .before .before .before .before .before .before .before .before .before .before .before .before .before .before .before .before .before .before .before .before .before .before .before .before .bit-expression .ensures s m) _ (ap emitted (c .before .before .before .before .before .before .before .before .before .before .before .before .before .before .before .before .before .before .before .before .before .before .before .before .before .r .given .1)) (then-done (c .before .before .before .before .before .before .before .before .before .before .before .before .before .before .before .before .before .before .before .before .before .bit-expression2 .ensures s m) _ (ap emitted (c .before .before .before .before .before .before .before .before .before .before .before .before .before .before .before .before .before .r2 .given .1)) (then-done (c .before .before .before .before .before .before .before .before .before .before .before .before .before .bit-expression3 .ensures s m) _ (ap emitted (c .before .before .before .before .before .before .before .before .before .r3 .given .1)) (then-changed fourfold (c .before .before .before .before .before .bit-expression4 .ensures s m) _ (ap emitted (c .before .enum-told4 .given .1)) (c .unread4 .ensures)))))
 
--- src/emit.rt:28:1
 same-length-5 : tie.Need-same-length-5
 same-length-5 c = c .before .before .before .before .exprs4 .given ∙ c .before .before .before .before .before .before .before .before .before .before .before .before .exprs3 .given ∙ c .before .before .before .before .before .before .before .before .before .before .before .before .before .before .before .before .before .before .before .before .exprs2 .given ∙ c .before .before .before .before .before .before .before .before .before .before .before .before .before .before .before .before .before .before .before .before .before .before .before .before .before .before .before .before .exprs .given
 
--- src/emit.rt:28:1
 returns-5 : tie.Need-returns-5
 returns-5 c = λ s m. let st = c .before .before .before .before .before .before .before .before .before .before .before .before .before .before .before .before .before .before .before .before .before .before .before .before .before .before .before .before .before .before .before .before .before .before .before in let four : length (st .args .t5) ≡ 4 = search needs in wrote-as (read-four (wiresOf (c .before .before .before .before .before .before .before .before .before .before .before .before .before .before .before .before .before .before .before .before .before .before .before .before .before .before .before .before .before .before .before .before .before .before .before .args .signals .now) (c .before .before .before .before .before .before .before .before .before .before .before .before .before .before .before .before .before .before .before .before .before .before .before .before .before .before .before .before .before .before .before .before .before .before .before .args .places .now)) (c .before .before .before .before .before .before .before .before .before .before .before .before .before .before .before .before .before .before .before .before .before .before .before .before .before .before .before .before .before .before .before .before .before .before .before .args .t5) four) (then-done (c .before .before .before .before .before .before .before .before .before .before .before .before .before .before .before .before .before .before .before .before .before .before .before .before .before .before .before .before .before .bit-expression .ensures s m) _ (ap emitted (c .before .before .before .before .before .before .before .before .before .before .before .before .before .before .before .before .before .before .before .before .before .before .before .before .before .r .given .1)) (then-done (c .before .before .before .before .before .before .before .before .before .before .before .before .before .before .before .before .before .before .before .before .before .bit-expression2 .ensures s m) _ (ap emitted (c .before .before .before .before .before .before .before .before .before .before .before .before .before .before .before .before .before .r2 .given .1)) (then-done (c .before .before .before .before .before .before .before .before .before .before .before .before .before .bit-expression3 .ensures s m) _ (ap emitted (c .before .before .before .before .before .before .before .before .before .r3 .given .1)) (then-done (c .before .before .before .before .before .bit-expression4 .ensures s m) _ (ap emitted (c .before .r4 .given .1)) wrote-pure))))
 

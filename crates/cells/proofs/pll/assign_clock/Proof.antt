@@ -6,19 +6,15 @@ use Rattle.cells.proofs.pll.assign_clock.Reads as reads
 use Rattle.cells.proofs.pll.assign_clock.Lts as lts
 use Rattle.cells.proofs.pll.assign_unless.Reads as assign-unless-reads
 
--- src/pll.rt:56:9
 returns : tie.Need-returns
 returns c = λ s e. wrote-as (rw (eq-eqb _ _ (c .if1 .taken))) wrote-pure
 
--- src/pll.rt:58:5
 assign-unless-requires : tie.Need-assign-unless-requires
 assign-unless-requires c κs = tt
 
--- src/pll.rt:43:1
 same-length : tie.Need-same-length
 same-length c = c .before .stmts .given
 
--- src/pll.rt:43:1
 returns-2 : tie.Need-returns-2
 returns-2 c = λ s e. wrote-as (rw (ne-eqb _ _ (c .before .before .before .before .if1 .left))) (c .before .before .assign-unless .ensures s e)
 

@@ -21,55 +21,42 @@ Inv-loop stmts₀ signals places feedback output words at n value from now₀ i�
 abbrev μ-loop : tie.MeasureT-loop
 μ-loop stmts₀ signals places feedback output words at n value from now₀ i₀ stmts now i = n - i
 
--- src/pll.rt:76:9
 ahead-requires : tie.Need-ahead-requires Inv-loop μ-loop
 ahead-requires c κs = tt
 
--- src/pll.rt:79:5
 loop-holds : tie.Need-loop-holds Inv-loop μ-loop
 loop-holds c = (omega arith, refl, doing-start (clocks-each (wiresOf (c .before .before .before .before .before .args .signals .now) (c .before .before .before .before .before .args .places .now)) (c .before .before .before .before .before .args .feedback) (c .before .before .before .before .before .args .output) (wiresAt (c .before .before .before .before .before .args .words .now) ((c .before .before .before .before .before .args .at) + 6) (c .before .before .before .before .before .args .n)) (c .before .before .before .before .before .args .value .0)))
 
--- src/pll.rt:80:13
 field-requires : tie.Need-field-requires Inv-loop μ-loop
 field-requires c κs = tt
 
--- src/pll.rt:81:13
 assign-clock-requires : tie.Need-assign-clock-requires Inv-loop μ-loop
 assign-clock-requires c κs = tt
 
--- src/pll.rt:82:26
 enum-known-r : tie.Need-enum-known-r Inv-loop μ-loop
 enum-known-r c = c .match .keys1
 
--- src/pll.rt:83:13
 enum-told : tie.Need-enum-told Inv-loop μ-loop
 enum-told c = c .match .keys2
 
--- src/pll.rt:83:13
 same-length : tie.Need-same-length Inv-loop μ-loop
 same-length c = c .before .before .before .before .assign-clock .kept .0 ∙ c .before .before .before .before .before .before .before .before .loop .inv .1
 
--- src/pll.rt:83:13
 returns : tie.Need-returns Inv-loop μ-loop
 returns c = doing-stop (c .before .before .before .before .before .before .before .before .loop .inv .2) (wire-some (c .before .before .before .before .before .before .before .before .before .before .before .before .before .before .args .words .now) ((c .before .before .before .before .before .before .before .before .before .before .before .before .before .before .args .at) + 6) (c .before .before .before .before .before .before .before .before .before .before .before .before .before .before .args .n) (c .before .before .before .before .before .before .before .before .loop .i) (c .before .before .before .before .before .before .before .loop-test .taken)) (wire-there (c .before .before .before .before .before .before .before .before .before .before .before .before .before .before .args .words .now) ((c .before .before .before .before .before .before .before .before .before .before .before .before .before .before .args .at) + 6) (c .before .before .before .before .before .before .before .before .before .before .before .before .before .before .args .n) (c .before .before .before .before .before .before .before .before .before .ahead .result) (c .before .before .before .before .before .before .before .before .loop .i) (c .before .before .before .before .before .before .before .before .before .ahead .ensures) (c .before .before .before .before .before .before .before .loop-test .taken) (c .before .before .before .before .before .before .field .ensures)) (c .before .before .before .before .assign-clock .ensures) (ap stated (c .enum-told .given .1))
 
--- src/pll.rt:86:9
 add-i : tie.Need-add-i Inv-loop μ-loop
 add-i c = omega arith
 
--- src/pll.rt:79:5
 loop-less : tie.Need-loop-less Inv-loop μ-loop
 loop-less c = omega arith
 
--- src/pll.rt:79:5
 loop-again : tie.Need-loop-again Inv-loop μ-loop
 loop-again c = (omega arith, c .before .before .before .before .before .assign-clock .kept .0 ∙ c .before .before .before .before .before .before .before .before .before .loop .inv .1, doing-step (c .before .before .before .before .before .before .before .before .before .loop .inv .2) (wire-some (c .before .before .before .before .before .before .before .before .before .before .before .before .before .before .before .args .words .now) ((c .before .before .before .before .before .before .before .before .before .before .before .before .before .before .before .args .at) + 6) (c .before .before .before .before .before .before .before .before .before .before .before .before .before .before .before .args .n) (c .before .before .before .before .before .before .before .before .before .loop .i) (c .before .before .before .before .before .before .before .before .loop-test .taken)) (wire-there (c .before .before .before .before .before .before .before .before .before .before .before .before .before .before .before .args .words .now) ((c .before .before .before .before .before .before .before .before .before .before .before .before .before .before .before .args .at) + 6) (c .before .before .before .before .before .before .before .before .before .before .before .before .before .before .before .args .n) (c .before .before .before .before .before .before .before .before .before .before .ahead .result) (c .before .before .before .before .before .before .before .before .before .loop .i) (c .before .before .before .before .before .before .before .before .before .before .ahead .ensures) (c .before .before .before .before .before .before .before .before .loop-test .taken) (c .before .before .before .before .before .before .before .field .ensures)) (c .before .before .before .before .before .assign-clock .ensures) (ap stated (c .before .r .given .1)))
 
--- src/pll.rt:62:1
 same-length-2 : tie.Need-same-length-2 Inv-loop μ-loop
 same-length-2 c = c .before .loop .inv .1
 
--- src/pll.rt:62:1
 returns-2 : tie.Need-returns-2 Inv-loop μ-loop
 returns-2 c = doing-end (c .before .loop .inv .2) (wires-all (c .before .before .before .before .before .before .before .args .words .now) ((c .before .before .before .before .before .before .before .args .at) + 6) (c .before .before .before .before .before .before .before .args .n) (c .before .loop .i) (omega arith))
 

@@ -6,19 +6,15 @@ use Rattle.cells.proofs.pll.assign_unless.Reads as reads
 use Rattle.cells.proofs.pll.assign_unless.Lts as lts
 use Rattle.wires.proofs.expressions.assign_wire.Reads as assign-wire-reads
 
--- src/pll.rt:37:9
 returns : tie.Need-returns
 returns c = λ s e. wrote-as (rw (eq-eqb _ _ (c .if1 .taken))) wrote-pure
 
--- src/pll.rt:39:5
 assign-wire-requires : tie.Need-assign-wire-requires
 assign-wire-requires c κs = tt
 
--- src/pll.rt:25:1
 same-length : tie.Need-same-length
 same-length c = c .before .stmts .given
 
--- src/pll.rt:25:1
 returns-2 : tie.Need-returns-2
 returns-2 c = λ s e. wrote-as (rw (ne-eqb _ _ (c .before .before .before .before .if1 .left))) (c .before .before .assign-wire .ensures s e)
 

@@ -2,25 +2,21 @@ use Rattle.cells.specs.Answers.{changed, nothing, nought, first, fourfol
 use Rattle.recorder.specs.declared.Emitted.{Emitted}
 use Rattle.recorder.specs.Lists.{emitted, stated}
 use mathlib.Core.Path.{_≡_, refl, sym, ap, _∙_}
-use Rattle.cells.proofs.answers.unread.Statement.{statement}
-use Rattle.cells.proofs.answers.unread.Tie as tie
-use Rattle.cells.proofs.answers.unread.Reads as reads
-use Rattle.cells.proofs.answers.unread.Lts as lts
+use Rattle.cells.proofs.emit.unread.Statement.{statement}
+use Rattle.cells.proofs.emit.unread.Tie as tie
+use Rattle.cells.proofs.emit.unread.Reads as reads
+use Rattle.cells.proofs.emit.unread.Lts as lts
 
--- src/answers.rt:41:23
 enum-known-r : tie.Need-enum-known-r
 enum-known-r c = c .match .keys1
 
--- src/answers.rt:42:26
 enum-known-r-2 : tie.Need-enum-known-r-2
 enum-known-r-2 c = c .match .keys2
 
--- src/answers.rt:37:1
 returns : tie.Need-returns
 unfolding changed
 returns c = sym (ap (λ (x : Emitted). changed fourfold (emitted x)) (c .before .r .given .1))
 
--- src/answers.rt:37:1
 returns-2 : tie.Need-returns-2
 unfolding changed
 returns-2 c = sym (ap (λ (x : Emitted). changed fourfold (emitted x)) (c .before .r2 .given .1))
