@@ -1,2 +1,3 @@
 -- The specs of cells.
 pub mod Cells
+pub mod Answers

@@ -1,0 +1,3 @@
+-- The laws of cells that other crates cite.
+pub mod Laws
+pub mod Each
