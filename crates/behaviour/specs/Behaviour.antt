@@ -74,7 +74,7 @@ abbrev pub isSignal : Option ℕ → ℕ → Bool
 isSignal none s = false
 isSignal (some t) s = eqb t s
 
--- a register is on the fired clock if the fired signal is the one that the wire map holds for its clock, and the edge is its own;
+-- a register is clocked by its clock bit's signal in the wire map, on its own edge;
 -- another signal that copies the clock's wire does not fire it
 abbrev pub onFired : List Slot → Option Fired → Bit → ℕ → Bool
 onFired held none clock edge = false
@@ -103,7 +103,7 @@ resetValue (some r) = level (r .value)
 abbrev pub loadedFlop : Valuation → FlipFlop → Bool → Bool
 loadedFlop v f old = pick (resetting v 0 (f .reset)) (resetValue (f .reset)) (pick (enabled v (f .enable)) (value v (f .input)) old)
 
--- an asserted asynchronous reset loads its value whatever fires, or nothing; else the fired clock loads; else the old value stays
+-- an asynchronous reset needs no clock and goes first; without it the clock decides between loading and keeping
 abbrev pub nextFlop : Bool → Valuation → FlipFlop → Bool → Bool
 nextFlop fired v f old = pick (resetting v 1 (f .reset)) (resetValue (f .reset)) (pick fired (loadedFlop v f old) old)
 
@@ -117,7 +117,7 @@ pub record CcuRow : Type 0 where
   pub sum : Bool
   pub carry : Bool
 
--- a row of a CCU2C: L is the table bit of the four inputs, M that with the last two inputs 0, G the carry, or 0 if inject is set
+-- a row of a CCU2C: l looks all four inputs up, m only the first two (zeros for the others), g is the carry in unless inject blocks it
 abbrev pub ccuRow : Bits → ℕ → ℕ → Bool → CcuRow
 ccuRow bits init inject carry =
     let l = lookTable init bits in
@@ -144,7 +144,7 @@ output v r (flipFlop f) k = r .flop
 output v r (blockRam m) k = getD (r .readA ++ r .readB) k false
 -- a distributed RAM reads at once
 output v r (distributedRam m) k = getD (getD (r .words) (number (values v (m .readAddress))) []) k false
--- the pad when tristate is 1, else what the fabric drives
+-- a released pad is read back; a driven one gives what the fabric drives
 output v r (io pad fabricOutput o tristate) k = pick (value v tristate) (value v (Wire pad)) (value v fabricOutput)
 -- all are 0 but pin 6, reset_n
 output v r (jtagg o) k = eqb k 6
@@ -157,7 +157,7 @@ abbrev pub shiftIn : Option ℕ → ℕ
 shiftIn none = 0
 shiftIn (some s) = s
 
--- the address bits from the shift on, as many as the address width
+-- the window of the address bits that counts
 abbrev pub address : Valuation → BlockRam → List Bit → ℕ
 address v r bits = number (values v (take (addressWidth (r .depth)) (drop (shiftIn (shiftOf (r .physical))) bits)))
 
@@ -166,7 +166,7 @@ abbrev pub written : Bool → ℕ → Bits → List Bits → List Bits
 written true at x words = set words at x
 written false at x words = words
 
--- a read takes the word before the edge, 0 beyond the depth, and keeps the old word while its enable is off
+-- a read sees the words as they were; addresses behind the last word read 0; a disabled read changes nothing
 abbrev pub loaded : Bool → ℕ → BlockRam → List Bits → Bits → Bits
 loaded true at r words old = getD words at (zeros (r .width))
 loaded false at r words old = old
@@ -185,7 +185,7 @@ abbrev pub loadedB : Valuation → BlockRam → Option SecondPort → List Bits 
 loadedB v r none words old = old
 loadedB v r (some p) words old = loaded (enabled v (p .readEnable)) (address v r (p .address)) r words old
 
--- both ports are on one clock and edge (6). B writes last: if both write one word, B's stays. Clock enables have no effect
+-- both ports are on one clock and edge (6). B writes last and so wins. Clock enables are not looked at
 abbrev pub nextRam : Bool → Valuation → BlockRam → Registers → Registers
 nextRam false v r old = old
 nextRam true v r old = record {
@@ -203,7 +203,7 @@ nextDistributed fired v r old = record {
   readB = old .readB;
 }
 
--- COMMIT: each register reads the settled values v, and all change together
+-- COMMIT: every register goes by the settled valuation v, and none sees another's new value
 
 -- the registers of a cell after it; `fires` tells for a clock and an edge whether they fire
 abbrev pub next : (Bit → ℕ → Bool) → Valuation → Cell → Registers → Registers
@@ -339,7 +339,7 @@ tick n s t =
     let regs = committedBy n t (s .registers) in
     record { registers = regs; outputs = map (values (settledBy n t regs)) (outputPorts (n .ports)) }
 
--- 14, of which a netlist has no signal bytes: a wrong count of tick bits, a tick bit not 0 or 1, a fired signal not in the model,
+-- what 14 can mean for a netlist, which has no signal bytes: the number of tick bits, one of them, the fired signal
 -- or an edge above 1
 abbrev pub allBits : List ℕ → Bool
 allBits [] = true

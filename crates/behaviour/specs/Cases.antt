@@ -44,7 +44,7 @@ bothWrite =
 
 abbrev pub cases : List Row
 cases =
-    -- depth 1: address 0 reads the word (0 before the first write), 1 reads 0
+    -- one word: address 0 gives it (0 until it is written), address 1 gives 0
     record { words = depth1; ticks = fire (0 ∷ 0 ∷ []) 0 0 ∷ fire (0 ∷ 0 ∷ []) 0 0 ∷ fire (0 ∷ 1 ∷ []) 0 0 ∷ fire (0 ∷ 0 ∷ []) 0 0 ∷ []; shown = 0 ∷ 1 ∷ 0 ∷ 1 ∷ [] } ∷
     -- both ports write: A 0 and B 1, then A 1 and B 0; the next tick reads B's (3: both ports read 1)
     record { words = bothWrite; ticks = fire (0 ∷ 0 ∷ 1 ∷ []) 0 0 ∷ fire (0 ∷ 1 ∷ 0 ∷ []) 0 0 ∷ fire (0 ∷ 0 ∷ 0 ∷ []) 0 0 ∷ []; shown = 0 ∷ 3 ∷ 0 ∷ [] } ∷

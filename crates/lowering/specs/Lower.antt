@@ -19,7 +19,7 @@ use Rattle.wires.specs.Wires.{Wires, noWires}
 use Rattle.lowering.specs.Reserve.{signalOf, reservePorts, reserveCells, reserveFlipFlopBanks}
 use Rattle.lowering.specs.Emit.{emitCells, emitBanks, emitOutputs}
 
--- 11: two statements on a signal, or one on an input
+-- 11: a signal that is driven more than once, or an input that is driven at all
 
 abbrev pub targetOf : Stmt → ℕ
 targetOf (assign t e) = t

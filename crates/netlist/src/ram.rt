@@ -24,7 +24,7 @@ pub fn address_shift(physical: u32) -> Shift
     }
 }
 
-// The bit length of depth - 1, at least 1.
+// How many bits number the words, one at least.
 pub fn address_width(depth: u32) -> u32
     ensures { λ r. ⌜ r ≡ addressWidth depth ⌝ }
 {

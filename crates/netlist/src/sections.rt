@@ -58,7 +58,7 @@ fn check_ports(limits: Limits, words: &[u32], end: usize, count: usize) -> Walk
     check_end(end, Walk::At(i))
 }
 
-// Whether a cell has no second port on another clock or edge. Equal words are equal bits.
+// Whether all ports of a cell share one clock and edge. Equal words are equal bits.
 fn one_clock(words: &[u32], at: usize) -> bool
     ensures { λ r. ⌜ r ≡ oneClock (cellAt (now (words .entry)) at) ⌝ }
 {
