@@ -1,0 +1,3 @@
+-- What the proofs of memories share.
+pub mod Binds
+pub mod Levels
