@@ -2,3 +2,4 @@
 pub mod AddressMux
 pub mod Candidates
 pub mod Memories
+pub mod Rams
