@@ -1,3 +1,5 @@
 -- The specs of memories.
 pub mod AddressMux
+pub mod Candidates
 pub mod Memories
+pub mod Rams

@@ -1,1 +1,64 @@
-// Memories. (lib.rs of the Rust: emit_block_ram to emit_distributed_ram.)
+// Memories: the balanced address mux, block RAM, distributed RAM. (lib.rs of the Rust: emit_block_ram to emit_distributed_ram.)
+pub mod address;
+pub mod address_mux;
+pub mod ram_words;
+
+use recorder::ExprId;
+use recorder::SignalId;
+use recorder::Tapes;
+use refusal::Refusal;
+
+// A candidate of an address: the expression that says it is the one, and the word's.
+pub struct AddressMuxNode {
+    pub matched: ExprId,
+    pub value: ExprId,
+}
+
+pub enum Joined {
+    Done(AddressMuxNode, Tapes),
+    Refused(Refusal),
+}
+
+// The expressions of a port: where it writes, what, whether, and where it reads.
+pub struct Port {
+    pub writes: ExprId,
+    pub data: ExprId,
+    pub asserted: ExprId,
+    pub reads: ExprId,
+}
+
+pub enum Ported {
+    Done(Port, Tapes),
+    Refused(Refusal),
+}
+
+pub enum Second {
+    Absent,
+    Present(Port),
+}
+
+pub enum Seconded {
+    Done(Second, Tapes),
+    Refused(Refusal),
+}
+
+// A word: its signal, its read, its next value.
+pub struct RamWord {
+    pub signal: SignalId,
+    pub current: ExprId,
+    pub next: ExprId,
+}
+
+pub enum Worded {
+    Done(RamWord, Tapes),
+    Refused(Refusal),
+}
+
+// The words of a RAM. Their signals are consecutive; each word's next value stands `last` behind its read, and the next word's read
+// right behind that.
+pub struct Words {
+    pub signal: SignalId,
+    pub current: ExprId,
+    pub last: u32,
+    pub depth: u32,
+}

@@ -135,23 +135,22 @@ concat-more l n h e = go (take n l) (length-take-le n l h)
 abbrev pub vectorLeft : Wires → List Bit → ℕ → ℕ → List ℕ → Writer ℕ
 vectorLeft m bits at k parts = vectorParts m bits at k parts >>= concatParts
 
-module _ (m : Wires) (bits : List Bit) where
-  pub vector-start : (k : ℕ) (parts : List ℕ) → vectorExpression m bits 0 k ≡ vectorLeft m bits 0 k (take (k - k) parts)
+module _ (m : Wires) (bits : List Bit) (at : ℕ) where
+  pub vector-start : (k : ℕ) (parts : List ℕ) → vectorExpression m bits at k ≡ vectorLeft m bits at k (take (k - k) parts)
   unfolding vectorExpression
-  vector-start k parts = let z : k - k ≡ 0 = omega arith in ap (λ (i : ℕ). vectorLeft m bits 0 k (take i parts)) (sym z)
+  vector-start k parts = let z : k - k ≡ 0 = omega arith in ap (λ (i : ℕ). vectorLeft m bits at k (take i parts)) (sym z)
 
   pub vector-more : (left : ℕ) (parts : List ℕ) → 1 ≤ left
-      → vectorLeft m bits 0 left parts ≡ (bitExpression m (vectorBit bits (left - 1)) >>= λ e. vectorLeft m bits 0 (left - 1) (parts ++ (e ∷ [])))
+      → vectorLeft m bits at left parts ≡ (bitExpression m (vectorBit bits (at + (left - 1))) >>= λ e. vectorLeft m bits at (left - 1) (parts ++ (e ∷ [])))
   unfolding vectorParts
   vector-more left parts h =
       let i : left ≡ suc (left - 1) = omega arith in
-      ap (λ (k : ℕ). vectorLeft m bits 0 k parts) i
-      ∙ bind-assoc (bitExpression m (vectorBit bits (0 + (left - 1)))) (λ e. vectorParts m bits 0 (left - 1) (parts ++ (e ∷ []))) concatParts
-      ∙ ap (λ (k : ℕ). bitExpression m (vectorBit bits k) >>= λ e. vectorLeft m bits 0 (left - 1) (parts ++ (e ∷ []))) (zero-add (left - 1))
+      ap (λ (k : ℕ). vectorLeft m bits at k parts) i
+      ∙ bind-assoc (bitExpression m (vectorBit bits (at + (left - 1)))) (λ e. vectorParts m bits at (left - 1) (parts ++ (e ∷ []))) concatParts
 
-  pub vector-done : {left : ℕ} (parts : List ℕ) → left ≡ 0 → vectorLeft m bits 0 left parts ≡ concatParts parts
+  pub vector-done : {left : ℕ} (parts : List ℕ) → left ≡ 0 → vectorLeft m bits at left parts ≡ concatParts parts
   unfolding vectorParts
-  vector-done parts z = ap (λ (k : ℕ). vectorLeft m bits 0 k parts) z ∙ bind-pure parts concatParts
+  vector-done parts z = ap (λ (k : ℕ). vectorLeft m bits at k parts) z ∙ bind-pure parts concatParts
 
 back-one : (a b : ℕ) → 1 ≤ b → b ≤ a → a - 1 - (b - 1) ≡ a - b
 back-one a b h g = omega arith

@@ -23,7 +23,7 @@ use Rattle.wires.proofs.expressions.vector_bit.Reads as vector-bit-read
 
 abbrev Inv-loop : tie.InvT-loop
 Inv-loop exprs₀ parts₀ signals places words at n width end now₀ left₀ exprs parts now left = (left ≤ end) × (end ≤ length parts₀) × (length parts ≡ length parts₀) × (length exprs ≡ length exprs₀)
-    × Doing (wiresOf signals places) (bitsAt words at n) (roomy width parts₀ (vectorExpression (wiresOf signals places) (bitsAt words at n) 0 width)) end exprs₀ now₀ exprs now left parts
+    × Doing (wiresOf signals places) (bitsAt words at n) 0 (roomy width parts₀ (vectorExpression (wiresOf signals places) (bitsAt words at n) 0 width)) end exprs₀ now₀ exprs now left parts
 
 abbrev μ-loop : tie.MeasureT-loop
 μ-loop exprs₀ parts₀ signals places words at n width end now₀ left₀ exprs parts now left = left
@@ -70,7 +70,7 @@ same-length-2 c = c .before .before .before .before .before .before .before .bef
 
 -- src/expressions.rt:151:13
 returns-2 : tie.Need-returns-2 Inv-loop μ-loop
-returns-2 c = doing-stop (c .before .before .before .before .before .before .before .before .loop .inv .4) (omega arith) (c .before .before .before .before .before .before .vector-bit .ensures) (c .before .before .before .before .bit-expression .ensures) (ap emitted (c .enum-told .given .1))
+returns-2 c = doing-stop (c .before .before .before .before .before .before .before .before .loop .inv .4) (omega arith) (c .before .before .before .before .before .before .before .before .loop .left - 1) (omega arith) (c .before .before .before .before .before .before .vector-bit .ensures) (c .before .before .before .before .bit-expression .ensures) (ap emitted (c .enum-told .given .1))
 
 -- src/expressions.rt:153:15
 sub-parts : tie.Need-sub-parts Inv-loop μ-loop
@@ -94,7 +94,7 @@ loop-less c = search needs
 
 -- src/expressions.rt:146:5
 loop-again : tie.Need-loop-again Inv-loop μ-loop
-loop-again c = (omega arith, omega arith, simp length-set (c .before .before .before .before .before .before .before .before .before .loop .inv .2), c .before .before .before .before .before .bit-expression .kept .0 ∙ c .before .before .before .before .before .before .before .before .before .loop .inv .3, doing-step (c .before .before .before .before .before .before .before .before .before .loop .inv .4) (omega arith) (c .before .before .before .before .before .before .before .vector-bit .ensures) (c .before .before .before .before .before .bit-expression .ensures) (omega arith) (omega arith) (ap emitted (c .before .r .given .1)))
+loop-again c = (omega arith, omega arith, simp length-set (c .before .before .before .before .before .before .before .before .before .loop .inv .2), c .before .before .before .before .before .bit-expression .kept .0 ∙ c .before .before .before .before .before .before .before .before .before .loop .inv .3, doing-step (c .before .before .before .before .before .before .before .before .before .loop .inv .4) (omega arith) (c .before .before .before .before .before .before .before .before .before .loop .left - 1) (omega arith) (c .before .before .before .before .before .before .before .vector-bit .ensures) (c .before .before .before .before .before .bit-expression .ensures) (omega arith) (omega arith) (ap emitted (c .before .r .given .1)))
 
 -- src/expressions.rt:156:5
 concat-parts-requires : tie.Need-concat-parts-requires Inv-loop μ-loop

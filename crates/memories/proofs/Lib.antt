@@ -1,0 +1,6 @@
+-- What the proofs of memories share.
+pub mod Binds
+pub mod Levels
+pub mod Addresses
+pub mod Ended
+pub mod RamLaws

@@ -1,0 +1,198 @@
+-- What the RAMs' functions hand over: the expressions of ports, words by their numbers, and which lists a call writes.
+use mathlib.Core.List.{List, [], _∷_}
+use mathlib.Core.Option.{Option, none, some}
+use mathlib.Core.Path.{_≡_}
+use Prim.Native.Nat.{ℕ, zero, suc, _+_, _≤_, max}
+use lib.ListN.{getD}
+use Rattle.refusal.specs.Refusal.{numberOf, placeOf}
+use Rattle.netlist.specs.declared.Bit.{Bit}
+use Rattle.netlist.specs.declared.Control.{Control}
+use Rattle.netlist.specs.Netlist.{SecondPort, BlockRam, DistributedRam}
+use Rattle.netlist.specs.Fields.{whenSet, wordAt, bitAt, bitsAt, wiresAt, controlAt, optionalControlAt, firstSize, secondPortAt}
+use Rattle.recorder.specs.declared.Tapes.{Tapes}
+use Rattle.recorder.specs.declared.Stated.{Stated}
+use Rattle.recorder.specs.declared.Stated.the-variants as S
+use Rattle.recorder.specs.Record.{Expr.const, Expr.eq, Expr.mux, Stmt.reg}
+use Rattle.recorder.specs.Writer.{Count, Out, Writer, pure, emit, state, _>>=_}
+use Rattle.recorder.specs.Lists.{lists, Wrote, WroteExprs, Answer, Answer.Done, Answer.Failed, stated}
+use Rattle.wires.specs.declared.Constants.{Constants}
+use Rattle.wires.specs.Wires.{Wires}
+use Rattle.wires.specs.Expressions.{wireRef, assertedExpression, vectorExpression, bitsExpression, roomy}
+use Rattle.memories.specs.declared.Port.{Port}
+use Rattle.memories.specs.declared.Ported.{Ported}
+use Rattle.memories.specs.declared.Ported.the-variants as P
+use Rattle.memories.specs.declared.Second.{Second}
+use Rattle.memories.specs.declared.Second.the-variants as B
+use Rattle.memories.specs.declared.Seconded.{Seconded}
+use Rattle.memories.specs.declared.Seconded.the-variants as D
+use Rattle.memories.specs.declared.RamWord.{RamWord}
+use Rattle.memories.specs.declared.Worded.{Worded}
+use Rattle.memories.specs.declared.Worded.the-variants as W
+use Rattle.memories.specs.declared.Words.{Words}
+use Rattle.memories.specs.AddressMux.{Node, balancedAddressMux}
+use Rattle.memories.specs.Memories.{Word, PortExprs, writeSecond, ramWord, ramWords, candidatesFrom, enableOf, emitBlockRam, emitDistributedRam}
+
+-- ---- which lists a call writes, whatever the others hold
+
+abbrev pub WroteWords : {A : Type 0} → List ℕ → List ℕ → Tapes → Writer A → Answer A → List ℕ → List ℕ → Type 0
+WroteWords s e t w r s′ e′ = (m : List ℕ) → Wrote (lists s e m) t w r (lists s′ e′ m)
+
+abbrev pub WrotePort : {A : Type 0} → List ℕ → List ℕ → Tapes → Writer A → Answer A → List ℕ → List ℕ → Type 0
+WrotePort e m t w r e′ m′ = (s : List ℕ) → Wrote (lists s e m) t w r (lists s e′ m′)
+
+-- ---- the expressions of a port, with the wires that it reads to and its read enable
+
+abbrev pub portOf : List ℕ → Option Control → Port → PortExprs
+portOf out en p = record { writeAddress = p .writes .0; writeData = p .data .0; writeAsserted = p .asserted .0; readAddress = p .reads .0; readData = out; readEnable = en }
+
+-- only its writing counts
+abbrev pub writing : Port → PortExprs
+writing p = portOf [] none p
+
+-- only its reading counts
+abbrev pub reading : ℕ → ℕ → Option Control → PortExprs
+reading address output en = record { writeAddress = 0; writeData = 0; writeAsserted = 0; readAddress = address; readData = output ∷ []; readEnable = en }
+
+abbrev pub ported : List ℕ → Option Control → Ported → Answer PortExprs
+ported out en (P.Done p t) = Done (portOf out en p) t
+ported out en (P.Refused x) = Failed (numberOf x) (placeOf x)
+
+abbrev pub secondOf : List ℕ → Option Control → Second → Option PortExprs
+secondOf out en B.Absent = none
+secondOf out en (B.Present p) = some (portOf out en p)
+
+abbrev pub secondWriting : Second → Option PortExprs
+secondWriting b = secondOf [] none b
+
+abbrev pub seconded : List ℕ → Option Control → Seconded → Answer (Option PortExprs)
+seconded out en (D.Done b t) = Done (secondOf out en b) t
+seconded out en (D.Refused x) = Failed (numberOf x) (placeOf x)
+
+-- the first port's, in the order of emitBlockRam
+unfoldable pub firstExprs : Wires → ℕ → ℕ → BlockRam → Writer PortExprs
+firstExprs m shift aw r = do
+  wa ← vectorExpression m (r .writeAddress) shift aw
+  ra ← vectorExpression m (r .readAddress) shift aw
+  d ← bitsExpression m (r .input)
+  y ← assertedExpression m (r .write)
+  pure (record { writeAddress = wa; writeData = d; writeAsserted = y; readAddress = ra; readData = r .output; readEnable = r .readEnable })
+
+-- a distributed RAM's, in the order of emitDistributedRam
+unfoldable pub dramExprs : Wires → DistributedRam → Writer PortExprs
+dramExprs m r = do
+  wa ← vectorExpression m (r .writeAddress) 0 4
+  ra ← vectorExpression m (r .readAddress) 0 4
+  d ← vectorExpression m (r .input) 0 4
+  y ← assertedExpression m (r .write)
+  pure (record { writeAddress = wa; writeData = d; writeAsserted = y; readAddress = ra; readData = r .output; readEnable = none })
+
+-- ---- an address against an index
+
+unfoldable pub matchAddress : ℕ → ℕ → ℕ → Writer ℕ
+matchAddress address aw index = do
+  k ← emit (const aw index)
+  emit (eq address k)
+
+-- ---- words by their numbers
+
+abbrev pub wordOf : RamWord → Word
+wordOf w = record { signal = w .signal .0; current = w .current .0; next = w .next .0 }
+
+abbrev pub worded : Worded → Answer Word
+worded (W.Done w t) = Done (wordOf w) t
+worded (W.Refused x) = Failed (numberOf x) (placeOf x)
+
+-- how far the next value of a word stands behind its read: four records for each port that writes
+abbrev pub lastOf : Second → ℕ
+lastOf B.Absent = 4
+lastOf (B.Present p) = 8
+
+-- so many words, the first with this signal and this read: signals are consecutive, reads stand at a fixed distance
+unfoldable pub wordsFrom : ℕ → ℕ → ℕ → ℕ → List Word
+wordsFrom s q last zero = []
+wordsFrom s q last (suc n) = record { signal = s; current = q; next = q + last } ∷ wordsFrom (s + 1) (q + (last + 1)) last n
+
+-- the number behind the last one
+unfoldable pub reach : ℕ → ℕ → ℕ → ℕ
+reach q last zero = q
+reach q last (suc n) = reach (q + (last + 1)) last n
+
+abbrev pub wordsOf : Words → List Word
+wordsOf w = wordsFrom (w .signal .0) (w .current .0) (w .last) (w .depth)
+
+-- numbers that records have
+pub record Small (t : Tapes) : Type 0 where
+  pub signals : t .signals .count ≤ 2147483648
+  pub exprs : t .exprs .count ≤ 2147483648
+
+-- all of them are numbers that records have
+pub record Spaced (w : Words) : Type 0 where
+  pub signals : 1 ≤ w .depth → w .signal .0 + w .depth ≤ 2147483648
+  pub exprs : 1 ≤ w .depth → reach (w .current .0) (w .last) (w .depth) ≤ 2147483648
+
+abbrev pub filled : Tapes → ℕ → ℕ → Stated → Answer (List Word)
+filled t last depth (S.Done u) = Done (wordsFrom (t .signals .count) (t .exprs .count) last depth) u
+filled t last depth (S.Refused x) = Failed (numberOf x) (placeOf x)
+
+-- words were made from the tapes t on
+pub record Filled (s e : List ℕ) (t : Tapes) (w : Writer (List Word)) (last depth : ℕ) (r : Stated) (s′ e′ : List ℕ) : Type 0 where
+  pub wrote : WroteWords s e t w (filled t last depth r) s′ e′
+  pub spaced : (u : Tapes) → r ≡ S.Done u → 1 ≤ depth → (t .signals .count + depth ≤ 2147483648) × (reach (t .exprs .count) last depth ≤ 2147483648)
+
+-- ---- parts of a read port
+
+unfoldable pub selectWord : ℕ → List Word → ℕ → ℕ → Writer ℕ
+selectWord address words width aw = do
+  e ← emit (const width 0)
+  nodes ← candidatesFrom address aw 0 words []
+  balancedAddressMux width nodes e
+
+unfoldable pub readRegister : Wires → Constants → ℕ → Option Control → ℕ → ℕ → ℕ → Writer (Unit {0})
+readRegister m z output enable v clock edge = do
+  r ← wireRef m output
+  en ← enableOf m z enable
+  state (reg (r .signal) v clock edge none en)
+
+-- ---- the cells at an index
+
+abbrev pub ramAt : List ℕ → ℕ → BlockRam
+ramAt words i =
+    let width = wordAt words (i + 2) in
+    record {
+      depth = wordAt words (i + 1);
+      width = width;
+      physical = wordAt words (i + 3);
+      writeAddress = bitsAt words (i + 4) 14;
+      write = controlAt words (i + 18);
+      readAddress = bitsAt words (i + 20) 14;
+      readEnable = optionalControlAt words (i + 34);
+      clockEnable = optionalControlAt words (i + 37);
+      clock = bitAt words (i + 40);
+      edge = wordAt words (i + 41);
+      second = whenSet (wordAt words (i + 42)) (secondPortAt words (i + firstSize words width) width);
+      input = bitsAt words (i + 43) width;
+      output = wiresAt words (i + (43 + width)) width;
+    }
+
+abbrev pub dramAt : List ℕ → ℕ → DistributedRam
+dramAt words i = record {
+  writeAddress = bitsAt words (i + 1) 4;
+  input = bitsAt words (i + 5) 4;
+  write = controlAt words (i + 9);
+  readAddress = bitsAt words (i + 11) 4;
+  output = wiresAt words (i + 15) 4;
+  clock = bitAt words (i + 19);
+  edge = wordAt words (i + 20);
+  second = wordAt words (i + 21);
+}
+
+-- the words of work that a block RAM takes, at least 16,384
+abbrev pub workOf : BlockRam → ℕ
+workOf r = max 16384 (max (r .depth) (r .width))
+
+-- both work slices are checked first
+abbrev pub blockRamIn : List ℕ → List ℕ → Wires → Constants → ℕ → BlockRam → Writer (Unit {0})
+blockRamIn matched value m z owner r = roomy (workOf r) matched (roomy (workOf r) value (emitBlockRam m z owner r))
+
+abbrev pub distributedRamIn : List ℕ → Wires → Constants → ℕ → DistributedRam → Writer (Unit {0})
+distributedRamIn parts m z owner r = roomy 4 parts (emitDistributedRam m z owner r)
