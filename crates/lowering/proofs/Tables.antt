@@ -114,10 +114,12 @@ module _ {ss₀ ps₀ : List ℕ} {bits : List Bit} {s n : ℕ} where
       so-far a b c = now .so a b c ∙ ap (insertBits (wiresOf ss ps) s n i) split ∙ ap (λ (w : Writer Wires). w >>= λ m. insertBits m s n (suc i) (drop (suc i) bits)) (one a b c)
 
       pub inserting-step : r ≡ I.Done → Inserting ss₀ ps₀ bits s n ss′ ps′ (i + 1)
-      inserting-step d = record { so = λ a b c.
-          so-far a b c ∙ ap (λ (x : Inserted). quiet x (wiresOf ss′ ps′) >>= λ m. insertBits m s n (suc i) (drop (suc i) bits)) d
-          ∙ bind-pure (wiresOf ss′ ps′) (λ m. insertBits m s n (suc i) (drop (suc i) bits))
-          ∙ ap (λ (k : ℕ). insertBits (wiresOf ss′ ps′) s n k (drop k bits)) (sym (add-one i)) }
+      inserting-step d = record {
+        so = λ a b c.
+            so-far a b c ∙ ap (λ (x : Inserted). quiet x (wiresOf ss′ ps′) >>= λ m. insertBits m s n (suc i) (drop (suc i) bits)) d
+            ∙ bind-pure (wiresOf ss′ ps′) (λ m. insertBits m s n (suc i) (drop (suc i) bits))
+            ∙ ap (λ (k : ℕ). insertBits (wiresOf ss′ ps′) s n k (drop k bits)) (sym (add-one i));
+      }
 
       pub inserting-stop : {x : Refusal} → r ≡ I.Refused x → InsertsBits ss₀ ps₀ bits s n r ss′ ps′
       inserting-stop {x} d a b c =
