@@ -2,3 +2,5 @@
 pub mod Tables
 pub mod Declared
 pub mod Reserved
+pub mod Reserving
+pub mod ReserveLaws

@@ -1,5 +1,6 @@
 -- The specs of lowering.
 pub mod Reserve
 pub mod Tables
+pub mod Reserves
 pub mod Emit
 pub mod Lower
