@@ -1,0 +1,3 @@
+-- The laws of simulation.
+pub mod Sound
+pub mod Settles

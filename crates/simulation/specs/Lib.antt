@@ -1,0 +1,6 @@
+-- The specs of simulation.
+pub mod Wellformed
+pub mod Tick
+pub mod Run
+pub mod Sound
+pub mod Settled
