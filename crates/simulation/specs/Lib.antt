@@ -4,3 +4,5 @@ pub mod Tick
 pub mod Run
 pub mod Sound
 pub mod Settled
+pub mod Kept
+pub mod Cases

@@ -44,6 +44,10 @@ pub record Call : Type 0 where
   pub workExprs : List ℕ
   pub workSignals : List ℕ
 
+-- the model that its lists hold
+abbrev pub callModel : Call → Model
+callModel c = modelOf (rawOf (c .lists))
+
 -- what the caller has afterwards
 pub record Outcome : Type 0 where
   pub answer : Option (ℕ × ℕ)
@@ -141,21 +145,21 @@ abbrev pub isOne : ℕ → Bool
 isOne b = eqb b 1
 
 -- the signals before a tick and after it
-abbrev pub stateBefore : Model → Call → List Bits
-stateBefore m c = perSignal (m .signals) (map isOne (c .bytes))
+abbrev pub stateBefore : Call → List Bits
+stateBefore c = perSignal (callModel c .signals) (map isOne (c .bytes))
 
-abbrev pub stateAfter : Model → Call → List Bits
-stateAfter m c = tick m (map isOne (c .ticks)) (firing (c .fired)) (stateBefore m c)
+abbrev pub stateAfter : Call → List Bits
+stateAfter c = tick (callModel c) (map isOne (c .ticks)) (firing (c .fired)) (stateBefore c)
 
 -- the signal bytes after a tick; those behind the needed ones are kept
-unfoldable pub ticked : Model → Call → List ℕ
-ticked m c = map digit (flat (stateAfter m c)) ++ drop (signalBytes m) (c .bytes)
+unfoldable pub ticked : Call → List ℕ
+ticked c = map digit (flat (stateAfter c)) ++ drop (signalBytes (callModel c)) (c .bytes)
 
 -- THE CALL
 
-abbrev pub bytesAfter : Model → Call → Option (ℕ × ℕ) → List ℕ
-bytesAfter m c none = ticked m c
-bytesAfter m c (some r) = c .bytes
+abbrev pub bytesAfter : Call → Option (ℕ × ℕ) → List ℕ
+bytesAfter c none = ticked c
+bytesAfter c (some r) = c .bytes
 
 abbrev pub zeroed : List ℕ → List ℕ
 zeroed l = replicate (length l) 0
@@ -165,16 +169,13 @@ abbrev pub verdict : Model → Call → Option ℕ → Option (ℕ × ℕ)
 verdict m c (some n) = some (12, n)
 verdict m c none = refusal m c
 
-abbrev pub callModel : Call → Model
-callModel c = modelOf (rawOf (c .lists))
-
 unfoldable pub answer : ℕ → Call → Option (ℕ × ℕ)
 answer widest c = verdict (callModel c) c (malformed widest (c .lists))
 
 unfoldable pub run : ℕ → Call → Outcome
 run widest c = record {
   answer = answer widest c;
-  bytes = bytesAfter (callModel c) c (answer widest c);
+  bytes = bytesAfter c (answer widest c);
   workBits = zeroed (c .workBits);
   workExprs = zeroed (c .workExprs);
   workSignals = zeroed (c .workSignals);
