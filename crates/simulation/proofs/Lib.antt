@@ -5,3 +5,5 @@ pub mod Bounds
 pub mod Kept
 pub mod Flat
 pub mod Stores
+pub mod Steps
+pub mod Offsets

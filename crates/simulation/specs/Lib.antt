@@ -6,3 +6,4 @@ pub mod Sound
 pub mod Settled
 pub mod Kept
 pub mod Cases
+pub mod Index

@@ -1,4 +1,6 @@
 // The run of a model: one call is one tick.
+mod index;
+
 use recorder::SignalId;
 use refusal::Refusal;
 
