@@ -6,4 +6,5 @@ pub mod Kept
 pub mod Flat
 pub mod Stores
 pub mod Steps
+pub mod Tally
 pub mod Offsets

@@ -7,3 +7,4 @@ pub mod Settled
 pub mod Kept
 pub mod Cases
 pub mod Index
+pub mod Fault

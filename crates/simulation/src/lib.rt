@@ -1,4 +1,5 @@
 // The run of a model: one call is one tick.
+mod check;
 mod index;
 
 use recorder::SignalId;
@@ -14,4 +15,10 @@ pub enum Fired {
 pub enum Ran {
     Done,
     Refused(Refusal),
+}
+
+// A model's first faulty record, counted through its three lists.
+pub enum Fault {
+    Fine,
+    At(usize),
 }
