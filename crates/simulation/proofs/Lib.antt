@@ -7,4 +7,5 @@ pub mod Flat
 pub mod Stores
 pub mod Steps
 pub mod Tally
+pub mod Faults
 pub mod Offsets
