@@ -1,0 +1,11 @@
+-- The laws of simulation.
+pub mod Sound
+pub mod Settles
+pub mod Bounds
+pub mod Kept
+pub mod Flat
+pub mod Stores
+pub mod Steps
+pub mod Tally
+pub mod Faults
+pub mod Offsets

@@ -1,0 +1,59 @@
+use native.Mathlib.Omega.{arith}
+use mathlib.Core.Path.{_≡_, refl, sym, ap, subst, _∙_}
+use mathlib.Core.List.{List}
+use Prim.Native.Nat.{ℕ, _+_, _-_, _≤_, _<_, min}
+use lib.ListN.{length, getD, set, length-set, List·getD-eq-default}
+use Rattle.simulation.specs.Index.{sizeAt, sizeOf, fieldsAt, recordsIn, widthsIn, offset}
+use Rattle.recorder.proofs.Reading.{record-within}
+use Rattle.simulation.proofs.Offsets.{offset-next, sum-step, sum-past, field-in, field-out, Filled, filled-none, filled-more, filled-all, filled-full}
+use Rattle.simulation.proofs.Steps.{Walked, walked-start, walked-next, walked-out, walked-broken, walked-end, walked-there, walked-width, walked-within, length-widths}
+use borrow.Author.Needs.{needs}
+use Rattle.simulation.proofs.index.field.Statement.{statement}
+use Rattle.simulation.proofs.index.field.Tie as tie
+use Rattle.simulation.proofs.index.field.Reads as reads
+use Rattle.simulation.proofs.index.field.Lts as lts
+
+-- src/index.rt:45:9
+returns : tie.Need-returns
+returns c = field-out (c .before .args .list .now) (c .before .args .at) (c .before .args .size) (c .before .args .j) (omega arith)
+
+-- src/index.rt:47:12
+sub-if2 : tie.Need-sub-if2
+sub-if2 c = search needs
+
+-- src/index.rt:48:21
+add-result : tie.Need-add-result
+add-result c = search needs
+
+-- src/index.rt:48:21
+add-result-2 : tie.Need-add-result-2
+add-result-2 c = search needs
+
+-- src/index.rt:48:16
+mul-result : tie.Need-mul-result
+mul-result c = search needs
+
+-- src/index.rt:48:16
+shared-slice-read-result : tie.Need-shared-slice-read-result
+shared-slice-read-result c = search needs
+
+-- src/index.rt:48:9
+returns-2 : tie.Need-returns-2
+returns-2 c = field-in (c .before .before .before .args .list .now) (c .before .before .before .args .at) (c .before .before .before .args .size) (c .before .before .before .args .j) (omega arith)
+
+-- src/index.rt:40:1
+returns-3 : tie.Need-returns-3
+returns-3 c = field-out (c .before .before .args .list .now) (c .before .before .args .at) (c .before .before .args .size) (c .before .before .args .j) (omega arith)
+
+pub field-spec : {M : Type 1} → statement M
+field-spec =
+    tie.close
+    (tie.spec
+    returns
+    sub-if2
+    add-result
+    add-result-2
+    mul-result
+    shared-slice-read-result
+    returns-2
+    returns-3)

@@ -1,0 +1,39 @@
+use native.Mathlib.Omega.{arith}
+use mathlib.Core.Path.{_≡_, refl, sym, ap, subst, _∙_}
+use mathlib.Core.List.{List}
+use Prim.Native.Nat.{ℕ, _+_, _-_, _≤_, _<_, min}
+use lib.ListN.{length, getD, set, length-set, List·getD-eq-default}
+use Rattle.simulation.specs.Index.{sizeAt, sizeOf, fieldsAt, recordsIn, widthsIn, offset}
+use Rattle.recorder.proofs.Reading.{record-within}
+use Rattle.simulation.proofs.Offsets.{offset-next, sum-step, sum-past, field-in, field-out, Filled, filled-none, filled-more, filled-all, filled-full}
+use Rattle.simulation.proofs.Steps.{Walked, walked-start, walked-next, walked-out, walked-broken, walked-end, walked-there, walked-width, walked-within, length-widths}
+use borrow.Author.Needs.{needs}
+use Rattle.simulation.proofs.index.width.Statement.{statement}
+use Rattle.simulation.proofs.index.width.Tie as tie
+use Rattle.simulation.proofs.index.width.Reads as reads
+use Rattle.simulation.proofs.index.width.Lts as lts
+use Rattle.simulation.proofs.index.walk_to.Reads as walk-to-reads
+
+-- src/index.rt:125:26
+mul-result : tie.Need-mul-result
+mul-result c = search needs
+
+-- src/index.rt:125:26
+shared-slice-read-result : tie.Need-shared-slice-read-result
+shared-slice-read-result c = search needs
+
+-- src/index.rt:125:44
+walk-to-requires : tie.Need-walk-to-requires
+walk-to-requires c κs = search needs
+
+-- src/index.rt:121:1
+returns : tie.Need-returns
+returns c = c .before .before .before .before .pre .0 .width-at (c .before .before .before .before .args .i) (omega arith) (omega (arith, c .before .before .before .before .pre .1, length-widths (c .before .before .before .before .args .list .now)))
+
+-- src/index.rt:121:1
+returns-2 : tie.Need-returns-2
+returns-2 c = search needs
+
+pub width-spec : {M : Type 1} → statement M
+width-spec =
+    tie.close (tie.spec mul-result shared-slice-read-result walk-to-requires returns returns-2)

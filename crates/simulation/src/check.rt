@@ -1,0 +1,182 @@
+// The check of a model: refusal 12.
+use crate::Fault;
+use crate::index::count;
+use crate::index::field;
+use crate::index::size;
+use crate::index::wide;
+use crate::index::width;
+ghost use mathlib.Core.Path.{_≡_};
+ghost use mathlib.Core.Bool.{Bool, true, false, _&&_};
+ghost use mathlib.Core.Option.{none};
+ghost use Prim.Native.Nat.{_+_, _≤_, _<_, _^_, min};
+ghost use lib.Dec.{leb, ltb, eqb};
+ghost use lib.ListN.{length, getD, set};
+ghost use Rattle.bits.specs.Bits.{pick};
+ghost use Rattle.recorder.specs.Lists.{lists};
+ghost use Rattle.recorder.specs.Read.{readSignal, readExpr, readStmt};
+ghost use Rattle.simulation.specs.Wellformed.{drives, countOf, fits, signalFits, firstFailing, unsplitAll, inRange};
+ghost use Rattle.simulation.specs.Index.{fieldsAt, recordsIn, widthsIn, Listed};
+ghost use Rattle.simulation.specs.Fault.{faultOf, stands, Tallied, signalFaultOf};
+ghost use Rattle.simulation.specs.Run.{zeroed};
+
+// The first record that does not stand whole.
+pub fn unsplit(signals: &[u32], exprs: &[u32], stmts: &[u32]) -> Fault
+    ensures { λ r. ⌜ faultOf r ≡ unsplitAll (lists (now (signals .entry)) (now (exprs .entry)) (now (stmts .entry))) ⌝ }
+{
+    let s = count(signals);
+    if !s.whole {
+        return Fault::At(s.count);
+    }
+    let e = count(exprs);
+    if !e.whole {
+        return Fault::At(s.count + e.count);
+    }
+    let t = count(stmts);
+    if !t.whole {
+        return Fault::At(s.count + (e.count + t.count));
+    }
+    Fault::Fine
+}
+
+// The signal that the statement at an index stands on; `none` for a record that is no statement.
+fn target(list: &[u32], at: usize, size: usize, none: usize) -> usize
+    requires { ⌜ at + size ≤ length (now list) ⌝ }
+    ensures { λ r. ⌜ r ≡ pick (stands (fieldsAt (now (list .entry)) at size)) (getD (fieldsAt (now (list .entry)) at size) 1 0) none ⌝ }
+{
+    if size < 3 {
+        return none;
+    }
+    if field(list, at, size, 0) > 1 {
+        return none;
+    }
+    wide(field(list, at, size, 1))
+}
+
+fn bump(table: &mut [u8], i: usize)
+    ensures { λ _. ⌜ now (table .exit) ≡ set (now (table .entry)) i (min (getD (now (table .entry)) i 0 + 1) 2) ⌝ }
+{
+    if i < table.len() {
+        if table[i] < 2 {
+            table[i] = table[i] + 1;
+        } else {
+            table[i] = 2;
+        }
+    }
+}
+
+fn zero_bytes(table: &mut [u8])
+    ensures { λ _. ⌜ now (table .exit) ≡ zeroed (now (table .entry)) ⌝ }
+{
+    let mut i = 0;
+    while i < table.len() {
+        table[i] = 0;
+        i += 1;
+    }
+}
+
+// How many statements stand on each signal, as far as the table goes.
+pub fn tally(stmts: &[u32], table: &mut [u8])
+    ensures { λ _. ⌜ Tallied (recordsIn (now (stmts .entry))) (now (table .exit)) ⌝ }
+{
+    zero_bytes(table);
+    let mut at: usize = 0;
+    while at < stmts.len() {
+        let size = size(stmts, at);
+        if size == 0 {
+            return;
+        }
+        let t = target(stmts, at, size, table.len());
+        bump(table, t);
+        at += size;
+    }
+}
+
+// A number that is not n.
+fn other(n: usize) -> usize
+    ensures { λ r. ⌜ (r ≡ n → ⊥) ⌝ }
+{
+    if n == 0 { 1 } else { 0 }
+}
+
+// One more, if t is n; 2 stands for more.
+fn count_if(k: u8, t: usize, n: usize) -> u8
+    ensures { λ r. ⌜ r ≡ pick (eqb t n) (min (k + 1) 2) k ⌝ }
+{
+    if t == n {
+        if k < 2 { k + 1 } else { 2 }
+    } else {
+        k
+    }
+}
+
+fn count_drivers(stmts: &[u32], n: usize) -> u8
+    ensures { λ r. ⌜ r ≡ min (countOf (drives n) (recordsIn (now (stmts .entry)))) 2 ⌝ }
+{
+    let none = other(n);
+    let mut k: u8 = 0;
+    let mut at: usize = 0;
+    while at < stmts.len() {
+        let size = size(stmts, at);
+        if size == 0 {
+            return k;
+        }
+        k = count_if(k, target(stmts, at, size, none), n);
+        at += size;
+    }
+    k
+}
+
+// How many statements stand on signal n: none, one, or more, which 2 stands for.
+fn drivers(stmts: &[u32], table: &[u8], n: usize) -> u8
+    requires { ⌜ Tallied (recordsIn (now stmts)) (now table) ⌝ }
+    ensures { λ r. ⌜ r ≡ min (countOf (drives n) (recordsIn (now (stmts .entry)))) 2 ⌝ }
+{
+    if n < table.len() { table[n] } else { count_drivers(stmts, n) }
+}
+
+// The signal at an index, on which k statements stand.
+fn signal_fits(list: &[u32], at: usize, size: usize, k: u8, widest: u32) -> bool
+    requires { ⌜ at + size ≤ length (now list) ⌝ }
+    ensures { λ r. ⌜ r ≡ fits (signalFits widest k) (readSignal (fieldsAt (now (list .entry)) at size)) ⌝ }
+{
+    if size != 4 {
+        return false;
+    }
+    let label = field(list, at, size, 0);
+    let w = field(list, at, size, 1);
+    if label > 15 {
+        return false;
+    }
+    if w < 1 {
+        return false;
+    }
+    if w > widest {
+        return false;
+    }
+    if label == 0 {
+        return k == 0;
+    }
+    k == 1
+}
+
+// The first faulty signal.
+pub fn signal_fault(signals: &[u32], stmts: &[u32], table: &[u8], widest: u32) -> Fault
+    requires { ⌜ Tallied (recordsIn (now stmts)) (now table) ⌝ }
+    ensures { λ r. ⌜ faultOf r ≡ signalFaultOf widest (recordsIn (now (signals .entry))) (recordsIn (now (stmts .entry))) ⌝ }
+{
+    let mut at: usize = 0;
+    let mut n: usize = 0;
+    while at < signals.len() {
+        let size = size(signals, at);
+        if size == 0 {
+            return Fault::Fine;
+        }
+        let k = drivers(stmts, table, n);
+        if !signal_fits(signals, at, size, k, widest) {
+            return Fault::At(n);
+        }
+        at += size;
+        n += 1;
+    }
+    Fault::Fine
+}
