@@ -1,0 +1,3 @@
+-- The specs of meaning.
+pub mod Held
+pub mod Settles
