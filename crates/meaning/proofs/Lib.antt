@@ -5,3 +5,5 @@ pub mod Tree
 pub mod Equations
 pub mod Registers
 pub mod Memories
+pub mod Writing
+pub mod Reserving

@@ -1,3 +1,5 @@
 -- The specs of meaning.
 pub mod Held
 pub mod Settles
+pub mod Writes
+pub mod Mapped
