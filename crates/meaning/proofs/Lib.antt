@@ -7,3 +7,4 @@ pub mod Registers
 pub mod Memories
 pub mod Writing
 pub mod Reserving
+pub mod Whole

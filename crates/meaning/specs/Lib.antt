@@ -3,3 +3,4 @@ pub mod Held
 pub mod Settles
 pub mod Writes
 pub mod Mapped
+pub mod Runs
