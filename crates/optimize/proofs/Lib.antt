@@ -1,4 +1,4 @@
--- The laws of optimize; Muxes and Luts are for crates above.
+-- The laws of optimize; Muxes, Luts and LutCount are for crates above.
 mod Pick
 mod Halves
 mod Table
@@ -6,3 +6,4 @@ mod Lutlaws
 pub mod TableBits
 pub mod Muxes
 pub mod Luts
+pub mod LutCount

@@ -2,3 +2,4 @@
 pub mod Rewrite
 pub mod Lut
 pub mod Claims
+pub mod Cases

@@ -5,3 +5,5 @@ pub mod Lists
 pub mod Evaluate
 pub mod Meaning
 pub mod Read
+pub mod Words
+pub mod Standing

@@ -1,6 +1,7 @@
 // The recorder, in place of the simulator's ModuleBuilder: counters by value and three lent lists.
 pub mod builder;
 pub mod list;
+pub mod read;
 
 use refusal::Refusal;
 
@@ -60,4 +61,11 @@ pub enum AsyncReset {
 pub enum Enable {
     Absent,
     Present(SignalId, u32),
+}
+
+// What stands at an index of a list: a whole record with so many fields, the end, or a length of 0 or past the end.
+pub enum Cut {
+    Record(usize),
+    End,
+    Broken,
 }

@@ -1,0 +1,8 @@
+-- The specs of simulation.
+pub mod Wellformed
+pub mod Tick
+pub mod Run
+pub mod Sound
+pub mod Settled
+pub mod Kept
+pub mod Cases
