@@ -1,0 +1,2 @@
+-- The proofs of forms.
+pub mod Slots

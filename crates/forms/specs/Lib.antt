@@ -1,0 +1,2 @@
+-- The specs of forms.
+pub mod Groups
