@@ -1,2 +1,4 @@
 -- The proofs of forms.
 pub mod Slots
+pub mod Quiets
+pub mod Aims

@@ -1,2 +1,3 @@
 -- The specs of forms.
 pub mod Groups
+pub mod Acts
