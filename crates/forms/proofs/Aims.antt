@@ -7,7 +7,7 @@ use mathlib.Core.Option.{Option, none, some}
 use Prim.Native.Nat.{ℕ, zero, suc, _+_}
 use native.Mathlib.Omega.{arith}
 use lib.Dec.{eqb}
-use lib.ListN.{length, getD, take, drop, replicate}
+use lib.ListN.{length, getD, take, drop, replicate, length-replicate}
 use Rattle.bits.specs.Bits.{pick}
 use Rattle.netlist.specs.declared.Bit.{Bit}
 use Rattle.netlist.specs.declared.Bit.the-variants.{Zero, One, Wire}
@@ -239,3 +239,93 @@ dram-words-acts p owner clock edge (suc left) index ws {n} =
     acts-as refl (ap₂ (λ (a b : ℕ). a ∷ range b left) q (let z : n₁ .signals ≡ suc (n .signals) = omega (arith, e₁) in z)) (λ u v. v)
     (acts-bind acts-state (λ u v n₂ e₂.
     acts-as refl (ap (λ (k : ℕ). range k left) (let z : n₂ .signals ≡ n₁ .signals = omega (arith, e₂) in z)) (λ u v. v) (dram-words-acts p owner clock edge left (suc index) (ws ++ (w ∷ []))))))
+
+module _ (m : Wires) (z : Constants) where
+  dram-acts : (owner : ℕ) (r : DistributedRam) {n : Count} → Acts n (emitDistributedRam m z owner r) Unit₀ (replicate 16 (wordSignal 4 owner)) (range (n .signals) 16 ++ (aim (m (getD (r .output) 0 0)) ∷ []))
+  unfolding emitDistributedRam
+  dram-acts owner r {n} =
+      quietly (quiet-vector m (r .writeAddress) 0 4) (λ wa n₁ e₁. quietly (quiet-vector m (r .readAddress) 0 4) (λ ra n₂ e₂. quietly (quiet-vector m (r .input) 0 4) (λ d n₃ e₃. quietly (quiet-asserted m (r .write)) (λ y n₄ e₄.
+      quietly (quiet-signal m z (r .clock)) (λ clock n₅ e₅.
+      let p : PortExprs = record { writeAddress = wa; writeData = d; writeAsserted = y; readAddress = ra; readData = r .output; readEnable = none } in
+      acts-as (append-nil (replicate 16 (wordSignal 4 owner))) (ap (λ (k : ℕ). range k 16 ++ (aim (m (getD (r .output) 0 0)) ∷ [])) (let q : n₅ .signals ≡ n .signals = omega (arith, e₁, e₂, e₃, e₄, e₅) in q)) (λ u v. v)
+      (acts-bind (dram-words-acts p owner clock (r .edge) 16 0 []) (λ ws u n₆ e₆.
+      quietly quiet-emit (λ e n₇ e₇. quietly (quiet-select ra 0 ws e) (λ v n₈ e₈. aim-at m (getD (r .output) 0 0) v)))))))))
+
+  cell-acts : (owner : ℕ) (x : Cell) {n : Count} → Acts n (emitCell m z owner x) Unit₀ (cellWords owner x) (cellAims m (n .signals) x)
+  unfolding emitCell
+  cell-acts owner (lut4 i o t) = lut4-acts m i o t
+  cell-acts owner (pfumx t f s o) = pfumx-acts m t f s o
+  cell-acts owner (l6mux21 f t s o) = l6mux21-acts m f t s o
+  cell-acts owner (ccu2c u) = ccu2c-acts m u
+  cell-acts owner (multiplier l r p) = multiplier-acts m l r p
+  cell-acts owner (flipFlop f) = acts-pure tt
+  cell-acts owner (blockRam r) = ram-acts m z owner r
+  cell-acts owner (distributedRam r) {n} = by-test (λ (w : Writer (Unit {0})). Acts n w Unit₀ (cellWords owner (distributedRam r)) (cellAims m (n .signals) (distributedRam r))) (eqb (r .second) 1) (λ q. writes-refuse) (λ q. dram-acts owner r)
+  cell-acts owner (io p d i t) = io-acts m p d i t
+  cell-acts owner (jtagg ws) = jtagg-acts m ws
+  cell-acts owner (pll p) = pll-acts m p
+
+  words-count : (owner : ℕ) (x : Cell) → length (cellWords owner x) ≡ wordSignals x
+  words-count owner (lut4 i o t) = refl
+  words-count owner (pfumx t f s o) = refl
+  words-count owner (l6mux21 f t s o) = refl
+  words-count owner (ccu2c u) = refl
+  words-count owner (multiplier l r p) = refl
+  words-count owner (flipFlop f) = refl
+  words-count owner (blockRam r) = length-replicate (r .depth) _
+  words-count owner (distributedRam r) = refl
+  words-count owner (io p d i t) = refl
+  words-count owner (jtagg ws) = refl
+  words-count owner (pll p) = refl
+
+  cells-act : (c : ℕ) (xs : List Cell) {n : Count} → Acts n (emitCells m z c xs) Unit₀ (allWords c xs) (allAims m (n .signals) xs)
+  unfolding emitCells
+  cells-act c [] = acts-pure tt
+  cells-act c (x ∷ xs) {n} =
+      acts-bind (cell-acts c x) (λ u v n₁ e₁.
+      acts-as refl (ap (λ (k : ℕ). allAims m k xs) (let q : n₁ .signals ≡ n .signals + wordSignals x = omega (arith, e₁, words-count c x) in q)) (λ a h. h) (cells-act (suc c) xs))
+
+  bank-acts : (b : Bank) {n : Count} → Acts n (emitFlipFlopBank m z b) Unit₀ [] (aim (m (b .leader .flop .output)) ∷ [])
+  unfolding emitFlipFlopBank
+  bank-acts b =
+      acts-bind (acts-known (quiet-ref m (b .leader .flop .output)) (ref-gets m (b .leader .flop .output))) (λ r q n₁ e₁.
+      quietly (quiet-nexts m (b .members) []) (λ ps n₂ e₂. quietly (quiet-concat m ps) (λ x n₃ e₃. quietly (quiet-bank-reset m z (asyncReset (b .leader .flop)) (b .members)) (λ s n₄ e₄. quietly (quiet-signal m z (b .leader .flop .clock)) (λ c n₅ e₅.
+      acts-as refl (ap (λ (o : Option WireRef). aim o ∷ []) (sym q)) (λ a h. h) acts-state)))))
+
+  banks-act : (bs : List Bank) {n : Count} → Acts n (emitBanks m z bs) Unit₀ [] (bankAims m bs)
+  unfolding emitBanks
+  banks-act [] = acts-pure tt
+  banks-act (b ∷ bs) = acts-bind (bank-acts b) (λ u v n₁ e₁. banks-act bs)
+
+outputs-act : (m : Wires) (p : ℕ) (ports : List Port) {n : Count} → Acts n (emitOutputs m p ports) Unit₀ [] (portAims p ports)
+unfolding emitOutputs
+outputs-act m p [] = acts-pure tt
+outputs-act m p (x ∷ xs) {n} = acts-bind (go (eqb (x .direction) 1)) (λ u v n₁ e₁. outputs-act m (suc p) xs)
+  where
+    go : (b : Bool) → Acts n (pick b (bitsExpression m (x .bits) >>= λ e. state (assign p e)) (pure tt)) Unit₀ [] (pick b (p ∷ []) [])
+    go true = quietly (quiet-vector m (x .bits) 0 (length (x .bits))) (λ e n₁ e₁. acts-state)
+    go false = acts-pure tt
+
+-- THE WHOLE
+
+-- zero and one take the next two numbers
+pub record AreNext (s : ℕ) (z : Constants) : Type 0 where
+  pub zero-is : z .zero .0 ≡ s
+  pub one-is : z .one .0 ≡ suc s
+
+constants-act : {n : Count} → Acts n emitConstants (AreNext (n .signals)) (signalOf 14 1 0 ∷ signalOf 15 1 0 ∷ []) (n .signals ∷ suc (n .signals) ∷ [])
+unfolding emitConstants
+constants-act {n} =
+    acts-bind acts-declare (λ z hz n₁ e₁. acts-bind acts-declare (λ o ho n₂ e₂. quietly quiet-emit (λ e₀ n₃ e₃. quietly quiet-emit (λ x n₄ e₄.
+    let one : o ≡ suc (n .signals) = omega (arith, ho, e₁) in
+    acts-as refl (ap₂ (λ (a b : ℕ). a ∷ b ∷ []) hz one) (λ a h. h)
+    (acts-bind acts-state (λ u v n₅ e₅. acts-bind acts-state (λ u v n₆ e₆. acts-pure (record { zero-is = hz; one-is = one }))))))))
+
+pub netlist-acts : (n : Netlist) (m : Wires) {c : Count} → Acts c (emitNetlist n m) Unit₀ (netlistWords n) (netlistAims m (c .signals) n)
+unfolding emitNetlist
+netlist-acts n m {c} =
+    acts-as (ap (λ (l : List Signal). signalOf 14 1 0 ∷ signalOf 15 1 0 ∷ l) (append-nil (allWords 0 (n .cells)))) refl (λ a h. h)
+    (acts-bind constants-act (λ z hz n₁ e₁.
+    acts-as refl (ap (λ (k : ℕ). allAims m k (n .cells) ++ (bankAims m (collectFlipFlopBanks (n .cells)) ++ portAims 0 (n .ports))) (let q : n₁ .signals ≡ suc (suc (c .signals)) = omega (arith, e₁) in q)) (λ a h. h)
+    (acts-bind (cells-act m z 0 (n .cells)) (λ u v n₂ e₂.
+    acts-bind (banks-act m z (collectFlipFlopBanks (n .cells))) (λ u v n₃ e₃. outputs-act m 0 (n .ports))))))
