@@ -129,6 +129,19 @@ module _ {A B K : Type 0} {κ : K → Tick} {Ω env : K → Values} {w : Writer 
   unfolding _>>=_
   settles-bind f g = record { settles = λ n q. go κ Ω env w c P Q g n q (w n .end) (f .settles n q) }
 
+module _ {A B K : Type 0} {κ : K → Tick} {Ω env : K → Values} {w : Writer A} (c : A → Writer B) {P : A → (K → Values) → Type 0} {Q : B → (K → Values) → Type 0} where
+  -- the same at a count at which the first is known to give a
+  pub settles-bind-at : {a : A} (n : Count) → w n .end ≡ ok a → Settles κ Ω env w P → ((env₁ : K → Values) → ((k : K) → Keeps (env k) (env₁ k)) → P a env₁ → Settles κ Ω env₁ (c a) Q)
+      → ((k : K) → n .exprs ≡ length (env k)) → ((k : K) → Keeps (valuesAfter κ env ((w >>= c) n .events) k) (Ω k)) → ((k : K) → AllHold (κ k) (Ω k) (stmtsOf ((w >>= c) n .events)))
+      → Ends ((w >>= c) n .end) (λ b. Q b (valuesAfter κ env ((w >>= c) n .events)))
+  unfolding _>>=_
+  settles-bind-at {a} n e f g q = go κ Ω env w c (λ x env₁. P x env₁ × (x ≡ a)) Q (λ x env₁ kp h. subst (λ (y : A). Settles κ Ω env₁ (c y) Q) (sym (h .1)) (g env₁ kp (subst (λ (y : A). P y env₁) (h .1) (h .0)))) n q (w n .end)
+      (λ kp h. known (λ x. P x (valuesAfter κ env (w n .events))) (w n .end) e (f .settles n q kp h))
+    where
+      known : (R : A → Type 0) (y : End A) → y ≡ ok a → Ends y R → Ends y (λ x. R x × (x ≡ a))
+      known R (ok x) e r = (r, cc)
+      known R (no x y) e r = tt
+
 module _ {A K : Type 0} {κ : K → Tick} {Ω env : K → Values} {w : Writer A} {P Q : A → (K → Values) → Type 0} where
   pub settles-so : Settles κ Ω env w P → ((a : A) (env₁ : K → Values) → ((k : K) → Keeps (env k) (env₁ k)) → P a env₁ → Q a env₁) → Settles κ Ω env w Q
   settles-so f g = record { settles = λ n q kp h. so n (w n .end) (f .settles n q kp h) }

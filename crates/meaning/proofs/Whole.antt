@@ -4,7 +4,7 @@ use mathlib.Core.Path.{_≡_, refl, ap, ap₂, sym, _∙_, subst, fun-ext}
 use mathlib.Core.Bool.{Bool, true, false}
 use mathlib.Core.List.{List, [], _∷_, _++_, List·Memᴰ as Mem, List·Memᴰ·head as here, List·Memᴰ·tail as there}
 use mathlib.Core.Option.{Option, none, some}
-use Prim.Native.Nat.{ℕ, zero, suc, _*_, _^_, _<_}
+use Prim.Native.Nat.{ℕ, zero, suc, _+_, _*_, _^_, _<_}
 use native.Mathlib.Omega.{arith}
 use lib.Dec.{eqb}
 use lib.ListN.{length, getD, take, drop}
@@ -22,7 +22,7 @@ use Rattle.recorder.proofs.Events.{exprs-append, stmts-append, bind-ok}
 use Rattle.recorder.proofs.Makes.{makes-emit, makes-declare}
 use Rattle.optimize.proofs.Muxes.{by-test}
 use Rattle.behaviour.specs.Banks.{Member, Bank, collectFlipFlopBanks}
-use Rattle.behaviour.specs.WireMap.{wordSignals}
+use Rattle.behaviour.specs.WireMap.{wordSignals, slots}
 use Rattle.behaviour.specs.Behaviour.{Valuation, value, values, lookTable, absent}
 use Rattle.behaviour.proofs.BankLaws.{IsBank, IsCell, banks-are}
 use Rattle.wires.specs.declared.Constants.{Constants}
@@ -34,11 +34,11 @@ use Rattle.meaning.specs.Held.{held, valuesAt, Driven}
 use Rattle.meaning.specs.Settles.{Tick, AllHold, valuesAfter, Settles}
 use Rattle.meaning.specs.Mapped.{Reserved}
 use Rattle.meaning.specs.Runs.{Laid}
-use Rattle.meaning.proofs.Settling.{hold-right, settles-makes, settles-assign, settles-pure, settles-refuse, settles-bind, settles-so}
+use Rattle.meaning.proofs.Settling.{hold-right, settles-makes, settles-assign, settles-pure, settles-refuse, settles-bind, settles-bind-at, settles-so}
 use Rattle.meaning.proofs.Equations.{now, Bases, bases-keep, AllDriven, Added, Locked, Shown, lut4-equation, pfumx-equation, l6mux21-equation, io-equation, multiplier-equation, ccu2c-equation, jtagg-equation, pll-equation, outputs-equation}
 use Rattle.meaning.proofs.Registers.{Banked, PlainReset, PlainResets, bank-equation}
 use Rattle.meaning.proofs.Memories.{Remembered, Distributed, Stored, block-ram-equation, distributed-ram-equation}
-use Rattle.meaning.proofs.Reserving.{reserved-is}
+use Rattle.meaning.proofs.Reserving.{reserved-is, mapping-count}
 
 -- what a cell does, by the tick rule, on the signals of its wires and on those of its RAM words
 abbrev pub Does : Tick → Wires → Constants → Cell → List ℕ → Type 0
@@ -66,6 +66,9 @@ AllBanked κ m z (b ∷ bs) = Banked κ m z b × AllBanked κ m z bs
 -- all of a netlist, in each of some ticks; what lowering decided is the same in all of them
 pub record Runs {K : Type 0} (κ : K → Tick) (n : Netlist) (m : Wires) : Type 0 where
   pub constants : Constants
+  -- zero and one come right after the slots
+  pub zero-number : constants .zero .0 ≡ length (slots n)
+  pub one-number : constants .one .0 ≡ suc (length (slots n))
   pub words : List (List ℕ)
   pub laid : Laid (n .cells) words
   pub zero-is : (k : K) → κ k .before (constants .zero .0) ≡ false ∷ []
@@ -168,14 +171,30 @@ module _ {K : Type 0} (κ : K → Tick) (Ω : K → Values) where
       settles-bind (settles-assign {P = λ u x. (k : K) → κ k .before o ≡ true ∷ []} (λ k. k₅ k _ _ (i₁ k)) (λ p. p)) (λ u env₆ k₆ p₁.
       settles-pure (record { base = bases-keep k₆ (bases-keep k₅ base); zero-is = p₀; one-is = p₁ })))))))
 
-  emit-settles : (limits : Limits) (env : K → Values) (n : Netlist) (m : Wires) → Each (FitsCell limits) (n .cells) → ((k : K) → env k ≡ []) → Settles κ Ω env (emitNetlist n m) (λ u env′. Runs κ n m)
-  unfolding emitNetlist
-  emit-settles limits env n m h e =
-      settles-bind (constants-settle env e) (λ z env₄ k₄ c.
+  -- what follows the constants
+  after-constants : (limits : Limits) (n : Netlist) (m : Wires) (z : Constants) (env : K → Values) → Each (FitsCell limits) (n .cells) → Constant κ env z
+      → z .zero .0 ≡ length (slots n) → z .one .0 ≡ suc (length (slots n))
+      → Settles κ Ω env (emitCells m z 0 (n .cells) >>= λ u. emitBanks m z (collectFlipFlopBanks (n .cells)) >>= λ v. emitOutputs m 0 (n .ports)) (λ u env′. Runs κ n m)
+  after-constants limits n m z env h c p q =
       settles-bind (all-do κ Ω m z limits 0 (n .cells) h (c .base)) (λ u env₅ k₅ dc.
       settles-bind (banks-do κ Ω m z (collectFlipFlopBanks (n .cells)) (plain-banks limits (n .cells) h (collectFlipFlopBanks (n .cells)) (banks-are (n .cells))) (bases-keep k₅ (c .base))) (λ u env₆ k₆ db.
-      settles-so (outputs-equation κ Ω m 0 (n .ports) (bases-keep k₆ (bases-keep k₅ (c .base)))) (λ u env₇ k₇ ds.
-      record { constants = z; words = dc .words; laid = dc .laid; zero-is = c .zero-is; one-is = c .one-is; cells-do = dc .do-all; banks-do = db; outputs-show = ds }))))
+      settles-so (outputs-equation κ Ω m 0 (n .ports) (bases-keep k₆ (bases-keep k₅ (c .base)))) (λ u env₇ k₇ ds. record {
+        constants = z;
+        zero-number = p;
+        one-number = q;
+        words = dc .words;
+        laid = dc .laid;
+        zero-is = c .zero-is;
+        one-is = c .one-is;
+        cells-do = dc .do-all;
+        banks-do = db;
+        outputs-show = ds;
+      })))
+
+-- the numbers that the constants take
+constants-end : (n : Count) → emitConstants n .end ≡ ok (record { zero = record { 0 = n .signals }; one = record { 0 = n .signals + 1 } })
+unfolding emitConstants _>>=_
+constants-end n = refl
 
 -- LOWERING
 
@@ -201,12 +220,20 @@ module _ (limits : Limits) (n : Netlist) (fits : Each (FitsCell limits) (n .cell
   pub stmts-are : stmtsOf (lowerNetlist n none-yet .events) ≡ stmtsOf (rest .events)
   stmts-are = ap (λ (o : Out (Unit {0})). stmtsOf (o .events)) lowering-is ∙ stmts-append es (rest .events) ∙ ap (λ (x : List Stmt). x ++ stmtsOf (rest .events)) (reserved-is n m reserved .stmts)
 
+  counted : further none-yet es .signals ≡ length (slots n)
+  counted =
+      let r = reserved-is n m reserved in
+      omega (arith, ap length (r .signals), mapping-count (r .mapping))
+
   pub model-runs : {K : Type 0} (κ : K → Tick) → lowerNetlist n none-yet .end ≡ ok tt
       → ((k : K) → AllHold (κ k) (evalAll (κ k .before) [] (exprsOf (lowerNetlist n none-yet .events))) (stmtsOf (lowerNetlist n none-yet .events))) → Runs κ n m
+  unfolding emitNetlist
   model-runs {K} κ q h =
       let Ω : K → Values = λ k. evalAll (κ k .before) [] (exprsOf (rest .events)) in
       let hs : (k : K) → AllHold (κ k) (Ω k) (stmtsOf (rest .events)) = λ k. subst (λ (x : List Expr). AllHold (κ k) (evalAll (κ k .before) [] x) (stmtsOf (rest .events))) exprs-are
           (subst (AllHold (κ k) (evalAll (κ k .before) [] (exprsOf (lowerNetlist n none-yet .events)))) stmts-are (h k)) in
       let none : length (exprsOf es) ≡ 0 = ap length (reserved-is n m reserved .exprs) in
       subst (λ (y : End (Unit {0})). Ends y (λ u. Runs κ n m)) (ap (λ (o : Out (Unit {0})). o .end) (sym lowering-is) ∙ q)
-      (emit-settles κ Ω limits (λ k. []) n m fits (λ k. refl) .settles (further none-yet es) (λ k. omega (arith, none)) (λ k e v i. i) hs)
+      (settles-bind-at (λ z. emitCells m z 0 (n .cells) >>= λ u. emitBanks m z (collectFlipFlopBanks (n .cells)) >>= λ v. emitOutputs m 0 (n .ports)) {Q = λ u env′. Runs κ n m} (further none-yet es) (constants-end (further none-yet es)) (constants-settle κ Ω (λ k. []) (λ k. refl))
+      (λ env₁ kp c. after-constants κ Ω limits n m _ env₁ fits c counted (omega (arith, counted)))
+      (λ k. omega (arith, none)) (λ k e v i. i) hs)
