@@ -240,6 +240,19 @@ dram-words-acts p owner clock edge (suc left) index ws {n} =
     (acts-bind acts-state (λ u v n₂ e₂.
     acts-as refl (ap (λ (k : ℕ). range k left) (let z : n₂ .signals ≡ n₁ .signals = omega (arith, e₂) in z)) (λ u v. v) (dram-words-acts p owner clock edge left (suc index) (ws ++ (w ∷ []))))))
 
+pub words-count : (owner : ℕ) (x : Cell) → length (cellWords owner x) ≡ wordSignals x
+words-count owner (lut4 i o t) = refl
+words-count owner (pfumx t f s o) = refl
+words-count owner (l6mux21 f t s o) = refl
+words-count owner (ccu2c u) = refl
+words-count owner (multiplier l r p) = refl
+words-count owner (flipFlop f) = refl
+words-count owner (blockRam r) = length-replicate (r .depth) _
+words-count owner (distributedRam r) = refl
+words-count owner (io p d i t) = refl
+words-count owner (jtagg ws) = refl
+words-count owner (pll p) = refl
+
 module _ (m : Wires) (z : Constants) where
   dram-acts : (owner : ℕ) (r : DistributedRam) {n : Count} → Acts n (emitDistributedRam m z owner r) Unit₀ (replicate 16 (wordSignal 4 owner)) (range (n .signals) 16 ++ (aim (m (getD (r .output) 0 0)) ∷ []))
   unfolding emitDistributedRam
@@ -264,19 +277,6 @@ module _ (m : Wires) (z : Constants) where
   cell-acts owner (io p d i t) = io-acts m p d i t
   cell-acts owner (jtagg ws) = jtagg-acts m ws
   cell-acts owner (pll p) = pll-acts m p
-
-  words-count : (owner : ℕ) (x : Cell) → length (cellWords owner x) ≡ wordSignals x
-  words-count owner (lut4 i o t) = refl
-  words-count owner (pfumx t f s o) = refl
-  words-count owner (l6mux21 f t s o) = refl
-  words-count owner (ccu2c u) = refl
-  words-count owner (multiplier l r p) = refl
-  words-count owner (flipFlop f) = refl
-  words-count owner (blockRam r) = length-replicate (r .depth) _
-  words-count owner (distributedRam r) = refl
-  words-count owner (io p d i t) = refl
-  words-count owner (jtagg ws) = refl
-  words-count owner (pll p) = refl
 
   cells-act : (c : ℕ) (xs : List Cell) {n : Count} → Acts n (emitCells m z c xs) Unit₀ (allWords c xs) (allAims m (n .signals) xs)
   unfolding emitCells

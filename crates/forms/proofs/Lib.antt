@@ -2,3 +2,4 @@
 pub mod Slots
 pub mod Quiets
 pub mod Aims
+pub mod Counting

@@ -5,7 +5,7 @@ use mathlib.Core.Logic.{_⊎_, inl, inr}
 use mathlib.Core.Bool.{Bool, true, false, false≢true, true≢false}
 use mathlib.Core.List.{List, [], _∷_, _++_, map, append-nil, List·Memᴰ as Mem, List·Memᴰ·head as here, List·Memᴰ·tail as there, List·Memᴰ·cases-cons as cases-cons, List·Memᴰ·not-nil as not-nil, List·Memᴰ·append-cases as append-cases, Memᴰ·append-left as mem-left, Memᴰ·append-right as mem-right}
 use mathlib.Core.Option.{Option, none, some}
-use Prim.Native.Nat.{ℕ, zero, suc, _+_, _≤_, _<_}
+use Prim.Native.Nat.{ℕ, zero, suc, _+_, _-_, _≤_, _<_}
 use native.Mathlib.Nat.{not-suc-le-zero}
 use native.Mathlib.Omega.{arith}
 use lib.Dec.{eqb}
@@ -231,3 +231,95 @@ module _ (n : Netlist) where
   -- and so has every bank
   pub bank-slot : (b : Bank) → Mem b banks → Placed (slots n) (bankSlot b)
   bank-slot b m = placed (slots n) (bankSlot b) (mem-right (reserveAll (n .cells) 0 (portSlots (n .ports) 0)) (bank-in banks b m))
+
+-- IN ORDER: the ports' slots stand first, and each that follows is a cell's or a bank's
+
+record Grown (P : Slot → Type 0) (held held′ : List Slot) : Type 0 where
+  added : List Slot
+  is : held′ ≡ held ++ added
+  from : (x : Slot) → Mem x added → P x
+
+grown-none : {P : Slot → Type 0} {held : List Slot} → Grown P held held
+grown-none {held = held} = record { added = []; is = sym (append-nil held); from = λ x m. absurd (not-nil m) }
+
+grown-then : {P : Slot → Type 0} {a b c : List Slot} → Grown P a b → Grown P b c → Grown P a c
+grown-then {P} {a} f g = record {
+  added = f .added ++ g .added;
+  is = g .is ∙ ap (λ (l : List Slot). l ++ g .added) (f .is) ∙ mathlib.Core.List.append-assoc a (f .added) (g .added);
+  from = λ x m. go x (append-cases (f .added) m);
+}
+  where
+    go : (x : Slot) → Mem x (f .added) ⊎ Mem x (g .added) → P x
+    go x (inl q) = f .from x q
+    go x (inr q) = g .from x q
+
+grown-so : {P Q : Slot → Type 0} {a b : List Slot} → ((x : Slot) → P x → Q x) → Grown P a b → Grown Q a b
+grown-so h f = record { added = f .added; is = f .is; from = λ x m. h x (f .from x m) }
+
+fresh-grows : (c : ℕ) (ws : List ℕ) (k : ℕ) (held : List Slot) → Grown (OfGroup c (apiece ws k)) held (reserveFresh c ws k held)
+fresh-grows c [] k held = grown-none
+fresh-grows c (w ∷ ws) k held = go (isSome (find w held 0)) (λ l. grown-so later (fresh-grows c ws (suc k) l))
+  where
+    later : (x : Slot) → OfGroup c (apiece ws (suc k)) x → OfGroup c (apiece (w ∷ ws) k) x
+    later x r = record { group = r .group; one-of = there (r .one-of); is = r .is }
+
+    first : Grown (OfGroup c (apiece (w ∷ ws) k)) held (held ++ single c (w ∷ []) k)
+    first = record {
+      added = single c (w ∷ []) k;
+      is = refl;
+      from = λ x m. let r = in-map c (record { pin = k; wires = w ∷ [] } ∷ []) x m in record { group = r .group; one-of = mem-left (apiece ws (suc k)) (r .one-of); is = r .is };
+    }
+
+    go : (b : Bool) → ((l : List Slot) → Grown (OfGroup c (apiece (w ∷ ws) k)) l (reserveFresh c ws (suc k) l)) → Grown (OfGroup c (apiece (w ∷ ws) k)) held (reserveFresh c ws (suc k) (pick b held (held ++ single c (w ∷ []) k)))
+    go true f = f held
+    go false f = grown-then first (f (held ++ single c (w ∷ []) k))
+
+reserve-grows : (c : ℕ) (y : Cell) (held : List Slot) → Grown (OfGroup c (groups y)) held (reserve c y held)
+reserve-grows c y held = go (isPll y) refl
+  where
+    go : (b : Bool) → isPll y ≡ b → Grown (OfGroup c (groups y)) held (reserve c y held)
+    go false e = record { added = map (slotOf c) (groups y); is = plain-adds c y held e; from = λ x m. in-map c (groups y) x m }
+    go true e = let p = pll-split y e in subst (λ (z : Cell). Grown (OfGroup c (groups z)) held (reserve c z held)) (sym (p .1)) (fresh-grows c (pllWires (p .0)) 0 held)
+
+all-grows : (cells : List Cell) (c : ℕ) (held : List Slot) → Grown (OfCell cells c) held (reserveAll cells c held)
+all-grows [] c held = grown-none
+all-grows (y ∷ cells) c held = grown-then (grown-so first (reserve-grows c y held)) (grown-so later (all-grows cells (suc c) (reserve c y held)))
+  where
+    first : (x : Slot) → OfGroup c (groups y) x → OfCell (y ∷ cells) c x
+    first x r = record { place = 0; inside = omega arith; of-group = subst (λ (k : ℕ). OfGroup k (groups y) x) (omega arith) r }
+
+    later : (x : Slot) → OfCell cells (suc c) x → OfCell (y ∷ cells) c x
+    later x r = record { place = suc (r .place); inside = omega (arith, r .inside); of-group = subst (λ (k : ℕ). OfGroup k (groups (getD cells (r .place) absent)) x) (omega arith) (r .of-group) }
+
+module _ (n : Netlist) where
+  -- a slot after those of the ports
+  pub data Late (x : Slot) : Type 0 where
+    of-cell : OfCell (n .cells) 0 x → Late x
+    of-bank : (b : Bank) → Mem b (collectFlipFlopBanks (n .cells)) → x ≡ bankSlot b → Late x
+
+  whole : Grown Late (portSlots (n .ports) 0) (slots n)
+  whole = grown-then (grown-so (λ x r. of-cell r) (all-grows (n .cells) 0 (portSlots (n .ports) 0)))
+      (record { added = map bankSlot (collectFlipFlopBanks (n .cells)); is = refl; from = λ x m. let r = bank-from n (collectFlipFlopBanks (n .cells)) x m in of-bank (r .0) (r .1) (r .2) })
+
+  port-slot-count : (ports : List Port) (k : ℕ) → length (portSlots ports k) ≡ length ports
+  port-slot-count [] k = refl
+  port-slot-count (p ∷ ports) k = go (eqb (p .direction) 1) (port-slot-count ports k) (port-slot-count ports (k + length (p .bits)))
+    where
+      go : (b : Bool) → length (portSlots ports k) ≡ length ports → length (portSlots ports (k + length (p .bits))) ≡ length ports
+          → length (pick b (record { source = Rattle.behaviour.specs.WireMap.shown; bits = [] } ∷ portSlots ports k) (record { source = Rattle.behaviour.specs.WireMap.inputs k; bits = p .bits } ∷ portSlots ports (k + length (p .bits)))) ≡ suc (length ports)
+      go true a b = ap suc a
+      go false a b = ap suc b
+
+  pub ports-first : (s : ℕ) → s < length (n .ports) → getD (slots n) s noSlot ≡ getD (portSlots (n .ports) 0) s noSlot
+  ports-first s h = ap (λ (l : List Slot). getD l s noSlot) (whole .is) ∙ List·getD-append (portSlots (n .ports) 0) (whole .added) noSlot s (omega (arith, h, port-slot-count (n .ports) 0))
+
+  pub ports-within : length (n .ports) ≤ length (slots n)
+  ports-within = omega (arith, ap length (whole .is), length-append (portSlots (n .ports) 0) (whole .added), port-slot-count (n .ports) 0)
+
+  pub slot-late : (s : ℕ) → length (n .ports) ≤ s → s < length (slots n) → Late (getD (slots n) s noSlot)
+  slot-late s l h =
+      let k : ℕ = length (portSlots (n .ports) 0) in
+      let c : k ≡ length (n .ports) = port-slot-count (n .ports) 0 in
+      let e : s ≡ k + (s - k) = omega (arith, l, c) in
+      let q : getD (slots n) s noSlot ≡ getD (whole .added) (s - k) noSlot = ap₂ (λ (x : List Slot) (i : ℕ). getD x i noSlot) (whole .is) e ∙ getD-append-add (portSlots (n .ports) 0) (whole .added) (s - k) noSlot in
+      subst Late (sym q) (whole .from _ (slot-there (whole .added) (s - k) (omega (arith, h, l, c, ap length (whole .is), length-append (portSlots (n .ports) 0) (whole .added)))))

@@ -1,3 +1,4 @@
 -- The specs of forms.
 pub mod Groups
 pub mod Acts
+pub mod Lowered
