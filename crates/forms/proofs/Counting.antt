@@ -36,7 +36,7 @@ use Rattle.meaning.proofs.Whole.{lowering-is, stmts-are}
 use Rattle.forms.specs.Groups.{Group, apiece, secondGroup, groups, slotOf, isPll}
 use Rattle.forms.specs.Acts.{targets, Done, aim, range, secondAim, aims, clockAims, cellAims, cellWords, allAims, allWords, bankAims, portAims, netlistWords, netlistAims}
 use Rattle.forms.specs.Lowered.{none-yet, loweredModel, Lowered}
-use Rattle.forms.proofs.Slots.{Placed, slot-there, OfGroup, OfCell, Origin, port, cell, flops, slot-origin, group-slot, bank-slot}
+use Rattle.forms.proofs.Slots.{Placed, slot-there, OfGroup, OfCell, group-slot, bank-slot, Late, of-cell, of-bank, ports-first, ports-within, slot-late}
 use Rattle.forms.proofs.Aims.{netlist-acts, words-count}
 
 -- HOW OFTEN A NUMBER OCCURS
@@ -407,3 +407,122 @@ module _ {limits : Limits} {n : Netlist} (a : Lowered limits n) where
   bank-own b p h =
       let f = bank-is b h .first in
       occurs-in (p .number) bankPart (subst (λ (s : ℕ). Mem s bankPart) (ap (λ (w : ℕ). aim (m w)) (sym (leader-first b f)) ∙ aim-is _ (outputsOf (b .members)) p (leader-there b f)) (bank-aim (collectFlipFlopBanks (n .cells)) b h))
+
+-- where a wire is: the slot, and its bit there
+pub record Located (n : Netlist) (w : ℕ) (r : Ref) : Type 0 where
+  pub inside : r .signal < length (slots n)
+  pub width : r .width ≡ length ((getD (slots n) (r .signal) noSlot) .bits)
+  pub within : r .lsb < length ((getD (slots n) (r .signal) noSlot) .bits)
+  pub is : getD ((getD (slots n) (r .signal) noSlot) .bits) (r .lsb) Zero ≡ Wire w
+  pub found : find w (slots n) 0 ≡ some (record { signal = r .signal; lowest = r .lsb; width = r .width; source = (getD (slots n) (r .signal) noSlot) .source })
+
+located-as : (n : Netlist) (w : ℕ) (q : WireRef) → find w (slots n) 0 ≡ some q → Located n w (record { signal = q .signal; lsb = q .lowest; width = q .width })
+located-as n w q e =
+    let f : FoundAt w (slots n) 0 noSlot q = subst (FoundIs w (slots n) 0 noSlot) e (found-is w (slots n) 0 noSlot) in
+    let z : f .at ≡ q .signal = omega (arith, f .signal) in
+    record {
+      inside = omega (arith, f .inside, z);
+      width = f .holds .width ∙ ap (λ (s : ℕ). length ((getD (slots n) s noSlot) .bits)) z;
+      within = subst (λ (s : ℕ). q .lowest < length ((getD (slots n) s noSlot) .bits)) z (f .holds .inside);
+      is = ap (λ (s : ℕ). getD ((getD (slots n) s noSlot) .bits) (q .lowest) Zero) (sym z) ∙ f .holds .is;
+      found = e ∙ ap (λ (x : Source). some (record { signal = q .signal; lowest = q .lowest; width = q .width; source = x })) (f .holds .source ∙ ap (λ (s : ℕ). (getD (slots n) s noSlot) .source) z);
+    }
+
+pub located : (n : Netlist) (m : Wires) (ss : List Signal) → Mapping (slots n) ss m → (w : ℕ) (r : Ref) → m w ≡ some r → Located n w r
+located n m ss h w r e = go (find w (slots n) 0) refl
+  where
+    go : (o : Option WireRef) → find w (slots n) 0 ≡ o → Located n w r
+    go none q = absurd (Option·some-ne-none r (sym e ∙ h .finds w ∙ ap refOf q))
+    go (some x) q =
+        let y : some r ≡ some (record { signal = x .signal; lsb = x .lowest; width = x .width }) = sym e ∙ h .finds w ∙ ap refOf q in
+        let z : r ≡ record { signal = x .signal; lsb = x .lowest; width = x .width } = cc in
+        subst (Located n w) (sym z) (located-as n w x q)
+
+-- PORTS
+
+-- an input's slot, or an output's, which holds nothing
+pub data PortSlot (x : Slot) : Type 0 where
+  gives : (k : ℕ) → x .source ≡ inputs k → PortSlot x
+  shows : x .bits ≡ [] → PortSlot x
+
+pub port-slot : (ports : List Port) (k s : ℕ) → s < length ports → PortSlot (getD (portSlots ports k) s noSlot)
+port-slot [] k s h = absurd (not-suc-le-zero h)
+port-slot (p ∷ ports) k zero h = go (eqb (p .direction) 1)
+  where
+    go : (b : Bool) → PortSlot (getD (pick b (record { source = shown; bits = [] } ∷ portSlots ports k) (record { source = inputs k; bits = p .bits } ∷ portSlots ports (k + length (p .bits)))) 0 noSlot)
+    go true = shows refl
+    go false = gives k refl
+port-slot (p ∷ ports) k (suc s) h = go (eqb (p .direction) 1) (port-slot ports k s (omega arith)) (port-slot ports (k + length (p .bits)) s (omega arith))
+  where
+    go : (b : Bool) → PortSlot (getD (portSlots ports k) s noSlot) → PortSlot (getD (portSlots ports (k + length (p .bits))) s noSlot)
+        → PortSlot (getD (pick b (record { source = shown; bits = [] } ∷ portSlots ports k) (record { source = inputs k; bits = p .bits } ∷ portSlots ports (k + length (p .bits)))) (suc s) noSlot)
+    go true x y = x
+    go false x y = y
+
+-- A PLL DRIVES SIGNALS OF ITS OWN
+
+module _ {limits : Limits} {n : Netlist} (a : Lowered limits n) where
+  abbrev wires : Wires
+  wires = a .wires
+
+  slot-signal : (s : ℕ) → s < length (slots n) → getD (loweredModel n .signals) s noSignal ≡ getD (slot-signals a) s noSignal
+  slot-signal s h = ap (λ (l : List Signal). getD l s noSignal) (signals-are a) ∙ List·getD-append (slot-signals a) (netlistWords n) noSignal s (omega (arith, h, slot-count a))
+
+  pub slots-within : length (slots n) ≤ length (loweredModel n .signals)
+  slots-within = omega (arith, ap length (signals-are a), length-append (slot-signals a) (netlistWords n), slot-count a)
+
+  pub slot-fits : (s : ℕ) → s < length (slots n) → SignalFits (getD (slots n) s noSlot) (getD (loweredModel n .signals) s noSignal)
+  slot-fits s h = subst (SignalFits (getD (slots n) s noSlot)) (sym (slot-signal s h)) (fit-at (slots n) (slot-signals a) s noSignal (mapping a .fits) h)
+
+  -- no statement may stand on an input's signal
+  input-free : (s k : ℕ) → s < length (slots n) → (getD (slots n) s noSlot) .source ≡ inputs k → on-signal a s ≡ 0
+  input-free s k h e =
+      let f : (getD (loweredModel n .signals) s noSignal) .label ≡ 0 = subst (λ (x : Source). LabelFits x ((getD (loweredModel n .signals) s noSignal) .label)) e (slot-fits s h .label) in
+      let z : allowed (getD (loweredModel n .signals) s noSignal) ≡ 0 = ap {B = ℕ} (λ (b : Bool). pick b 0 1) (eq-eqb _ 0 f) in
+      omega (arith, few a s (omega (arith, h, slots-within)), z)
+
+  at-most : (s : ℕ) → s < length (slots n) → on-signal a s ≤ 1
+  at-most s h = omega (arith, few a s (omega (arith, h, slots-within)), few-allowed (getD (loweredModel n .signals) s noSignal))
+
+  module _ (c : ℕ) (p : Pll) (inside : c < length (n .cells)) (is : getD (n .cells) c absent ≡ pll p) (w : ℕ) (one-of : Mem w (pllWires p)) (r : Ref) (e : wires w ≡ some r) where
+    at : Located n w r
+    at = located n wires (slot-signals a) (mapping a) w r e
+
+    drives : (base : ℕ) → 1 ≤ occurs (r .signal) (cellAims wires base (getD (n .cells) c absent))
+    drives base =
+        occurs-in (r .signal) (cellAims wires base (getD (n .cells) c absent))
+        (subst (λ (x : Cell). Mem (r .signal) (cellAims wires base x)) (sym is) (subst (λ (s : ℕ). Mem s (cellAims wires base (pll p))) (ap aim e) (pll-drives wires p base w one-of)))
+
+    some-statement : 1 ≤ on-signal a (r .signal)
+    some-statement = omega (arith, piece-in wires (suc (suc (length (slots n)))) (n .cells) c (r .signal) inside drives, parts a (r .signal))
+
+    one-wide : (g : Group) → Mem g (apiece (pllWires p) 0) → getD (slots n) (r .signal) noSlot ≡ slotOf c g → r .width ≡ 1
+    one-wide g h q =
+        let x = apiece-wire (pllWires p) 0 g h in
+        at .width ∙ ap (λ (y : Slot). length (y .bits)) q ∙ ap (λ (l : List ℕ). length (map Wire l)) (x .2)
+
+    late : Late n (getD (slots n) (r .signal) noSlot) → r .width ≡ 1
+    late (of-cell o) = go (ℕ-discrete c (o .place))
+      where
+        slot-is : getD (slots n) (r .signal) noSlot ≡ slotOf (o .place) (o .of-group .group)
+        slot-is = o .of-group .is ∙ ap (λ (k : ℕ). slotOf k (o .of-group .group)) (let z : 0 + o .place ≡ o .place = omega arith in z)
+
+        go : Dec (c ≡ o .place) → r .width ≡ 1
+        go (yes q) = one-wide (o .of-group .group) (subst (λ (x : Cell). Mem (o .of-group .group) (groups x)) (ap (λ (k : ℕ). getD (n .cells) k absent) (sym q) ∙ is) (o .of-group .one-of)) (slot-is ∙ ap (λ (k : ℕ). slotOf k (o .of-group .group)) (sym q))
+        go (no q) = absurd (omega (arith, at-most (r .signal) (at .inside), parts a (r .signal),
+            pieces-in wires (suc (suc (length (slots n)))) (n .cells) c (o .place) (r .signal) q inside (o .inside) drives
+            (own a (o .place) (o .of-group .group) (record { number = r .signal; inside = at .inside; is = slot-is }) (o .inside) (o .of-group .one-of))))
+    late (of-bank b h q) =
+        absurd (omega (arith, at-most (r .signal) (at .inside), parts a (r .signal), piece-in wires (suc (suc (length (slots n)))) (n .cells) c (r .signal) inside drives,
+        bank-own a b (record { number = r .signal; inside = at .inside; is = q }) h))
+
+    ported : PortSlot (getD (slots n) (r .signal) noSlot) → r .width ≡ 1
+    ported (gives k q) = absurd (omega (arith, input-free (r .signal) k (at .inside) q, some-statement))
+    ported (shows q) = absurd (omega (arith, at .within, ap length q))
+
+    pub pll-own : r .width ≡ 1
+    pll-own = go (decLt (r .signal) (length (n .ports)))
+      where
+        go : Dec (r .signal < length (n .ports)) → r .width ≡ 1
+        go (yes h) = ported (subst PortSlot (sym (ports-first n (r .signal) h)) (port-slot (n .ports) 0 (r .signal) h))
+        go (no h) = late (slot-late n (r .signal) (omega arith) (at .inside))
