@@ -526,3 +526,123 @@ module _ {limits : Limits} {n : Netlist} (a : Lowered limits n) where
         go : Dec (r .signal < length (n .ports)) → r .width ≡ 1
         go (yes h) = ported (subst PortSlot (sym (ports-first n (r .signal) h)) (port-slot (n .ports) 0 (r .signal) h))
         go (no h) = late (slot-late n (r .signal) (omega arith) (at .inside))
+
+-- EVERY OTHER SIGNAL HAS A STATEMENT
+
+range-in : (base k s : ℕ) → base ≤ s → s < base + k → Mem s (range base k)
+range-in base zero s l h = absurd (omega (arith, l, h))
+range-in base (suc k) s l h = go (ℕ-discrete s base) (range-in (suc base) k s)
+  where
+    go : Dec (s ≡ base) → (suc base ≤ s → s < suc base + k → Mem s (range (suc base) k)) → Mem s (base ∷ range (suc base) k)
+    go (yes e) f = here e
+    go (no e) f = there (f (omega arith) (omega arith))
+
+-- a word's signal is among its cell's targets
+word-in : (m : Wires) (base s : ℕ) (x : Cell) → base ≤ s → s < base + wordSignals x → Mem s (cellAims m base x)
+word-in m base s (lut4 i o t) l h = absurd (omega (arith, l, h))
+word-in m base s (pfumx t f y o) l h = absurd (omega (arith, l, h))
+word-in m base s (l6mux21 z y v o) l h = absurd (omega (arith, l, h))
+word-in m base s (ccu2c u) l h = absurd (omega (arith, l, h))
+word-in m base s (multiplier y r p) l h = absurd (omega (arith, l, h))
+word-in m base s (flipFlop f) l h = absurd (omega (arith, l, h))
+word-in m base s (blockRam r) l h = there (mem-right (secondAim m (r .second)) (range-in base (r .depth) s l h))
+word-in m base s (distributedRam r) l h = mem-left (aim (m (getD (r .output) 0 0)) ∷ []) (range-in base 16 s l h)
+word-in m base s (io p d i t) l h = absurd (omega (arith, l, h))
+word-in m base s (jtagg ws) l h = absurd (omega (arith, l, h))
+word-in m base s (pll p) l h = absurd (omega (arith, l, h))
+
+words-in : (m : Wires) (base : ℕ) (xs : List Cell) (s : ℕ) → base ≤ s → s < base + total (map wordSignals xs) → 1 ≤ occurs s (allAims m base xs)
+words-in m base [] s l h = absurd (omega (arith, l, h))
+words-in m base (x ∷ xs) s l h = go (words-in m (base + wordSignals x) xs s) (decLt s (base + wordSignals x))
+  where
+    go : (base + wordSignals x ≤ s → s < base + wordSignals x + total (map wordSignals xs) → 1 ≤ occurs s (allAims m (base + wordSignals x) xs)) → Dec (s < base + wordSignals x) → 1 ≤ occurs s (cellAims m base x ++ allAims m (base + wordSignals x) xs)
+    go f (yes q) = omega (arith, occurs-append s (cellAims m base x) (allAims m (base + wordSignals x) xs), occurs-in s (cellAims m base x) (word-in m base s x l q))
+    go f (no q) = omega (arith, occurs-append s (cellAims m base x) (allAims m (base + wordSignals x) xs), f (omega arith) (omega (arith, h)))
+
+words-length : (c : ℕ) (xs : List Cell) → length (allWords c xs) ≡ total (map wordSignals xs)
+words-length c [] = refl
+words-length c (x ∷ xs) = omega (arith, length-append (cellWords c x) (allWords (suc c) xs), words-count c x, words-length (suc c) xs)
+
+-- a port's signal: an input's, or an output's, on which a statement stands
+port-driven : (p : ℕ) (ports : List Port) (i : ℕ) → i < length ports → ((getD (portSignals p ports) i noSignal) .label ≡ 0) ⊎ (1 ≤ occurs (p + i) (portAims p ports))
+port-driven p [] i h = absurd (not-suc-le-zero h)
+port-driven p (x ∷ ports) zero h = go (eqb (x .direction) 1)
+  where
+    go : (b : Bool) → ((pick b (Rattle.lowering.specs.Reserve.signalOf 1 (length (x .bits)) p) (Rattle.lowering.specs.Reserve.signalOf 0 (length (x .bits)) p)) .label ≡ 0) ⊎ (1 ≤ occurs (p + 0) (pick b (p ∷ []) [] ++ portAims (suc p) ports))
+    go true = inr (occurs-in (p + 0) (p ∷ portAims (suc p) ports) (here (let z : p + 0 ≡ p = omega arith in z)))
+    go false = inl refl
+port-driven p (x ∷ ports) (suc i) h = go (port-driven (suc p) ports i (omega arith))
+  where
+    go : ((getD (portSignals (suc p) ports) i noSignal) .label ≡ 0) ⊎ (1 ≤ occurs (suc p + i) (portAims (suc p) ports)) → ((getD (portSignals (suc p) ports) i noSignal) .label ≡ 0) ⊎ (1 ≤ occurs (p + suc i) (pick (eqb (x .direction) 1) (p ∷ []) [] ++ portAims (suc p) ports))
+    go (inl e) = inl e
+    go (inr q) =
+        let z : suc p + i ≡ p + suc i = omega arith in
+        let q′ : 1 ≤ occurs (p + suc i) (portAims (suc p) ports) = subst (λ (k : ℕ). 1 ≤ occurs k (portAims (suc p) ports)) z q in
+        inr (omega (arith, occurs-append (p + suc i) (pick (eqb (x .direction) 1) (p ∷ []) []) (portAims (suc p) ports), q′))
+
+ports-long : (p : ℕ) (ports : List Port) → length (portSignals p ports) ≡ length ports
+ports-long p [] = refl
+ports-long p (x ∷ ports) = ap suc (ports-long (suc p) ports)
+
+module _ {limits : Limits} {n : Netlist} (a : Lowered limits n) where
+  abbrev k₀ : ℕ
+  k₀ = length (slots n)
+
+  pub signals-count : length (loweredModel n .signals) ≡ signalCount n
+  signals-count = omega (arith, ap length (signals-are a), length-append (slot-signals a) (netlistWords n), slot-count a, words-length 0 (n .cells))
+
+  port-signal : (s : ℕ) → s < length (n .ports) → getD (loweredModel n .signals) s noSignal ≡ getD (portSignals 0 (n .ports)) s noSignal
+  unfolding slot-signals
+  port-signal s h =
+      slot-signal a s (omega (arith, h, ports-within n)) ∙ List·getD-append (portSignals 0 (n .ports)) (kept a .more) noSignal s (omega (arith, h, ports-long 0 (n .ports)))
+
+  ported-driven : (s : ℕ) → s < length (n .ports) → ((getD (loweredModel n .signals) s noSignal) .label ≡ 0) ⊎ (1 ≤ on-signal a s)
+  ported-driven s h = go (port-driven 0 (n .ports) s h)
+    where
+      z : 0 + s ≡ s
+      z = omega arith
+
+      go : ((getD (portSignals 0 (n .ports)) s noSignal) .label ≡ 0) ⊎ (1 ≤ occurs (0 + s) (portAims 0 (n .ports))) → ((getD (loweredModel n .signals) s noSignal) .label ≡ 0) ⊎ (1 ≤ on-signal a s)
+      go (inl e) = inl (ap (λ (x : Signal). x .label) (port-signal s h) ∙ e)
+      go (inr q) = let q′ : 1 ≤ occurs s (portAims 0 (n .ports)) = subst (λ (k : ℕ). 1 ≤ occurs k (portAims 0 (n .ports))) z q in inr (omega (arith, parts a s, q′))
+
+  late-driven : (s : ℕ) → s < k₀ → Late n (getD (slots n) s noSlot) → 1 ≤ on-signal a s
+  late-driven s h (of-cell o) =
+      let z : 0 + o .place ≡ o .place = omega arith in
+      let p : Placed (slots n) (slotOf (o .place) (o .of-group .group)) = record { number = s; inside = h; is = o .of-group .is ∙ ap (λ (k : ℕ). slotOf k (o .of-group .group)) z } in
+      omega (arith, parts a s, piece-in (a .wires) (suc (suc k₀)) (n .cells) (o .place) s (o .inside) (own a (o .place) (o .of-group .group) p (o .inside) (o .of-group .one-of)))
+  late-driven s h (of-bank b q e) = omega (arith, parts a s, bank-own a b (record { number = s; inside = h; is = e }) q)
+
+  constant-driven : (s : ℕ) → (s ≡ k₀) ⊎ (s ≡ suc k₀) → 1 ≤ on-signal a s
+  unfolding on-signal
+  constant-driven s (inl e) = occurs-in s (netlistAims (a .wires) k₀ n) (here e)
+  constant-driven s (inr e) = occurs-in s (netlistAims (a .wires) k₀ n) (there (here e))
+
+  word-driven : (s : ℕ) → suc (suc k₀) ≤ s → s < length (loweredModel n .signals) → 1 ≤ on-signal a s
+  word-driven s l h = omega (arith, parts a s, words-in (a .wires) (suc (suc k₀)) (n .cells) s l (omega (arith, h, signals-count)))
+
+  driven : (s : ℕ) → s < length (loweredModel n .signals) → ((getD (loweredModel n .signals) s noSignal) .label ≡ 0) ⊎ (1 ≤ on-signal a s)
+  driven s h = one (decLt s (length (n .ports)))
+    where
+      three : Dec (s ≡ k₀) → Dec (s ≡ suc k₀) → k₀ ≤ s → 1 ≤ on-signal a s
+      three (yes e) d l = constant-driven s (inl e)
+      three (no e) (yes d) l = constant-driven s (inr d)
+      three (no e) (no d) l = word-driven s (omega arith) h
+
+      two : length (n .ports) ≤ s → Dec (s < k₀) → 1 ≤ on-signal a s
+      two p (yes l) = late-driven s l (slot-late n s p l)
+      two p (no l) = three (ℕ-discrete s k₀) (ℕ-discrete s (suc k₀)) (omega arith)
+
+      one : Dec (s < length (n .ports)) → ((getD (loweredModel n .signals) s noSignal) .label ≡ 0) ⊎ (1 ≤ on-signal a s)
+      one (yes p) = ported-driven s p
+      one (no p) = inr (two (omega arith) (decLt s k₀))
+
+  -- exactly one statement stands on a signal that is no input, and none on an input
+  pub one-statement : (s : ℕ) → s < length (loweredModel n .signals) → on-signal a s ≡ allowed (getD (loweredModel n .signals) s noSignal)
+  one-statement s h = go (driven s h)
+    where
+      go : ((getD (loweredModel n .signals) s noSignal) .label ≡ 0) ⊎ (1 ≤ on-signal a s) → on-signal a s ≡ allowed (getD (loweredModel n .signals) s noSignal)
+      go (inl e) =
+          let z : allowed (getD (loweredModel n .signals) s noSignal) ≡ 0 = ap {B = ℕ} (λ (b : Bool). pick b 0 1) (eq-eqb _ 0 e) in
+          omega (arith, few a s h, z)
+      go (inr q) = omega (arith, few a s h, q, few-allowed (getD (loweredModel n .signals) s noSignal))
