@@ -3,3 +3,5 @@ pub mod Slots
 pub mod Quiets
 pub mod Aims
 pub mod Counting
+pub mod Fits
+pub mod FitCells

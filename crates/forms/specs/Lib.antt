@@ -2,3 +2,5 @@
 pub mod Groups
 pub mod Acts
 pub mod Lowered
+pub mod Typed
+pub mod Suits
