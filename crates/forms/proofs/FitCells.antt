@@ -75,6 +75,9 @@ zero-exp b = exp-so (λ y h. absurd h) (b .zero-is)
 pub one-exp : {c : Context} {S : ℕ → Type 0} → Based c → Exp c 1 1 S
 one-exp b = exp-so (λ y h. absurd h) (b .one-is)
 
+pub one-wide : {widest : ℕ} → 36 ≤ widest → Wide widest 1
+one-wide room = (omega arith, omega (arith, room))
+
 pub small : {widest : ℕ} → 36 ≤ widest → (w : ℕ) → 1 ≤ w → w ≤ 36 → Wide widest w
 small room w l h = (l, omega (arith, h, room))
 
@@ -82,7 +85,7 @@ small room w l h = (l, omega (arith, h, room))
 
 module _ {widest : ℕ} {D : ℕ → ℕ → Type 0} (room : 36 ≤ widest) (m : Wires) where
   fit-read : {c : Context} {S : ℕ → Type 0} (w : ℕ) (r : WireRef) → (m w ≡ some r) × Sig c (r .signal) (r .width) × (r .lsb < r .width) → ((y : ℕ) → From m (Wire w ∷ []) y → S y) → Fit widest D c (readRef r) (λ e c′. Exp c′ e 1 S)
-  fit-read w r h f = emit-read (small room 1 (omega arith) (omega arith)) (h .1) (omega (arith, h .2)) (f (r .signal) (record { wire = w; one-of = here refl; ref = r; is = h .0; signal = refl }))
+  fit-read w r h f = emit-read (one-wide room) (h .1) (omega (arith, h .2)) (f (r .signal) (record { wire = w; one-of = here refl; ref = r; is = h .0; signal = refl }))
 
 
 module _ {widest : ℕ} {D : ℕ → ℕ → Type 0} where
@@ -157,7 +160,7 @@ module _ {widest : ℕ} {D : ℕ → ℕ → Type 0} (room : 36 ≤ widest) {c :
       by-test R (eqb s 0) (λ q. fit-pure hf) (λ n₁. by-test R (eqb s 1 || eqb t f) (λ q. fit-pure ht) (λ n₂. by-test R (eqb f 0 && eqb t 1) (λ q. fit-pure hs) (λ n₃.
       by-test R (eqb f 1 && eqb t 0) (λ q. emit-not hs) (λ n₄. by-test R (eqb f 0) (λ q. emit-and hs ht) (λ n₅. by-test R (eqb t 1) (λ q. emit-or hs hf) (λ n₆.
       by-test R (eqb t 0) (λ q. fit-bind (emit-not hs) (λ i c₁ g h. emit-and h (grow-exp g hf))) (λ n₇.
-      by-test R (eqb f 1) (λ q. fit-bind (emit-not hs) (λ i c₁ g h. emit-or h (grow-exp g ht))) (λ n₈. emit-mux (small room 1 (omega arith) (omega arith)) hs ht hf))))))))
+      by-test R (eqb f 1) (λ q. fit-bind (emit-not hs) (λ i c₁ g h. emit-or h (grow-exp g ht))) (λ n₈. emit-mux (one-wide room) hs ht hf))))))))
     where
       R : Rewrite → Type 0
       R r = Fit widest D c (unfold emitRewrite in emitRewrite r) (λ e c′. Exp c′ e 1 S)
@@ -247,3 +250,168 @@ module _ {widest : ℕ} {D : ℕ → ℕ → Type 0} {words : ℕ} (room : 36 �
   unfolding emitIo
   fit-io pad driven input tristate s =
       fit-three (Wire pad) driven tristate input (λ a b d. d) (λ a b d. a) (λ a b d. b) (first-of (Wire pad) driven tristate) (second-of (Wire pad) driven tristate) (third-of (Wire pad) driven tristate) (λ c₁ a b d x y z. (z, x, y)) s
+
+module _ {widest : ℕ} {D : ℕ → ℕ → Type 0} {words : ℕ} (room : 36 ≤ widest) (m : Wires) where
+  fit-row : {S : ℕ → Type 0} (inputs : List Bit) (init inject sum carry : ℕ) {c : Context} → Ready words c m → ((y : ℕ) → From m inputs y → S y) → Suits D words m sum 1 S → Exp c carry 1 S
+      → Fit widest D c (ccuRow m inputs init inject sum carry) (λ e c′. Exp c′ e 1 S)
+  unfolding ccuRow
+  fit-row {S} inputs init inject sum carry ready f s hc =
+      fit-bind (fit-reads room m inputs [] ready f no-part) (λ es c₁ g₁ h.
+      let r₁ = grow-ready g₁ ready in
+      fit-bind (fit-lut room es init (r₁ .based) h) (λ l c₂ g₂ hl.
+      let r₂ = grow-ready g₂ r₁ in
+      let h₂ = grow-parts g₂ h in
+      fit-bind (fit-lut room (getD es 0 0 ∷ getD es 1 0 ∷ 0 ∷ 0 ∷ []) init (r₂ .based) (part (parts-get (r₂ .based) es 0 h₂) (part (parts-get (r₂ .based) es 1 h₂) (part (zero-exp (r₂ .based)) (part (zero-exp (r₂ .based)) no-part))))) (λ k c₃ g₃ hk.
+      let r₃ = grow-ready g₃ r₂ in
+      let gated : Exp c₃ (pick (eqb inject 1) 0 carry) 1 S = by-test (λ (e : ℕ). Exp c₃ e 1 S) (eqb inject 1) (λ q. zero-exp (r₃ .based)) (λ q. grow-exp g₃ (grow-exp g₂ (grow-exp g₁ hc))) in
+      fit-bind (fit-xor room (r₃ .based) (grow-exp g₃ hl) gated) (λ x c₄ g₄ hx.
+      fit-bind (fit-assign room m sum (grow-ready g₄ r₃) s hx) (λ u c₅ g₅ v.
+      fit-mux room (grow-exp g₅ (grow-exp g₄ (grow-exp g₃ hl))) (grow-exp g₅ (grow-exp g₄ gated)) (grow-exp g₅ (grow-exp g₄ hk)))))))
+
+  pub fit-ccu2c : (u : Ccu2c) {c : Context} → Ready words c m → AllSuit D words m (u .sum0 ∷ u .sum1 ∷ u .carry ∷ []) (From m (u .row0 ++ (u .row1 ++ (u .carryIn ∷ []))))
+      → Fit widest D c (emitCcu2c m u) (λ x c′. Unit {0})
+  unfolding emitCcu2c
+  fit-ccu2c u ready s =
+      fit-bind (fit-bit room m ready (u .carryIn) (λ y q. from-right (u .row0) (from-right (u .row1) q))) (λ e₀ c₁ g₁ h₀.
+      fit-bind (fit-row (u .row0) (u .init0) (u .inject0) (u .sum0) e₀ (grow-ready g₁ ready) (λ y q. from-left (u .row1 ++ (u .carryIn ∷ [])) q) (s .0) h₀) (λ e₁ c₂ g₂ h₁.
+      fit-bind (fit-row (u .row1) (u .init1) (u .inject1) (u .sum1) e₁ (grow-ready g₂ (grow-ready g₁ ready)) (λ y q. from-right (u .row0) (from-left (u .carryIn ∷ []) q)) (s .1 .0) h₁) (λ e₂ c₃ g₃ h₂.
+      fit-assign room m (u .carry) (grow-ready g₃ (grow-ready g₂ (grow-ready g₁ ready))) (s .1 .1 .0) h₂)))
+
+  fit-all : {S : ℕ → Type 0} (ws : List ℕ) {e : ℕ} {c : Context} → Ready words c m → ((w : ℕ) → Mem w ws → Suits D words m w 1 S) → Exp c e 1 S → Fit widest D c (assignAll m ws e) (λ x c′. Unit {0})
+  unfolding assignAll
+  fit-all [] ready s h = fit-pure tt
+  fit-all (w ∷ ws) ready s h = fit-bind (fit-assign room m w ready (s w (here refl)) h) (λ x c₁ g u. fit-all ws (grow-ready g ready) (λ v q. s v (there q)) (grow-exp g h))
+
+  pub fit-jtagg : (ws : List ℕ) {c : Context} → Ready words c m → length ws ≡ 9 → ((w : ℕ) → Mem w ws → Suits D words m w 1 None) → Fit widest D c (emitIdleJtagg m ws) (λ x c′. Unit {0})
+  unfolding emitIdleJtagg
+  fit-jtagg ws ready l s =
+      fit-bind (fit-all (take 6 ws ++ drop 7 ws) ready (λ w q. s w (among w (append-cases (take 6 ws) q))) (ready .based .zero-is)) (λ x c₁ g u.
+      fit-assign room m (getD ws 6 0) (grow-ready g ready) (s (getD ws 6 0) (at ws 6 (omega (arith, l)))) (grow-ready g ready .based .one-is))
+    where
+      taken : (k : ℕ) (xs : List ℕ) (w : ℕ) → Mem w (take k xs) → Mem w xs
+      taken zero xs w q = absurd (not-nil q)
+      taken (suc k) [] w q = absurd (not-nil q)
+      taken (suc k) (x ∷ xs) w q = go (cases-cons q) (taken k xs w)
+        where
+          go : (w ≡ x) ⊎ Mem w (take k xs) → (Mem w (take k xs) → Mem w xs) → Mem w (x ∷ xs)
+          go (inl e) f = here e
+          go (inr r) f = there (f r)
+
+      dropped : (k : ℕ) (xs : List ℕ) (w : ℕ) → Mem w (drop k xs) → Mem w xs
+      dropped zero xs w q = q
+      dropped (suc k) [] w q = q
+      dropped (suc k) (x ∷ xs) w q = there (dropped k xs w q)
+
+      among : (w : ℕ) → Mem w (take 6 ws) ⊎ Mem w (drop 7 ws) → Mem w ws
+      among w (inl q) = taken 6 ws w q
+      among w (inr q) = dropped 7 ws w q
+
+      at : (xs : List ℕ) (i : ℕ) → i < length xs → Mem (getD xs i 0) xs
+      at [] i h = absurd (omega (arith, h))
+      at (x ∷ xs) zero h = here refl
+      at (x ∷ xs) (suc i) h = there (at xs i (omega arith))
+
+  fit-unless : {S : ℕ → Type 0} (b : Bool) (w : ℕ) {e : ℕ} {c : Context} → Ready words c m → Suits D words m w 1 S → Exp c e 1 S → Fit widest D c (pick b (pure tt) (assignWire m w e)) (λ x c′. Unit {0})
+  fit-unless true w ready s h = fit-pure tt
+  fit-unless false w ready s h = fit-assign room m w ready s h
+
+  fit-clocks : (S : ℕ → Type 0) (f o : ℕ) (ws : List ℕ) {e : ℕ} {c : Context} → Ready words c m → AllSuit D words m ws S → Exp c e 1 S → Fit widest D c (pllClocks m f o ws e) (λ x c′. Unit {0})
+  unfolding pllClocks
+  fit-clocks S f o [] ready s h = fit-pure tt
+  fit-clocks S f o (w ∷ ws) ready s h = fit-bind (fit-unless (eqb w f || eqb w o) w ready (s .0) h) (λ x c₁ g u. fit-clocks S f o ws (grow-ready g ready) (s .1) (grow-exp g h))
+
+  pub fit-pll : (p : Pll) {c : Context} → Ready words c m → AllSuit D words m (p .feedback ∷ p .output ∷ p .more) (From m (p .reference ∷ [])) → Suits D words m (p .locked) 1 None → Fit widest D c (emitCyclePll m p) (λ x c′. Unit {0})
+  unfolding emitCyclePll
+  fit-pll p ready s l =
+      fit-bind (fit-bit room m ready (p .reference) (λ y q. q)) (λ e c₁ g₁ h.
+      let r₁ = grow-ready g₁ ready in
+      fit-bind (fit-assign room m (p .feedback) r₁ (s .0) h) (λ x c₂ g₂ u.
+      let r₂ = grow-ready g₂ r₁ in
+      fit-bind (fit-unless (eqb (p .output) (p .feedback)) (p .output) r₂ (s .1 .0) (grow-exp g₂ h)) (λ x c₃ g₃ u.
+      let r₃ = grow-ready g₃ r₂ in
+      fit-bind (fit-clocks (From m (p .reference ∷ [])) (p .feedback) (p .output) (p .more) r₃ (s .1 .1) (grow-exp g₃ (grow-exp g₂ h))) (λ x c₄ g₄ u.
+      fit-assign room m (p .locked) (grow-ready g₄ r₃) l (grow-ready g₄ r₃ .based .one-is)))))
+
+-- FLIP-FLOPS
+
+reset-bit : {c : Context} → Based c → (o : Option Reset) → Exp c (resetBit o) 1 Any
+reset-bit based none = zero-exp based
+reset-bit {c} based (some r) = by-test (λ (e : ℕ). Exp c e 1 Any) (eqb (r .value) 1) (λ q. one-exp based) (λ q. zero-exp based)
+
+reset-bits : {c : Context} → Based c → (fs : List Member) {ps : List ℕ} → Parts c Any ps → Parts c Any (resetBits fs ps)
+unfolding resetBits
+reset-bits based [] h = h
+reset-bits based (f ∷ fs) h = reset-bits based fs (part (reset-bit based (f .flop .reset)) h)
+
+reset-count : (fs : List Member) (ps : List ℕ) → length (resetBits fs ps) ≡ length fs + length ps
+unfolding resetBits
+reset-count [] ps = omega arith
+reset-count (f ∷ fs) ps = omega (arith, reset-count fs (resetBit (f .flop .reset) ∷ ps))
+
+grow-reset : {c c′ : Context} (w : ℕ) → Grows c c′ → (o : Option RegReset) → GoodReset c w o → GoodReset c′ w o
+grow-reset w g none h = tt
+grow-reset w g (some r) h = (grow-sig g (h .0), h .1, g .exprs (r .value) w (h .2))
+
+-- the level of an asynchronous reset is 0 or 1
+abbrev pub Levelled : Option Reset → Type 0
+Levelled none = Unit {0}
+Levelled (some r) = r .active ≤ 1
+
+module _ {widest : ℕ} {D : ℕ → ℕ → Type 0} {words : ℕ} (room : 36 ≤ widest) (m : Wires) where
+  fit-enable : (output : ℕ) (o : Option Control) {next : ℕ} {c : Context} → Ready words c m → Exp c next 1 Any → Fit widest D c (withEnable m output o next) (λ e c′. Exp c′ e 1 Any)
+  fit-enable output none ready h = fit-pure h
+  fit-enable output (some k) ready h =
+      fit-bind (fit-ref room m ready output) (λ r c₁ g₁ x.
+      fit-bind (fit-read room m {S = Any} output r x (λ y q. tt)) (λ q c₂ g₂ hq.
+      fit-bind (fit-asserted room m (grow-ready g₂ (grow-ready g₁ ready)) k (λ y p. tt)) (λ y c₃ g₃ hy.
+      emit-mux (one-wide room) hy (grow-exp g₃ (grow-exp g₂ (grow-exp g₁ h))) (grow-exp g₃ hq))))
+
+  fit-reset : (o : Option Reset) {next : ℕ} {c : Context} → Ready words c m → Exp c next 1 Any → Fit widest D c (withReset m o next) (λ e c′. Exp c′ e 1 Any)
+  fit-reset none ready h = fit-pure h
+  fit-reset (some r) {c = c} ready h =
+      by-test (λ (w : Writer ℕ). Fit widest D c w (λ e c′. Exp c′ e 1 Any)) (eqb (r .asynchronous) 1) (λ q. fit-pure h) (λ q.
+      fit-bind (fit-asserted room m ready (record { signal = r .signal; active = r .active }) (λ y p. tt)) (λ y c₁ g hy.
+      emit-mux (one-wide room) hy (reset-bit (grow-ready g ready .based) (some r)) (grow-exp g h)))
+
+  fit-next : (f : FlipFlop) {c : Context} → Ready words c m → Fit widest D c (nextBit m f) (λ e c′. Exp c′ e 1 Any)
+  unfolding nextBit
+  fit-next f ready =
+      fit-bind (fit-bit room m ready (f .input) (λ y p. tt)) (λ d c₁ g₁ hd.
+      fit-bind (fit-enable (f .output) (f .enable) (grow-ready g₁ ready) hd) (λ e c₂ g₂ he.
+      fit-reset (f .reset) (grow-ready g₂ (grow-ready g₁ ready)) he))
+
+  fit-nexts : (fs : List Member) (ps : List ℕ) {c : Context} → Ready words c m → Parts c Any ps → Fit widest D c (nextBits m fs ps) (λ qs c′. Parts c′ Any qs × (length qs ≡ length fs + length ps))
+  unfolding nextBits
+  fit-nexts [] ps ready h = fit-pure (h, omega arith)
+  fit-nexts (f ∷ fs) ps ready h =
+      fit-bind (fit-next (f .flop) ready) (λ e c₁ g he.
+      fit-so (fit-nexts fs (e ∷ ps) (grow-ready g ready) (part he (grow-parts g h))) (λ qs c₂ g₂ r. (r .0, omega (arith, r .1))))
+
+  fit-bank-reset : (z : Constants) (o : Option Reset) (fs : List Member) {c : Context} → Ready words c m → Sig c (z .zero .0) 1 → Sig c (z .one .0) 1 → Wide widest (length fs) → Levelled o
+      → Fit widest D c (bankReset m z o fs) (λ r c′. GoodReset c′ (length fs) r)
+  fit-bank-reset z none fs ready hz ho w l = fit-pure tt
+  fit-bank-reset z (some r) fs {c} ready hz ho w l =
+      let k : length (resetBits fs []) ≡ length fs = omega (arith, reset-count fs []) in
+      fit-bind (fit-concat (resetBits fs []) (reset-bits (ready .based) fs no-part) (omega (arith, k, w .0), omega (arith, k, w .1))) (λ v c₁ g₁ hv.
+      fit-bind (fit-signal room m (grow-ready g₁ ready) (grow-sig g₁ hz) (grow-sig g₁ ho) (r .signal)) (λ s c₂ g₂ hs.
+      fit-pure (hs, l, subst (λ (j : ℕ). At (c₂ .exprs) v j) k (grow-exp g₂ hv .typed))))
+
+  pub fit-bank : (z : Constants) (b : Bank) {c : Context} → Ready words c m → Sig c (z .zero .0) 1 → Sig c (z .one .0) 1 → Wide widest (length (b .members)) → WideAs m (b .leader .flop .output) (length (b .members))
+      → Levelled (asyncReset (b .leader .flop)) → b .leader .flop .edge ≤ 1 → Fit widest D c (emitFlipFlopBank m z b) (λ x c′. Unit {0})
+  unfolding emitFlipFlopBank
+  fit-bank z b ready hz ho w wide l e =
+      let k : ℕ = length (b .members) in
+      fit-bind (fit-ref room m ready (b .leader .flop .output)) (λ t c₁ g₁ ht.
+      let r₁ = grow-ready g₁ ready in
+      fit-bind (fit-nexts (b .members) [] r₁ no-part) (λ ps c₂ g₂ hp.
+      let r₂ = grow-ready g₂ r₁ in
+      let j : length ps ≡ k = omega (arith, hp .1) in
+      fit-bind (fit-concat ps (hp .0) (omega (arith, j, w .0), omega (arith, j, w .1))) (λ x c₃ g₃ hn.
+      let r₃ = grow-ready g₃ r₂ in
+      let z₃ = grow-sig g₃ (grow-sig g₂ (grow-sig g₁ hz)) in
+      let o₃ = grow-sig g₃ (grow-sig g₂ (grow-sig g₁ ho)) in
+      fit-bind (fit-bank-reset z (asyncReset (b .leader .flop)) (b .members) r₃ z₃ o₃ w l) (λ r c₄ g₄ hr.
+      fit-bind (fit-signal room m (grow-ready g₄ r₃) (grow-sig g₄ z₃) (grow-sig g₄ o₃) (b .leader .flop .clock)) (λ q c₅ g₅ hq.
+      let t₅ : Sig c₅ (t .signal) k = subst (λ (i : ℕ). Sig c₅ (t .signal) i) (wide t (ht .0)) (grow-sig g₅ (grow-sig g₄ (grow-sig g₃ (grow-sig g₂ (ht .1))))) in
+      let n₅ : At (c₅ .exprs) x k = subst (λ (i : ℕ). At (c₅ .exprs) x i) j (grow-exp g₅ (grow-exp g₄ hn) .typed) in
+      fit-state (k, t₅, n₅, hq, e, grow-reset k g₅ r hr, tt))))))

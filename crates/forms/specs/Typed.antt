@@ -66,6 +66,14 @@ pub record Numbered (c : Context) (n : Count) : Type 0 where
 abbrev pub Wide : ℕ → ℕ → Type 0
 Wide widest w = (1 ≤ w) × (w ≤ widest)
 
+abbrev pub GoodReset : Context → ℕ → Option RegReset → Type 0
+GoodReset c w none = Unit {0}
+GoodReset c w (some r) = Sig c (r .signal) 1 × (r .active ≤ 1) × At (c .exprs) (r .value) w
+
+abbrev pub GoodEnable : Context → Option RegEnable → Type 0
+GoodEnable c none = Unit {0}
+GoodEnable c (some e) = Sig c (e .signal) 1 × (e .active ≤ 1)
+
 -- a model's largest width, and what a signal may depend on
 module _ (widest : ℕ) (D : ℕ → ℕ → Type 0) where
   abbrev pub GoodExpr : Context → Expr → Type 0
@@ -79,14 +87,6 @@ module _ (widest : ℕ) (D : ℕ → ℕ → Type 0) where
   GoodExpr c (mux w s t f) = Wide widest w × At (c .exprs) s 1 × At (c .exprs) t w × At (c .exprs) f w
   GoodExpr c (eq a b) = (w : ℕ) × At (c .exprs) a w × At (c .exprs) b w
   GoodExpr c (mul a b) = At (c .exprs) a 36 × At (c .exprs) b 36
-
-  abbrev pub GoodReset : Context → ℕ → Option RegReset → Type 0
-  GoodReset c w none = Unit {0}
-  GoodReset c w (some r) = Sig c (r .signal) 1 × (r .active ≤ 1) × At (c .exprs) (r .value) w
-
-  abbrev pub GoodEnable : Context → Option RegEnable → Type 0
-  GoodEnable c none = Unit {0}
-  GoodEnable c (some e) = Sig c (e .signal) 1 × (e .active ≤ 1)
 
   abbrev pub GoodStmt : Context → Stmt → Type 0
   GoodStmt c (assign t e) = (w : ℕ) × Sig c t w × Exp c e w (D t)
