@@ -5,3 +5,4 @@ pub mod Aims
 pub mod Counting
 pub mod Fits
 pub mod FitCells
+pub mod FitRams
