@@ -6,3 +6,4 @@ pub mod Counting
 pub mod Fits
 pub mod FitCells
 pub mod FitRams
+pub mod FitLower
