@@ -82,6 +82,11 @@ piece-in m s₀ [] c s h p = absurd (not-suc-le-zero h)
 piece-in m s₀ (x ∷ xs) zero s h p = omega (arith, occurs-append s (cellAims m s₀ x) (allAims m (s₀ + wordSignals x) xs), p s₀)
 piece-in m s₀ (x ∷ xs) (suc c) s h p = omega (arith, occurs-append s (cellAims m s₀ x) (allAims m (s₀ + wordSignals x) xs), piece-in m (s₀ + wordSignals x) xs c s (omega arith) p)
 
+piece-many : (m : Wires) (s₀ : ℕ) (xs : List Cell) (c s k : ℕ) → c < length xs → ((base : ℕ) → k ≤ occurs s (cellAims m base (getD xs c absent))) → k ≤ occurs s (allAims m s₀ xs)
+piece-many m s₀ [] c s k h p = absurd (not-suc-le-zero h)
+piece-many m s₀ (x ∷ xs) zero s k h p = omega (arith, occurs-append s (cellAims m s₀ x) (allAims m (s₀ + wordSignals x) xs), p s₀)
+piece-many m s₀ (x ∷ xs) (suc c) s k h p = omega (arith, occurs-append s (cellAims m s₀ x) (allAims m (s₀ + wordSignals x) xs), piece-many m (s₀ + wordSignals x) xs c s k (omega arith) p)
+
 pieces-in : (m : Wires) (s₀ : ℕ) (xs : List Cell) (c d s : ℕ) → (c ≡ d → ⊥) → c < length xs → d < length xs → ((base : ℕ) → 1 ≤ occurs s (cellAims m base (getD xs c absent)))
     → ((base : ℕ) → 1 ≤ occurs s (cellAims m base (getD xs d absent))) → 2 ≤ occurs s (allAims m s₀ xs)
 pieces-in m s₀ [] c d s ne h g p q = absurd (not-suc-le-zero h)
@@ -461,6 +466,11 @@ port-slot (p ∷ ports) k (suc s) h = go (eqb (p .direction) 1) (port-slot ports
 
 -- A PLL DRIVES SIGNALS OF ITS OWN
 
+pub record OwnSlot (n : Netlist) (c : ℕ) (p : Pll) (s : ℕ) : Type 0 where
+  pub group : Group
+  pub one-of : Mem group (apiece (pllWires p) 0)
+  pub slot : getD (slots n) s noSlot ≡ slotOf c group
+
 module _ {limits : Limits} {n : Netlist} (a : Lowered limits n) where
   abbrev wires : Wires
   wires = a .wires
@@ -496,19 +506,18 @@ module _ {limits : Limits} {n : Netlist} (a : Lowered limits n) where
     some-statement : 1 ≤ on-signal a (r .signal)
     some-statement = omega (arith, piece-in wires (suc (suc (length (slots n)))) (n .cells) c (r .signal) inside drives, parts a (r .signal))
 
-    one-wide : (g : Group) → Mem g (apiece (pllWires p) 0) → getD (slots n) (r .signal) noSlot ≡ slotOf c g → r .width ≡ 1
-    one-wide g h q =
-        let x = apiece-wire (pllWires p) 0 g h in
-        at .width ∙ ap (λ (y : Slot). length (y .bits)) q ∙ ap (λ (l : List ℕ). length (map Wire l)) (x .2)
-
-    late : Late n (getD (slots n) (r .signal) noSlot) → r .width ≡ 1
+    late : Late n (getD (slots n) (r .signal) noSlot) → OwnSlot n c p (r .signal)
     late (of-cell o) = go (ℕ-discrete c (o .place))
       where
         slot-is : getD (slots n) (r .signal) noSlot ≡ slotOf (o .place) (o .of-group .group)
         slot-is = o .of-group .is ∙ ap (λ (k : ℕ). slotOf k (o .of-group .group)) (let z : 0 + o .place ≡ o .place = omega arith in z)
 
-        go : Dec (c ≡ o .place) → r .width ≡ 1
-        go (yes q) = one-wide (o .of-group .group) (subst (λ (x : Cell). Mem (o .of-group .group) (groups x)) (ap (λ (k : ℕ). getD (n .cells) k absent) (sym q) ∙ is) (o .of-group .one-of)) (slot-is ∙ ap (λ (k : ℕ). slotOf k (o .of-group .group)) (sym q))
+        go : Dec (c ≡ o .place) → OwnSlot n c p (r .signal)
+        go (yes q) = record {
+          group = o .of-group .group;
+          one-of = subst (λ (x : Cell). Mem (o .of-group .group) (groups x)) (ap (λ (k : ℕ). getD (n .cells) k absent) (sym q) ∙ is) (o .of-group .one-of);
+          slot = slot-is ∙ ap (λ (k : ℕ). slotOf k (o .of-group .group)) (sym q);
+        }
         go (no q) = absurd (omega (arith, at-most (r .signal) (at .inside), parts a (r .signal),
             pieces-in wires (suc (suc (length (slots n)))) (n .cells) c (o .place) (r .signal) q inside (o .inside) drives
             (own a (o .place) (o .of-group .group) (record { number = r .signal; inside = at .inside; is = slot-is }) (o .inside) (o .of-group .one-of))))
@@ -516,16 +525,63 @@ module _ {limits : Limits} {n : Netlist} (a : Lowered limits n) where
         absurd (omega (arith, at-most (r .signal) (at .inside), parts a (r .signal), piece-in wires (suc (suc (length (slots n)))) (n .cells) c (r .signal) inside drives,
         bank-own a b (record { number = r .signal; inside = at .inside; is = q }) h))
 
-    ported : PortSlot (getD (slots n) (r .signal) noSlot) → r .width ≡ 1
+    ported : PortSlot (getD (slots n) (r .signal) noSlot) → OwnSlot n c p (r .signal)
     ported (gives k q) = absurd (omega (arith, input-free (r .signal) k (at .inside) q, some-statement))
     ported (shows q) = absurd (omega (arith, at .within, ap length q))
 
-    pub pll-own : r .width ≡ 1
+    pub pll-own : OwnSlot n c p (r .signal)
     pll-own = go (decLt (r .signal) (length (n .ports)))
       where
-        go : Dec (r .signal < length (n .ports)) → r .width ≡ 1
+        go : Dec (r .signal < length (n .ports)) → OwnSlot n c p (r .signal)
         go (yes h) = ported (subst PortSlot (sym (ports-first n (r .signal) h)) (port-slot (n .ports) 0 (r .signal) h))
         go (no h) = late (slot-late n (r .signal) (omega arith) (at .inside))
+
+    -- and it drives each of them once: no clock is the locked wire
+    pub pll-apart : Mem w (p .feedback ∷ p .output ∷ p .more) → w ≡ p .locked → ⊥
+    pll-apart h same = omega (arith, at-most (r .signal) (at .inside), parts a (r .signal), piece-many wires (suc (suc (length (slots n)))) (n .cells) c (r .signal) 2 inside twice)
+      where
+        s : ℕ
+        s = r .signal
+
+        hit : (v : ℕ) → w ≡ v → _≡_ {A = ℕ} (pick (eqb (aim (wires v)) (r .signal)) 1 0) 1
+        hit v q = ap {B = ℕ} (λ (b : Bool). pick b 1 0) (eq-eqb (aim (wires v)) (r .signal) (ap (λ (u : ℕ). aim (wires u)) (sym q) ∙ ap aim e))
+
+        clockPart : List ℕ
+        clockPart = clockAims wires (p .feedback) (p .output) (p .more)
+
+        outPart : Bool → List ℕ
+        outPart b = pick b [] (aim (wires (p .output)) ∷ [])
+
+        first : (w ≡ p .feedback) → (b : Bool) → 1 ≤ pick (eqb (aim (wires (p .feedback))) (r .signal)) 1 0 + (occurs (r .signal) (outPart b) + occurs (r .signal) clockPart)
+        first q b = omega (arith, hit (p .feedback) q)
+
+        second : (w ≡ p .output) → (b : Bool) → eqb (p .output) (p .feedback) ≡ b → 1 ≤ pick (eqb (aim (wires (p .feedback))) (r .signal)) 1 0 + (occurs (r .signal) (outPart b) + occurs (r .signal) clockPart)
+        second q true t = first (q ∙ eqb-true (p .output) (p .feedback) t) true
+        second q false t = omega (arith, hit (p .output) q)
+
+        third : Mem (aim (wires w)) clockPart ⊎ ((w ≡ p .feedback) ⊎ (w ≡ p .output)) → (b : Bool) → eqb (p .output) (p .feedback) ≡ b → 1 ≤ pick (eqb (aim (wires (p .feedback))) (r .signal)) 1 0 + (occurs (r .signal) (outPart b) + occurs (r .signal) clockPart)
+        third (inl q) b t = omega (arith, occurs-in (r .signal) clockPart (subst (λ (k : ℕ). Mem k clockPart) (ap aim e) q))
+        third (inr (inl q)) b t = first q b
+        third (inr (inr q)) b t = second q b t
+
+        some-clock : (b : Bool) → eqb (p .output) (p .feedback) ≡ b → 1 ≤ pick (eqb (aim (wires (p .feedback))) (r .signal)) 1 0 + (occurs (r .signal) (outPart b) + occurs (r .signal) clockPart)
+        some-clock b t = one (cases-cons h)
+          where
+            two : (w ≡ p .output) ⊎ Mem w (p .more) → 1 ≤ pick (eqb (aim (wires (p .feedback))) (r .signal)) 1 0 + (occurs (r .signal) (outPart b) + occurs (r .signal) clockPart)
+            two (inl q) = second q b t
+            two (inr q) = third (clock-in wires (p .feedback) (p .output) (p .more) w q) b t
+
+            one : (w ≡ p .feedback) ⊎ Mem w (p .output ∷ p .more) → 1 ≤ pick (eqb (aim (wires (p .feedback))) (r .signal)) 1 0 + (occurs (r .signal) (outPart b) + occurs (r .signal) clockPart)
+            one (inl q) = first q b
+            one (inr q) = two (cases-cons q)
+
+        in-pll : (base : ℕ) → 2 ≤ occurs (r .signal) (cellAims wires base (pll p))
+        in-pll base =
+            omega (arith, some-clock (eqb (p .output) (p .feedback)) refl, hit (p .locked) same,
+            occurs-append (r .signal) (outPart (eqb (p .output) (p .feedback))) (clockPart ++ (aim (wires (p .locked)) ∷ [])), occurs-append (r .signal) clockPart (aim (wires (p .locked)) ∷ []))
+
+        twice : (base : ℕ) → 2 ≤ occurs (r .signal) (cellAims wires base (getD (n .cells) c absent))
+        twice base = subst (λ (x : Cell). 2 ≤ occurs (r .signal) (cellAims wires base x)) (sym is) (in-pll base)
 
 -- EVERY OTHER SIGNAL HAS A STATEMENT
 
