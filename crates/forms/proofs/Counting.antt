@@ -518,12 +518,21 @@ module _ {limits : Limits} {n : Netlist} (a : Lowered limits n) where
           one-of = subst (λ (x : Cell). Mem (o .of-group .group) (groups x)) (ap (λ (k : ℕ). getD (n .cells) k absent) (sym q) ∙ is) (o .of-group .one-of);
           slot = slot-is ∙ ap (λ (k : ℕ). slotOf k (o .of-group .group)) (sym q);
         }
-        go (no q) = absurd (omega (arith, at-most (r .signal) (at .inside), parts a (r .signal),
-            pieces-in wires (suc (suc (length (slots n)))) (n .cells) c (o .place) (r .signal) q inside (o .inside) drives
-            (own a (o .place) (o .of-group .group) (record { number = r .signal; inside = at .inside; is = slot-is }) (o .inside) (o .of-group .one-of))))
+        go (no q) = absurd (omega (
+          arith,
+          at-most (r .signal) (at .inside),
+          parts a (r .signal),
+          pieces-in wires (suc (suc (length (slots n)))) (n .cells) c (o .place) (r .signal) q inside (o .inside) drives
+              (own a (o .place) (o .of-group .group) (record { number = r .signal; inside = at .inside; is = slot-is }) (o .inside) (o .of-group .one-of)),
+        ))
     late (of-bank b h q) =
-        absurd (omega (arith, at-most (r .signal) (at .inside), parts a (r .signal), piece-in wires (suc (suc (length (slots n)))) (n .cells) c (r .signal) inside drives,
-        bank-own a b (record { number = r .signal; inside = at .inside; is = q }) h))
+        absurd (omega (
+          arith,
+          at-most (r .signal) (at .inside),
+          parts a (r .signal),
+          piece-in wires (suc (suc (length (slots n)))) (n .cells) c (r .signal) inside drives,
+          bank-own a b (record { number = r .signal; inside = at .inside; is = q }) h,
+        ))
 
     ported : PortSlot (getD (slots n) (r .signal) noSlot) → OwnSlot n c p (r .signal)
     ported (gives k q) = absurd (omega (arith, input-free (r .signal) k (at .inside) q, some-statement))
@@ -577,8 +586,13 @@ module _ {limits : Limits} {n : Netlist} (a : Lowered limits n) where
 
         in-pll : (base : ℕ) → 2 ≤ occurs (r .signal) (cellAims wires base (pll p))
         in-pll base =
-            omega (arith, some-clock (eqb (p .output) (p .feedback)) refl, hit (p .locked) same,
-            occurs-append (r .signal) (outPart (eqb (p .output) (p .feedback))) (clockPart ++ (aim (wires (p .locked)) ∷ [])), occurs-append (r .signal) clockPart (aim (wires (p .locked)) ∷ []))
+            omega (
+              arith,
+              some-clock (eqb (p .output) (p .feedback)) refl,
+              hit (p .locked) same,
+              occurs-append (r .signal) (outPart (eqb (p .output) (p .feedback))) (clockPart ++ (aim (wires (p .locked)) ∷ [])),
+              occurs-append (r .signal) clockPart (aim (wires (p .locked)) ∷ []),
+            )
 
         twice : (base : ℕ) → 2 ≤ occurs (r .signal) (cellAims wires base (getD (n .cells) c absent))
         twice base = subst (λ (x : Cell). 2 ≤ occurs (r .signal) (cellAims wires base x)) (sym is) (in-pll base)

@@ -87,7 +87,6 @@ module _ {widest : ℕ} {D : ℕ → ℕ → Type 0} (room : 36 ≤ widest) (m :
   fit-read : {c : Context} {S : ℕ → Type 0} (w : ℕ) (r : WireRef) → (m w ≡ some r) × Sig c (r .signal) (r .width) × (r .lsb < r .width) → ((y : ℕ) → From m (Wire w ∷ []) y → S y) → Fit widest D c (readRef r) (λ e c′. Exp c′ e 1 S)
   fit-read w r h f = emit-read (one-wide room) (h .1) (omega (arith, h .2)) (f (r .signal) (record { wire = w; one-of = here refl; ref = r; is = h .0; signal = refl }))
 
-
 module _ {widest : ℕ} {D : ℕ → ℕ → Type 0} where
   pub fit-concat : {c : Context} {S : ℕ → Type 0} (ps : List ℕ) → Parts c S ps → Wide widest (length ps) → Fit widest D c (concatParts ps) (λ e c′. Exp c′ e (length ps) S)
   unfolding concatParts

@@ -232,8 +232,10 @@ module _ {widest : ℕ} {D : ℕ → ℕ → Type 0} {words : ℕ} (room : 36 �
       let r₁ = grow-ready g₁ ready in
       fit-bind (fit-vector room m {S = Any} (p .input) 0 (length (p .input)) r₁ (omega (arith, k, wide .0), omega (arith, k, wide .1)) (λ y q. tt)) (λ d c₂ g₂ hd.
       fit-bind (fit-asserted room m {S = Any} (grow-ready g₂ r₁) (p .write) (λ y q. tt)) (λ y c₃ g₃ hy.
-      fit-pure (second (record { write-address = grow-exp g₃ (grow-exp g₂ ha); write-data = subst (λ (j : ℕ). Exp c₃ d j Any) k (grow-exp g₃ hd); write-asserted = hy; read-address = grow-exp g₃ (grow-exp g₂ ha) }),
-      (control-level limits (p .readEnable) (sh .readEnable), su)))))
+      fit-pure (
+        second (record { write-address = grow-exp g₃ (grow-exp g₂ ha); write-data = subst (λ (j : ℕ). Exp c₃ d j Any) k (grow-exp g₃ hd); write-asserted = hy; read-address = grow-exp g₃ (grow-exp g₂ ha) }),
+        (control-level limits (p .readEnable) (sh .readEnable), su),
+      ))))
 
   pub fit-block-ram : (limits : Limits) (owner : ℕ) (r : BlockRam) {c : Context} → FitsBlockRam limits r → Ready words c m → Sig c (z .zero .0) 1 → Sig c (z .one .0) 1 → WideAs m (getD (r .output) 0 0) (r .width) → SecondSuits D words m (r .width) (r .second)
       → Fit widest D c (emitBlockRam m z owner r) (λ x c′. Unit {0})

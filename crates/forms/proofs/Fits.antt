@@ -109,15 +109,20 @@ module _ {widest : ℕ} {D : ℕ → ℕ → Type 0} {c : Context} where
   fit-refuse = record { fit = λ n q. (tt, tt) }
 
   pub fit-new : {x : Expr} {S : ℕ → Type 0} → GoodExpr widest D c x → ((y : ℕ) → Mem y (readsExpr (c .reads) x) → S y) → Fit widest D c (emit x) (λ e c′. New c x S e c′)
-  fit-new {x} {S} h f = record { fit = λ n q. ((h, tt), record {
-    exp = record {
-      typed = subst (λ (i : ℕ). At (c .exprs ++ (exprWidth x ∷ [])) i (exprWidth x)) (sym (q .exprs)) (at-new (c .exprs) (exprWidth x));
-      recorded = omega (arith, q .reads, length-append (c .reads) (readsExpr (c .reads) x ∷ []));
-      only = λ y m. f y (subst (λ (l : List ℕ). Mem y l) (ap (λ (i : ℕ). getD (c .reads ++ (readsExpr (c .reads) x ∷ [])) i []) (q .reads) ∙ getD-append-seam (c .reads) (readsExpr (c .reads) x) [] []) m);
-    };
-    number = q .exprs;
-    count = omega (arith, length-append (c .exprs) (exprWidth x ∷ []));
-  }) }
+  fit-new {x} {S} h f = record {
+    fit = λ n q. (
+      (h, tt),
+      record {
+        exp = record {
+          typed = subst (λ (i : ℕ). At (c .exprs ++ (exprWidth x ∷ [])) i (exprWidth x)) (sym (q .exprs)) (at-new (c .exprs) (exprWidth x));
+          recorded = omega (arith, q .reads, length-append (c .reads) (readsExpr (c .reads) x ∷ []));
+          only = λ y m. f y (subst (λ (l : List ℕ). Mem y l) (ap (λ (i : ℕ). getD (c .reads ++ (readsExpr (c .reads) x ∷ [])) i []) (q .reads) ∙ getD-append-seam (c .reads) (readsExpr (c .reads) x) [] []) m);
+        };
+        number = q .exprs;
+        count = omega (arith, length-append (c .exprs) (exprWidth x ∷ []));
+      },
+    );
+  }
 
   pub fit-declare : {s : Signal} → Wide widest (s .width) → Fit widest D c (declare s) (λ i c′. Sig c′ i (s .width) × (i ≡ length (c .signals)) × (c′ .exprs ≡ c .exprs))
   fit-declare {s} h = record { fit = λ n q. ((h, tt), (subst (λ (i : ℕ). At (c .signals ++ (s .width ∷ [])) i (s .width)) (sym (q .signals)) (at-new (c .signals) (s .width)), q .signals, refl)) }

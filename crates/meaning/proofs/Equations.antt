@@ -199,7 +199,7 @@ module _ {K : Type 0} (κ : K → Tick) (Ω : K → Values) (m : Wires) where
       settles-bind (row-equation (u .row1) (u .init1) (u .inject1) (u .sum1) e₁ (λ k. row0 (now (κ k) m) u .carry) four₁ small₁ b₂ (λ k. r₀ k .carry-is)) (λ e₂ env₃ k₃ r₁.
       settles-so (assign-settles κ Ω m (u .carry) (λ k. r₁ k .carry-is)) (λ x env₄ k₄ d k. record { sum0-is = r₀ k .sum-is; sum1-is = r₁ k .sum-is; carry-is = d k }))))
 
--- JTAGG AND PLL
+  -- JTAGG AND PLL
 
   pub all-equation : (ws : List ℕ) {e : ℕ} {v : K → Bits} {env : K → Values} → ((k : K) → Is (env k) e (v k)) → Settles κ Ω env (assignAll m ws e) (λ u env′. (k : K) → AllDriven (κ k .before) m ws (v k))
   unfolding assignAll

@@ -264,11 +264,14 @@ module _ {n : Count} {held : List Slot} {ss : List Signal} {m : Wires} (at : At 
       → Writes n (declare s >>= k) (λ m′ es. (a : Adds (held ++ (x ∷ [])) ss m′ es) × (a .new ≡ s ∷ []))
   reserve-known x s k f g =
       writes-bind (writes-declare {P = λ i es. (i ≡ length held) × Only (s ∷ []) es} (at .here ∙ sym (mapping-count h), only-one s)) (λ i es p.
-      writes-so (g i (further n es)) (λ m′ fs q. (record {
-        new = s ∷ [];
-        only = only-append (p .1) (q .1);
-        mapping = mapping-more h x s m′ f (subst (λ (j : ℕ). Inserted m j (length (x .bits)) (x .bits) m′) (p .0) (q .0));
-      }, refl)))
+      writes-so (g i (further n es)) (λ m′ fs q. (
+        record {
+          new = s ∷ [];
+          only = only-append (p .1) (q .1);
+          mapping = mapping-more h x s m′ f (subst (λ (j : ℕ). Inserted m j (length (x .bits)) (x .bits) m′) (p .0) (q .0));
+        },
+        refl,
+      )))
 
   reserve-bits : (x : Slot) (s : Signal) (k : ℕ → Writer Wires) → SignalFits x s → ((i : ℕ) (n′ : Count) → Writes n′ (k i) (λ m′ es. Inserted m i (length (x .bits)) (x .bits) m′ × Only [] es))
       → Writes n (declare s >>= k) (λ m′ es. Adds (held ++ (x ∷ [])) ss m′ es)
@@ -385,11 +388,14 @@ unfolding reservePorts
 reserve-ports p k [] {held = held} {ss} at h = writes-pure (record { new = []; only = only-none; mapping = mapping-as (sym (append-nil held)) (sym (append-nil ss)) h }, refl)
 reserve-ports p k (port ∷ ports) {n} {held} {ss} at h =
     writes-bind (reserve-port p k port at h) (λ m₁ es a.
-    writes-so (reserve-ports (suc p) next ports (at-more n ss (a .0 .new) es at (a .0 .only)) (a .0 .mapping)) (λ m₂ fs b. (record {
-      new = a .0 .new ++ b .0 .new;
-      only = only-append (a .0 .only) (b .0 .only);
-      mapping = mapping-as (append-assoc held (portSlots (port ∷ []) k) (portSlots ports next) ∙ ap (λ (l : List Slot). held ++ l) (joined (eqb (port .direction) 1))) (append-assoc ss (a .0 .new) (b .0 .new)) (b .0 .mapping);
-    }, ap₂ (λ (x y : List Signal). x ++ y) (a .1) (b .1))))
+    writes-so (reserve-ports (suc p) next ports (at-more n ss (a .0 .new) es at (a .0 .only)) (a .0 .mapping)) (λ m₂ fs b. (
+      record {
+        new = a .0 .new ++ b .0 .new;
+        only = only-append (a .0 .only) (b .0 .only);
+        mapping = mapping-as (append-assoc held (portSlots (port ∷ []) k) (portSlots ports next) ∙ ap (λ (l : List Slot). held ++ l) (joined (eqb (port .direction) 1))) (append-assoc ss (a .0 .new) (b .0 .new)) (b .0 .mapping);
+      },
+      ap₂ (λ (x y : List Signal). x ++ y) (a .1) (b .1),
+    )))
   where
     next : ℕ
     next = pick (eqb (port .direction) 1) k (k + length (port .bits))

@@ -231,7 +231,7 @@ module _ (limits : Limits) (n : Netlist) (fits : Each (FitsCell limits) (n .cell
   model-runs {K} κ q h =
       let Ω : K → Values = λ k. evalAll (κ k .before) [] (exprsOf (rest .events)) in
       let hs : (k : K) → AllHold (κ k) (Ω k) (stmtsOf (rest .events)) = λ k. subst (λ (x : List Expr). AllHold (κ k) (evalAll (κ k .before) [] x) (stmtsOf (rest .events))) exprs-are
-          (subst (AllHold (κ k) (evalAll (κ k .before) [] (exprsOf (lowerNetlist n none-yet .events)))) stmts-are (h k)) in
+      (subst (AllHold (κ k) (evalAll (κ k .before) [] (exprsOf (lowerNetlist n none-yet .events)))) stmts-are (h k)) in
       let none : length (exprsOf es) ≡ 0 = ap length (reserved-is n m reserved .exprs) in
       subst (λ (y : End (Unit {0})). Ends y (λ u. Runs κ n m)) (ap (λ (o : Out (Unit {0})). o .end) (sym lowering-is) ∙ q)
       (settles-bind-at (λ z. emitCells m z 0 (n .cells) >>= λ u. emitBanks m z (collectFlipFlopBanks (n .cells)) >>= λ v. emitOutputs m 0 (n .ports)) {Q = λ u env′. Runs κ n m} (further none-yet es) (constants-end (further none-yet es)) (constants-settle κ Ω (λ k. []) (λ k. refl))

@@ -57,8 +57,8 @@ module _ {depth k top : ℕ} (w : Widening depth k top) where
         power = ap (λ (n : ℕ). n + n) (w .power) ∙ double k;
         at-most = omega arith;
         left = ap (λ (n : ℕ). bitsFrom (33 - (k + 1)) n depth) (add-one k)
-          ∙ sym (bits-go (33 - (k + 1)) k depth (subst (λ (n : ℕ). n < depth) (w .power) h))
-          ∙ ap (λ (n : ℕ). bitsFrom n k depth) (sym p) ∙ w .left;
+            ∙ sym (bits-go (33 - (k + 1)) k depth (subst (λ (n : ℕ). n < depth) (w .power) h))
+            ∙ ap (λ (n : ℕ). bitsFrom n k depth) (sym p) ∙ w .left;
       }
 
   pub widening-end : depth ≤ top → k ≡ addressWidth depth
@@ -76,7 +76,7 @@ miss : (x p s : ℕ) (l : List (ℕ × ℕ)) → (x ≡ p → ⊥) → lookup x 
 miss x p s l h = ap (λ (b : Bool). elim b [ true ↦ some s | false ↦ lookup x l ]) (ne-eqb x p h)
 
 pub shift-none : (p : ℕ) → (p ≡ 1 → ⊥) → (p ≡ 2 → ⊥) → (p ≡ 4 → ⊥) → (p ≡ 9 → ⊥) → (p ≡ 18 → ⊥) → 0 ≡ shiftIn (shiftOf p)
-shift-none p a b d e f = 
+shift-none p a b d e f =
     sym (ap shiftIn (miss p 1 0 ((2, 1) ∷ (4, 2) ∷ (9, 3) ∷ (18, 4) ∷ []) a ∙ miss p 2 1 ((4, 2) ∷ (9, 3) ∷ (18, 4) ∷ []) b ∙ miss p 4 2 ((9, 3) ∷ (18, 4) ∷ []) d ∙ miss p 9 3 ((18, 4) ∷ []) e ∙ miss p 18 4 [] f))
 
 -- BITS

@@ -61,7 +61,7 @@ module _ (ms vs : List ℕ) (at a b : ℕ) where
       ap (λ (k : ℕ). nodesFrom (set ms at a) (set vs at b) 0 k) (add-one at)
       ∙ nodes-snoc (set ms at a) (set vs at b) 0 at
       ∙ ap₂ (λ (l : List Node) (d : Node). l ++ (d ∷ [])) (nodes-below 0 at (omega arith))
-        (ap (λ (k : ℕ). nodeAt (set ms at a) (set vs at b) k) (zero-add at) ∙ ap₂ (λ (x y : ℕ). record { matched = x; value = y }) (getD-set-same ms at a 0 p) (getD-set-same vs at b 0 q))
+      (ap (λ (k : ℕ). nodeAt (set ms at a) (set vs at b) k) (zero-add at) ∙ ap₂ (λ (x y : ℕ). record { matched = x; value = y }) (getD-set-same ms at a 0 p) (getD-set-same vs at b 0 q))
 
 -- ONE LEVEL
 
@@ -101,14 +101,16 @@ module _ {width n : ℕ} {whole : Writer (List Node)} {e₀ : List ℕ} {t₀ : 
     module _ (more : i + 1 < n) {a : Answer Node} {e₁ : List ℕ} (h : WroteExprs e t (joinNodes width (nodeAt ms vs i) (nodeAt ms vs (i + 1))) a e₁) where
       pub levelling-step : at + at ≡ i → n ≤ length ms → n ≤ length vs → {x y : ℕ} {u : Tapes} → a ≡ Done (record { matched = x; value = y }) u
           → Levelling width n whole e₀ t₀ e₁ u (set ms at x) (set vs at y) (at + 1) (i + 2)
-      levelling-step q lm lv {x} {y} {u} d = record { does = λ s k.
-          let j : n - i - 2 ≡ n - (i + 2) = omega arith in
-          let p : nodesFrom (set ms at x) (set vs at y) (i + 2) (n - (i + 2)) ≡ nodesFrom ms vs (i + 2) (n - i - 2) =
+      levelling-step q lm lv {x} {y} {u} d = record {
+        does = λ s k.
+            let j : n - i - 2 ≡ n - (i + 2) = omega arith in
+            let p : nodesFrom (set ms at x) (set vs at y) (i + 2) (n - (i + 2)) ≡ nodesFrom ms vs (i + 2) (n - i - 2) =
             nodes-above ms vs at x y (i + 2) (n - (i + 2)) (omega arith) ∙ ap (λ (z : ℕ). nodesFrom ms vs (i + 2) z) (sym j) in
-          let r : nodesFrom (set ms at x) (set vs at y) 0 (at + 1) ≡ nodesFrom ms vs 0 at ++ (record { matched = x; value = y } ∷ []) =
+            let r : nodesFrom (set ms at x) (set vs at y) 0 (at + 1) ≡ nodesFrom ms vs 0 at ++ (record { matched = x; value = y } ∷ []) =
             nodes-put ms vs at x y (omega arith) (omega arith) in
-          subst (λ (w : Writer (List Node)). Going (lists s e₀ k) t₀ whole (lists s e₁ k) u w) (sym (ap₂ (λ (l m : List Node). muxLevel width l m) p r))
-          (going-step _ (doing .does s k) (level-more width ms vs i (n - i) (nodesFrom ms vs 0 at) (omega arith)) (h s k) d) }
+            subst (λ (w : Writer (List Node)). Going (lists s e₀ k) t₀ whole (lists s e₁ k) u w) (sym (ap₂ (λ (l m : List Node). muxLevel width l m) p r))
+            (going-step _ (doing .does s k) (level-more width ms vs i (n - i) (nodesFrom ms vs 0 at) (omega arith)) (h s k) d);
+      }
 
       pub levelling-stop : {number place : ℕ} → a ≡ Failed number place → WroteExprs e₀ t₀ whole (Failed number place) e₁
       levelling-stop d s k = going-stop _ (doing .does s k) (level-more width ms vs i (n - i) (nodesFrom ms vs 0 at) (omega arith)) (h s k) d
@@ -121,8 +123,8 @@ module _ {width n : ℕ} {whole : Writer (List Node)} {e₀ : List ℕ} {t₀ : 
         let o : (n + 1) / 2 ≡ at + 1 = omega arith in
         going-end (doing .does s k)
         (level-one width ms vs i (n - i) (nodesFrom ms vs 0 at) j
-          ∙ ap pure (sym (nodes-put ms vs at (getD ms i 0) (getD vs i 0) (omega arith) (omega arith))
-            ∙ ap (λ (m : ℕ). nodesFrom (set ms at (getD ms i 0)) (set vs at (getD vs i 0)) 0 m) (sym o)))
+        ∙ ap pure (sym (nodes-put ms vs at (getD ms i 0) (getD vs i 0) (omega arith) (omega arith))
+        ∙ ap (λ (m : ℕ). nodesFrom (set ms at (getD ms i 0)) (set vs at (getD vs i 0)) 0 m) (sym o)))
         wrote-pure
 
     pub levelling-even : n ≤ i → i ≤ n → at + at ≡ i → WroteExprs e₀ t₀ whole (Done (nodesFrom ms vs 0 ((n + 1) / 2)) t) e

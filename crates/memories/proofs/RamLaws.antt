@@ -161,12 +161,12 @@ module _ {a : PortExprs} {b : Second} {owner width aw depth : ℕ} {s₀ e₀ : 
           let made : Made (t .signals .count) (t .exprs .count) (lastOf b) w u = word-made a b owner width aw i (subst (λ (x : Answer Word). Wrote (lists s e []) t (ramWord a (secondWriting b) owner width aw i) x (lists s₁ e₁ [])) d (h [])) in
           let j : depth - i - 1 ≡ depth - (i + 1) = omega arith in
           let ws : wordsFrom (t₀ .signals .count) (t₀ .exprs .count) (lastOf b) i ++ (w ∷ []) ≡ wordsFrom (t₀ .signals .count) (t₀ .exprs .count) (lastOf b) (i + 1) =
-            ap (λ (x : Word). wordsFrom (t₀ .signals .count) (t₀ .exprs .count) (lastOf b) i ++ (x ∷ [])) (made .word ∙ ap₂ (λ (x y : ℕ). wordAt x y (lastOf b)) (doing .signals) (doing .exprs))
-            ∙ sym (words-more (t₀ .signals .count) (t₀ .exprs .count) (lastOf b) i) in
+          ap (λ (x : Word). wordsFrom (t₀ .signals .count) (t₀ .exprs .count) (lastOf b) i ++ (x ∷ [])) (made .word ∙ ap₂ (λ (x y : ℕ). wordAt x y (lastOf b)) (doing .signals) (doing .exprs))
+          ∙ sym (words-more (t₀ .signals .count) (t₀ .exprs .count) (lastOf b) i) in
           record {
             does = λ m. subst (λ (w : Writer (List Word)). Going (lists s₀ e₀ m) t₀ (ramWords a (secondWriting b) owner width aw depth 0 []) (lists s₁ e₁ m) u w)
-              (ap₂ (λ (k : ℕ) (l : List Word). ramWords a (secondWriting b) owner width aw k (i + 1) l) j ws)
-              (going-step _ (doing .does m) (ram-more a (secondWriting b) owner width aw (depth - i) i _ (omega arith)) (h m) d);
+                (ap₂ (λ (k : ℕ) (l : List Word). ramWords a (secondWriting b) owner width aw k (i + 1) l) j ws)
+                (going-step _ (doing .does m) (ram-more a (secondWriting b) owner width aw (depth - i) i _ (omega arith)) (h m) d);
             signals = let p = made .signals in let q = doing .signals in omega arith;
             exprs = made .exprs ∙ ap (λ (k : ℕ). k + (lastOf b + 1)) (doing .exprs) ∙ sym (reach-more (t₀ .exprs .count) (lastOf b) i);
             small = λ g. made .small;
@@ -237,8 +237,8 @@ module _ {address aw s last depth : ℕ} {whole : Writer (List Node)} {e₀ : Li
           let p : s + i + 1 ≡ s + (i + 1) = omega arith in
           record {
             does = λ x k. subst (λ (w : Writer (List Node)). Going (lists x e₀ k) t₀ whole (lists x e₁ k) u w)
-              (ap₂ (λ (l : List Word) (n : List Node). candidatesFrom address aw (i + 1) l n) (ap₂ (λ (m n : ℕ). wordsFrom m (q + (last + 1)) last n) p j) (sym (nodes-put ms vs i y q lm lv)))
-              (going-step _ (doing .does x k) (cand-more address aw i (s + i) q last (depth - i) (nodesFrom ms vs 0 i) (omega arith)) (h x k) d);
+                (ap₂ (λ (l : List Word) (n : List Node). candidatesFrom address aw (i + 1) l n) (ap₂ (λ (m n : ℕ). wordsFrom m (q + (last + 1)) last n) p j) (sym (nodes-put ms vs i y q lm lv)))
+                (going-step _ (doing .does x k) (cand-more address aw i (s + i) q last (depth - i) (nodesFrom ms vs 0 i) (omega arith)) (h x k) d);
             room = λ g. subst (λ (n : ℕ). reach (q + (last + 1)) last n ≤ 2147483648) j (subst (λ (n : ℕ). n ≤ 2147483648) (reach-first q last (depth - i) (omega arith)) (doing .room g));
           }
 
@@ -300,7 +300,7 @@ module _ {clock edge last depth : ℕ} {whole : Writer (Unit {0})} {m₀ : List 
           let j : depth - i - 1 ≡ depth - (i + 1) = omega arith in
           record {
             does = λ x e. subst (λ (k : ℕ). Going (lists x e m₀) t₀ whole (lists x e m₁) u (updateWords (wordsFrom (s + 1) (q + (last + 1)) last k) clock edge)) j
-              (going-step _ (doing .does x e) (up-more clock edge s q last (depth - i) (omega arith)) (h x e) d);
+                (going-step _ (doing .does x e) (up-more clock edge s q last (depth - i) (omega arith)) (h x e) d);
             signals = λ g. let p = doing .signals g in omega arith;
             exprs = λ g. subst (λ (n : ℕ). reach (q + (last + 1)) last n ≤ 2147483648) j (subst (λ (n : ℕ). n ≤ 2147483648) (reach-first q last (depth - i) (omega arith)) (doing .exprs g));
           }

@@ -166,13 +166,7 @@ pub fn candidates(
 }
 
 // The words' registers.
-pub fn update_words(
-    stmts: &mut [u32],
-    t: Tapes,
-    words: Words,
-    clock: SignalId,
-    edge: u32,
-) -> Stated
+pub fn update_words(stmts: &mut [u32], t: Tapes, words: Words, clock: SignalId, edge: u32) -> Stated
     requires { ⌜ Spaced words ⌝ }
     ensures { λ r. ⌜ WroteStmts (now (stmts .entry)) t (updateWords (wordsOf words) (clock .0) edge) (stated r) (now (stmts .exit)) ⌝ }
 {

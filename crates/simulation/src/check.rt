@@ -131,7 +131,11 @@ fn drivers(stmts: &[u32], table: &[u8], n: usize) -> u8
     requires { ⌜ Tallied (recordsIn (now stmts)) (now table) ⌝ }
     ensures { λ r. ⌜ r ≡ min (countOf (drives n) (recordsIn (now (stmts .entry)))) 2 ⌝ }
 {
-    if n < table.len() { table[n] } else { count_drivers(stmts, n) }
+    if n < table.len() {
+        table[n]
+    } else {
+        count_drivers(stmts, n)
+    }
 }
 
 // The signal at an index, on which k statements stand.

@@ -122,7 +122,11 @@ pub fn width(list: &[u32], table: &[u32], i: usize) -> u32
     requires { ⌜ Listed (widthsIn (now list)) (now table) × (i < length (recordsIn (now list))) ⌝ }
     ensures { λ r. ⌜ r ≡ getD (widthsIn (now (list .entry))) i 0 ⌝ }
 {
-    if i < table.len() { table[i] } else { walk_to(list, i) }
+    if i < table.len() {
+        table[i]
+    } else {
+        walk_to(list, i)
+    }
 }
 
 // Fills the table with the first widths.

@@ -26,9 +26,11 @@ module _ {m : Wires} {bits : List Bit} {at : ℕ} {whole : Writer ℕ} {end : �
       more = vector-more m bits at left (take (end - left) parts) some ∙ ap (λ (b : Bit). bitExpression m b >>= λ x. vectorLeft m bits at (left - 1) (take (end - left) parts ++ (x ∷ []))) (sym (is ∙ ap (λ (j : ℕ). vectorBit bits j) here))
 
       pub doing-step : left ≤ end → end ≤ length parts → {x : ℕ} {u : Tapes} → a ≡ Done x u → Doing m bits at whole end e₀ t₀ e₁ u (left - 1) (set parts (end - 1 - (left - 1)) x)
-      doing-step g room {x} {u} d = record { does = λ s k.
-          subst (λ (l : List ℕ). Going (lists s e₀ k) t₀ whole (lists s e₁ k) u (vectorLeft m bits at (left - 1) l)) (sym (parts-step parts end left x room g some))
-          (going-step _ (doing .does s k) more (h s k) d) }
+      doing-step g room {x} {u} d = record {
+        does = λ s k.
+            subst (λ (l : List ℕ). Going (lists s e₀ k) t₀ whole (lists s e₁ k) u (vectorLeft m bits at (left - 1) l)) (sym (parts-step parts end left x room g some))
+            (going-step _ (doing .does s k) more (h s k) d);
+      }
 
       pub doing-stop : {number place : ℕ} → a ≡ Failed number place → WroteExprs e₀ t₀ whole a e₁
       doing-stop d s k = going-same _ (doing .does s k) more (h s k) d
