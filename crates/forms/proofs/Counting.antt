@@ -383,10 +383,10 @@ module _ {limits : Limits} {n : Netlist} (a : Lowered limits n) where
       (subst (λ (s : ℕ). Mem s (cellAims m base (getD (n .cells) c absent))) (aim-is (pins c (g .pin)) (g .wires) p (group-some limits (getD (n .cells) c absent) g f q)) (cell-drives limits m base (getD (n .cells) c absent) g f q))
 
   -- banks
-  leader-first : (b : Bank) → Begins (b .leader) (b .members) → getD (outputsOf (b .members)) 0 0 ≡ b .leader .flop .output
+  pub leader-first : (b : Bank) → Begins (b .leader) (b .members) → getD (outputsOf (b .members)) 0 0 ≡ b .leader .flop .output
   leader-first b f = ap (λ (l : List Member). getD (outputsOf l) 0 0) (f .1)
 
-  leader-there : (b : Bank) → Begins (b .leader) (b .members) → 1 ≤ length (outputsOf (b .members))
+  pub leader-there : (b : Bank) → Begins (b .leader) (b .members) → 1 ≤ length (outputsOf (b .members))
   leader-there b f = subst (λ (l : List Member). 1 ≤ length (outputsOf l)) (sym (f .1)) (omega arith)
 
   bank-aim : (bs : List Bank) (b : Bank) → Mem b bs → Mem (aim (m (b .leader .flop .output))) (bankAims m bs)
@@ -475,7 +475,7 @@ module _ {limits : Limits} {n : Netlist} (a : Lowered limits n) where
   abbrev wires : Wires
   wires = a .wires
 
-  slot-signal : (s : ℕ) → s < length (slots n) → getD (loweredModel n .signals) s noSignal ≡ getD (slot-signals a) s noSignal
+  pub slot-signal : (s : ℕ) → s < length (slots n) → getD (loweredModel n .signals) s noSignal ≡ getD (slot-signals a) s noSignal
   slot-signal s h = ap (λ (l : List Signal). getD l s noSignal) (signals-are a) ∙ List·getD-append (slot-signals a) (netlistWords n) noSignal s (omega (arith, h, slot-count a))
 
   pub slots-within : length (slots n) ≤ length (loweredModel n .signals)

@@ -7,3 +7,4 @@ pub mod Fits
 pub mod FitCells
 pub mod FitRams
 pub mod FitLower
+pub mod Suiting

@@ -4,3 +4,4 @@ pub mod Acts
 pub mod Lowered
 pub mod Typed
 pub mod Suits
+pub mod Dependent
