@@ -158,13 +158,16 @@ module _ {limits : Limits} {n : Netlist} (a : Lowered limits n) where
             sym (wire-inside (p .locked) w (ap₂ (λ (bs : List Bit) (i : ℕ). getD bs i Zero) (sym bits-are) (sym low) ∙ l .is))
 
     clock-suits : (w : ℕ) → Mem w (p .feedback ∷ p .output ∷ p .more) → Suits D words m w 1 (From m (p .reference ∷ []))
-    clock-suits w h = record { width = pll-wide w (is-clock w h); may = λ r e y q.
-        let o = own-slot w (is-clock w h) r e in
-        let pw = pin-wire (pllWires p) 0 (o .group) (o .one-of) in
-        a-wire (q .wire) (q .ref) (q .is) (q .signal) (λ v r₂ e₂ z.
-        subst (λ (d : Driver). Mem (q .wire) (driverReads (n .cells) d)) (sym (driven-by c (o .group) v r₂ e₂ (ap (λ (i : ℕ). getD (slots n) i noSlot) z ∙ o .slot)))
-        (subst (λ (u : Cell). Mem (q .wire) (wiresOf (depends u (o .group .pin + r₂ .lsb)))) (sym is)
-        (subst (λ (b : Bool). Mem (q .wire) (wiresOf (pick b [] (p .reference ∷ [])))) (sym (first-bit r e (o .group .pin) (r₂ .lsb) (low r₂ v e₂ (ap (λ (i : ℕ). getD (slots n) i noSlot) z ∙ o .slot ∙ ap (λ (ws : List ℕ). record { source = pins c (o .group .pin); bits = map Wire ws }) (pw .1))) (clock-pin w h r e))) (q .one-of)))) }
+    clock-suits w h = record {
+      width = pll-wide w (is-clock w h);
+      may = λ r e y q.
+          let o = own-slot w (is-clock w h) r e in
+          let pw = pin-wire (pllWires p) 0 (o .group) (o .one-of) in
+          a-wire (q .wire) (q .ref) (q .is) (q .signal) (λ v r₂ e₂ z.
+          subst (λ (d : Driver). Mem (q .wire) (driverReads (n .cells) d)) (sym (driven-by c (o .group) v r₂ e₂ (ap (λ (i : ℕ). getD (slots n) i noSlot) z ∙ o .slot)))
+          (subst (λ (u : Cell). Mem (q .wire) (wiresOf (depends u (o .group .pin + r₂ .lsb)))) (sym is)
+          (subst (λ (b : Bool). Mem (q .wire) (wiresOf (pick b [] (p .reference ∷ [])))) (sym (first-bit r e (o .group .pin) (r₂ .lsb) (low r₂ v e₂ (ap (λ (i : ℕ). getD (slots n) i noSlot) z ∙ o .slot ∙ ap (λ (ws : List ℕ). record { source = pins c (o .group .pin); bits = map Wire ws }) (pw .1))) (clock-pin w h r e))) (q .one-of))));
+    }
       where
         low : (r₂ : Ref) (v : ℕ) → m v ≡ some r₂ → {k u : ℕ} → getD (slots n) (r₂ .signal) noSlot ≡ record { source = pins c k; bits = Wire u ∷ [] } → r₂ .lsb ≡ 0
         low r₂ v e₂ s = omega (arith, at-wire v r₂ e₂ .within, ap (λ (y : Slot). length (y .bits)) s)
