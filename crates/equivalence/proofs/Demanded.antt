@@ -40,6 +40,7 @@ use Rattle.simulation.proofs.Kept.{fits-cut, fits-tick, accepted-good, length-k
 use Rattle.meaning.specs.Held.{refBit, held}
 use Rattle.meaning.specs.Mapped.{LabelFits, SignalsFit, SignalFits, noSlot, portSignals}
 use Rattle.meaning.specs.Runs.{Laid}
+use Rattle.memories.specs.Memories.{wordSignal}
 use Rattle.forms.specs.Acts.{aim, cellWords, allWords, netlistWords}
 use Rattle.forms.specs.Lowered.{loweredModel, Lowered, Roomy}
 use Rattle.forms.proofs.Slots.{Late, of-cell, of-bank, ports-within, slot-late}
@@ -151,8 +152,8 @@ words-hidden c (x ∷ xs) = each-append (λ (s : Signal). 2 ≤ s .label) (cellW
     go (ccu2c u) = tt
     go (multiplier l r p) = tt
     go (flipFlop f) = tt
-    go (blockRam r) = each-same (λ (s : Signal). 2 ≤ s .label) (r .depth) _ (omega arith)
-    go (distributedRam r) = each-same (λ (s : Signal). 2 ≤ s .label) 16 _ (omega arith)
+    go (blockRam r) = each-same (λ (s : Signal). 2 ≤ s .label) (r .depth) (wordSignal (r .width) c) (omega arith)
+    go (distributedRam r) = each-same (λ (s : Signal). 2 ≤ s .label) 16 (wordSignal 4 c) (omega arith)
     go (io p d i t) = tt
     go (jtagg o) = tt
     go (pll p) = tt
@@ -202,7 +203,7 @@ module _ {limits : Limits} {n : Netlist} (a : Lowered limits n) {widest : ℕ} (
   -- the start
   at-start : (size : ℕ) → signalBytes (loweredModel n) ≤ size → Good (replicate size 0) (start n)
   at-start size h = record {
-    long = omega (arith, h, length-replicate size 0);
+    long = omega (arith, h, length-replicate {A = ℕ} size 0);
     bits = zero-bytes (signalBytes (loweredModel n)) size;
     regs = all-initial (at [] (stateOf (replicate size 0))) (a .wires) (all-false (M .signals) size) (n .cells) (runs a r .words) (runs a r .laid);
     shows = ap (λ (ss : List Signal). shownBytes ss (replicate size 0)) (all-signals a r) ∙ zeros-shown (n .ports) 0 rest size (subst (λ (ss : List Signal). total (λ (s : Signal). s .width) ss ≤ size) (all-signals a r) h) rest-hidden;

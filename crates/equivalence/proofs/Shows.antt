@@ -7,7 +7,7 @@ use mathlib.Core.Option.{Option, none, some, Option·some-ne-none}
 use Prim.Native.Nat.{ℕ, zero, suc, _+_, _≤_, _<_}
 use native.Mathlib.Omega.{arith}
 use lib.Dec.{eqb, leb}
-use lib.ListN.{length, getD, take, drop, replicate, length-drop}
+use lib.ListN.{length, getD, take, drop, replicate, length-drop, length-replicate}
 use borrow.Author.Tests.{eq-eqb, ne-eqb, leb-true}
 use Rattle.bits.specs.Bits.{pick, Bits, digit}
 use Rattle.settle.specs.Table.{at}
@@ -146,7 +146,7 @@ zeros-shown (x ∷ ports) p rest size h q = go (λ j k. zeros-shown ports (suc p
     d = drop-zeros (length (x .bits)) size
 
     left : length (x .bits) + total (λ (s : Signal). s .width) (portSignals (suc p) ports ++ rest) ≤ size → total (λ (s : Signal). s .width) (portSignals (suc p) ports ++ rest) ≤ d .0
-    left k = omega (arith, k, ap length (d .1), length-drop (length (x .bits)) (replicate size 0), lib.ListN.length-replicate size 0, lib.ListN.length-replicate (d .0) 0)
+    left k = omega (arith, k, ap length (d .1), length-drop {A = ℕ} (length (x .bits)) (replicate size 0), length-replicate {A = ℕ} size 0, length-replicate {A = ℕ} (d .0) 0)
 
     later : length (x .bits) + total (λ (s : Signal). s .width) (portSignals (suc p) ports ++ rest) ≤ size → ((j : ℕ) → total (λ (s : Signal). s .width) (portSignals (suc p) ports ++ rest) ≤ j → shownBytes (portSignals (suc p) ports ++ rest) (replicate j 0) ≡ bytesOf (map (λ (bits : List Bit). zeros (length bits)) (outputPorts ports)))
         → shownBytes (portSignals (suc p) ports ++ rest) (drop (length (x .bits)) (replicate size 0)) ≡ bytesOf (map (λ (bits : List Bit). zeros (length bits)) (outputPorts ports))
