@@ -208,7 +208,7 @@ module _ (m : Wires) (p : Pll) (base : ℕ) where
       one (inl e) = same (p .feedback) e feedback-driven
       one (inr x) = two (cases-cons x)
 
-only-one : {A : Type 0} {a b : A} → Mem a (b ∷ []) → a ≡ b
+pub only-one : {A : Type 0} {a b : A} → Mem a (b ∷ []) → a ≡ b
 only-one {A} {a} {b} m = go (cases-cons m)
   where
     go : (a ≡ b) ⊎ Mem a [] → a ≡ b
@@ -297,7 +297,7 @@ module _ {limits : Limits} {n : Netlist} (a : Lowered limits n) where
   pub kept : Reserved n m (reserveNetlist n none-yet .events)
   kept = reserved-is n m (a .reserved)
 
-  pub slot-signals : List Signal
+  unfoldable pub slot-signals : List Signal
   slot-signals = portSignals 0 (n .ports) ++ kept .more
 
   pub mapping : Mapping (slots n) slot-signals m
@@ -328,11 +328,11 @@ module _ {limits : Limits} {n : Netlist} (a : Lowered limits n) where
   unfolding emission
   targets-are = ap targets (stmts-are limits n cellFits m (a .reserved)) ∙ emitted .stmts
 
-  slot-count : length slot-signals ≡ length (slots n)
+  pub slot-count : length slot-signals ≡ length (slots n)
   slot-count = sym (mapping-count mapping)
 
   -- statements on a signal
-  pub on-signal : ℕ → ℕ
+  unfoldable pub on-signal : ℕ → ℕ
   on-signal s = occurs s (netlistAims m (length (slots n)) n)
 
   few : (s : ℕ) → s < length (loweredModel n .signals) → on-signal s ≤ allowed (getD (loweredModel n .signals) s noSignal)
@@ -650,7 +650,7 @@ port-driven p (x ∷ ports) (suc i) h = go (port-driven (suc p) ports i (omega a
         let q′ : 1 ≤ occurs (p + suc i) (portAims (suc p) ports) = subst (λ (k : ℕ). 1 ≤ occurs k (portAims (suc p) ports)) z q in
         inr (omega (arith, occurs-append (p + suc i) (pick (eqb (x .direction) 1) (p ∷ []) []) (portAims (suc p) ports), q′))
 
-ports-long : (p : ℕ) (ports : List Port) → length (portSignals p ports) ≡ length ports
+pub ports-long : (p : ℕ) (ports : List Port) → length (portSignals p ports) ≡ length ports
 ports-long p [] = refl
 ports-long p (x ∷ ports) = ap suc (ports-long (suc p) ports)
 
@@ -661,7 +661,7 @@ module _ {limits : Limits} {n : Netlist} (a : Lowered limits n) where
   pub signals-count : length (loweredModel n .signals) ≡ signalCount n
   signals-count = omega (arith, ap length (signals-are a), length-append (slot-signals a) (netlistWords n), slot-count a, words-length 0 (n .cells))
 
-  port-signal : (s : ℕ) → s < length (n .ports) → getD (loweredModel n .signals) s noSignal ≡ getD (portSignals 0 (n .ports)) s noSignal
+  pub port-signal : (s : ℕ) → s < length (n .ports) → getD (loweredModel n .signals) s noSignal ≡ getD (portSignals 0 (n .ports)) s noSignal
   unfolding slot-signals
   port-signal s h =
       slot-signal a s (omega (arith, h, ports-within n)) ∙ List·getD-append (portSignals 0 (n .ports)) (kept a .more) noSignal s (omega (arith, h, ports-long 0 (n .ports)))

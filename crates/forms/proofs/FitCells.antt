@@ -62,12 +62,13 @@ pub record Ready (words : ℕ) (c : Context) (m : Wires) : Type 0 where
   pub wired : Wired c m
   pub based : Based c
   pub many : words ≤ length (c .signals)
+  pub under : (w : ℕ) (r : WireRef) → m w ≡ some r → r .signal < words
 
 pub grow-based : {c c′ : Context} → Grows c c′ → Based c → Based c′
 grow-based g b = record { zero-is = grow-exp g (b .zero-is); one-is = grow-exp g (b .one-is) }
 
 pub grow-ready : {words : ℕ} {c c′ : Context} {m : Wires} → Grows c c′ → Ready words c m → Ready words c′ m
-grow-ready g r = record { wired = λ w x q. (grow-sig g (r .wired w x q .0), r .wired w x q .1); based = grow-based g (r .based); many = omega (arith, r .many, g .many) }
+grow-ready g r = record { wired = λ w x q. (grow-sig g (r .wired w x q .0), r .wired w x q .1); based = grow-based g (r .based); many = omega (arith, r .many, g .many); under = r .under }
 
 pub zero-exp : {c : Context} {S : ℕ → Type 0} → Based c → Exp c 0 1 S
 zero-exp b = exp-so (λ y h. absurd h) (b .zero-is)
@@ -83,77 +84,77 @@ small room w l h = (l, omega (arith, h, room))
 
 -- READING WIRES
 
-module _ {widest : ℕ} {D : ℕ → ℕ → Type 0} (room : 36 ≤ widest) (m : Wires) where
-  fit-read : {c : Context} {S : ℕ → Type 0} (w : ℕ) (r : WireRef) → (m w ≡ some r) × Sig c (r .signal) (r .width) × (r .lsb < r .width) → ((y : ℕ) → From m (Wire w ∷ []) y → S y) → Fit widest D c (readRef r) (λ e c′. Exp c′ e 1 S)
+module _ {widest words : ℕ} {D : ℕ → ℕ → Type 0} (room : 36 ≤ widest) (m : Wires) where
+  fit-read : {c : Context} {S : ℕ → Type 0} (w : ℕ) (r : WireRef) → (m w ≡ some r) × Sig c (r .signal) (r .width) × (r .lsb < r .width) → ((y : ℕ) → From m (Wire w ∷ []) y → S y) → Fit widest words D c (readRef r) (λ e c′. Exp c′ e 1 S)
   fit-read w r h f = emit-read (one-wide room) (h .1) (omega (arith, h .2)) (f (r .signal) (record { wire = w; one-of = here refl; ref = r; is = h .0; signal = refl }))
 
-module _ {widest : ℕ} {D : ℕ → ℕ → Type 0} where
-  pub fit-concat : {c : Context} {S : ℕ → Type 0} (ps : List ℕ) → Parts c S ps → Wide widest (length ps) → Fit widest D c (concatParts ps) (λ e c′. Exp c′ e (length ps) S)
+module _ {widest words : ℕ} {D : ℕ → ℕ → Type 0} where
+  pub fit-concat : {c : Context} {S : ℕ → Type 0} (ps : List ℕ) → Parts c S ps → Wide widest (length ps) → Fit widest words D c (concatParts ps) (λ e c′. Exp c′ e (length ps) S)
   unfolding concatParts
   fit-concat [] h w = absurd (omega (arith, w .0))
   fit-concat (e ∷ []) (part x h) w = fit-pure x
   fit-concat (e ∷ f ∷ es) h w = emit-concat w refl h
 
-module _ {widest : ℕ} {D : ℕ → ℕ → Type 0} {words : ℕ} (room : 36 ≤ widest) (m : Wires) where
-  pub fit-ref : {c : Context} → Ready words c m → (w : ℕ) → Fit widest D c (wireRef m w) (λ r c′. (m w ≡ some r) × Sig c′ (r .signal) (r .width) × (r .lsb < r .width))
+module _ {widest words : ℕ} {D : ℕ → ℕ → Type 0} (room : 36 ≤ widest) (m : Wires) where
+  pub fit-ref : {c : Context} → Ready words c m → (w : ℕ) → Fit widest words D c (wireRef m w) (λ r c′. (m w ≡ some r) × Sig c′ (r .signal) (r .width) × (r .lsb < r .width))
   unfolding wireRef
   fit-ref {c} ready w = go (m w) refl
     where
-      go : (o : Option WireRef) → m w ≡ o → Fit widest D c (refOf o w) (λ r c′. (m w ≡ some r) × Sig c′ (r .signal) (r .width) × (r .lsb < r .width))
+      go : (o : Option WireRef) → m w ≡ o → Fit widest words D c (refOf o w) (λ r c′. (m w ≡ some r) × Sig c′ (r .signal) (r .width) × (r .lsb < r .width))
       go none q = fit-refuse
       go (some r) q = fit-pure (q, ready .wired w r q .0, ready .wired w r q .1)
 
-  pub fit-bit : {c : Context} {S : ℕ → Type 0} → Ready words c m → (b : Bit) → ((y : ℕ) → From m (b ∷ []) y → S y) → Fit widest D c (bitExpression m b) (λ e c′. Exp c′ e 1 S)
+  pub fit-bit : {c : Context} {S : ℕ → Type 0} → Ready words c m → (b : Bit) → ((y : ℕ) → From m (b ∷ []) y → S y) → Fit widest words D c (bitExpression m b) (λ e c′. Exp c′ e 1 S)
   unfolding bitExpression
   fit-bit ready Zero f = fit-pure (zero-exp (ready .based))
   fit-bit ready One f = fit-pure (one-exp (ready .based))
   fit-bit ready (Wire w) f = fit-bind (fit-ref ready w) (λ r c₁ g h. fit-read room m w r h f)
 
-  pub fit-signal : {c : Context} {z : Constants} → Ready words c m → Sig c (z .zero .0) 1 → Sig c (z .one .0) 1 → (b : Bit) → Fit widest D c (bitSignal m z b) (λ s c′. Sig c′ s 1)
+  pub fit-signal : {c : Context} {z : Constants} → Ready words c m → Sig c (z .zero .0) 1 → Sig c (z .one .0) 1 → (b : Bit) → Fit widest words D c (bitSignal m z b) (λ s c′. Sig c′ s 1)
   unfolding bitSignal
   fit-signal ready hz ho Zero = fit-pure hz
   fit-signal ready hz ho One = fit-pure ho
   fit-signal ready hz ho (Wire w) = fit-bind (fit-ref ready w) (λ r c₁ g h.
-      by-test (λ (x : Writer ℕ). Fit widest D c₁ x (λ s c′. Sig c′ s 1)) (whole r)
+      by-test (λ (x : Writer ℕ). Fit widest words D c₁ x (λ s c′. Sig c′ s 1)) (whole r)
       (λ q. fit-pure (subst (λ (k : ℕ). Sig c₁ (r .signal) k) (eqb-true (r .width) 1 (right (eqb (r .lsb) 0) (eqb (r .width) 1) q)) (h .1))) (λ q. fit-refuse))
     where
       right : (a b : Bool) → a && b ≡ true → b ≡ true
       right true b q = q
       right false b q = absurd (false≢true q)
 
-  pub fit-asserted : {c : Context} {S : ℕ → Type 0} → Ready words c m → (k : Control) → ((y : ℕ) → From m (k .signal ∷ []) y → S y) → Fit widest D c (assertedExpression m k) (λ e c′. Exp c′ e 1 S)
+  pub fit-asserted : {c : Context} {S : ℕ → Type 0} → Ready words c m → (k : Control) → ((y : ℕ) → From m (k .signal ∷ []) y → S y) → Fit widest words D c (assertedExpression m k) (λ e c′. Exp c′ e 1 S)
   unfolding assertedExpression
-  fit-asserted {S = S} ready k f = fit-bind (fit-bit ready (k .signal) f) (λ e c₁ g h. by-test (λ (x : Writer ℕ). Fit widest D c₁ x (λ s c′. Exp c′ s 1 S)) (eqb (k .active) 1) (λ q. fit-pure h) (λ q. emit-not h))
+  fit-asserted {S = S} ready k f = fit-bind (fit-bit ready (k .signal) f) (λ e c₁ g h. by-test (λ (x : Writer ℕ). Fit widest words D c₁ x (λ s c′. Exp c′ s 1 S)) (eqb (k .active) 1) (λ q. fit-pure h) (λ q. emit-not h))
 
   fit-parts : {S : ℕ → Type 0} (bits : List Bit) (at k : ℕ) (ps : List ℕ) {c : Context} → Ready words c m → ((y : ℕ) → From m bits y → S y) → Parts c S ps
-      → Fit widest D c (vectorParts m bits at k ps) (λ qs c′. Parts c′ S qs × (length qs ≡ length ps + k))
+      → Fit widest words D c (vectorParts m bits at k ps) (λ qs c′. Parts c′ S qs × (length qs ≡ length ps + k))
   unfolding vectorParts
   fit-parts bits at zero ps ready f h = fit-pure (h, omega arith)
   fit-parts bits at (suc k) ps ready f h =
       fit-bind (fit-bit ready (getD bits (at + k) Zero) (λ y q. f y (from-at bits (at + k) q))) (λ e c₁ g x.
       fit-so (fit-parts bits at k (ps ++ (e ∷ [])) (grow-ready g ready) f (parts-snoc (grow-parts g h) x)) (λ qs c₂ g₂ r. (r .0, omega (arith, r .1, length-append ps (e ∷ [])))))
 
-  pub fit-vector : {S : ℕ → Type 0} (bits : List Bit) (at k : ℕ) {c : Context} → Ready words c m → Wide widest k → ((y : ℕ) → From m bits y → S y) → Fit widest D c (vectorExpression m bits at k) (λ e c′. Exp c′ e k S)
+  pub fit-vector : {S : ℕ → Type 0} (bits : List Bit) (at k : ℕ) {c : Context} → Ready words c m → Wide widest k → ((y : ℕ) → From m bits y → S y) → Fit widest words D c (vectorExpression m bits at k) (λ e c′. Exp c′ e k S)
   unfolding vectorExpression
   fit-vector {S} bits at k {c} ready w f =
       fit-bind (fit-parts bits at k [] ready f no-part) (λ qs c₁ g h.
-      subst (λ (j : ℕ). Fit widest D c₁ (concatParts qs) (λ e c′. Exp c′ e j S)) (let p : length qs ≡ k = omega (arith, h .1) in p)
+      subst (λ (j : ℕ). Fit widest words D c₁ (concatParts qs) (λ e c′. Exp c′ e j S)) (let p : length qs ≡ k = omega (arith, h .1) in p)
       (fit-concat qs (h .0) (omega (arith, h .1, w .0), omega (arith, h .1, w .1))))
 
-  pub fit-reads : {S : ℕ → Type 0} (bits : List Bit) (ps : List ℕ) {c : Context} → Ready words c m → ((y : ℕ) → From m bits y → S y) → Parts c S ps → Fit widest D c (readBits m bits ps) (λ qs c′. Parts c′ S qs)
+  pub fit-reads : {S : ℕ → Type 0} (bits : List Bit) (ps : List ℕ) {c : Context} → Ready words c m → ((y : ℕ) → From m bits y → S y) → Parts c S ps → Fit widest words D c (readBits m bits ps) (λ qs c′. Parts c′ S qs)
   unfolding readBits
   fit-reads [] ps ready f h = fit-pure h
   fit-reads (b ∷ bs) ps ready f h = fit-bind (fit-bit ready b (λ y q. f y (from-left bs q))) (λ e c₁ g x. fit-reads bs (ps ++ (e ∷ [])) (grow-ready g ready) (λ y q. f y (from-right (b ∷ []) q)) (parts-snoc (grow-parts g h) x))
 
-  pub fit-assign : {S : ℕ → Type 0} (w : ℕ) {e v : ℕ} {c : Context} → Ready words c m → Suits D words m w v S → Exp c e v S → Fit widest D c (assignWire m w e) (λ x c′. Unit {0})
+  pub fit-assign : {S : ℕ → Type 0} (w : ℕ) {e v : ℕ} {c : Context} → Ready words c m → Suits D words m w v S → Exp c e v S → Fit widest words D c (assignWire m w e) (λ x c′. Unit {0})
   unfolding assignWire
   fit-assign w {e} {v} ready s h = fit-bind (fit-ref ready w) (λ r c₁ g x.
-      fit-state (v, subst (λ (k : ℕ). Sig c₁ (r .signal) k) (s .width r (x .0)) (x .1), exp-so (s .may r (x .0)) (grow-exp g h)))
+      fit-state (v, subst (λ (k : ℕ). Sig c₁ (r .signal) k) (s .width r (x .0)) (x .1), exp-so (s .may r (x .0)) (grow-exp g h), ready .under w r (x .0)))
 
 -- THE REWRITES
 
-module _ {widest : ℕ} {D : ℕ → ℕ → Type 0} (room : 36 ≤ widest) {c : Context} {S : ℕ → Type 0} where
-  pub fit-mux : {s t f : ℕ} → Exp c s 1 S → Exp c t 1 S → Exp c f 1 S → Fit widest D c (muxOf s t f) (λ e c′. Exp c′ e 1 S)
+module _ {widest words : ℕ} {D : ℕ → ℕ → Type 0} (room : 36 ≤ widest) {c : Context} {S : ℕ → Type 0} where
+  pub fit-mux : {s t f : ℕ} → Exp c s 1 S → Exp c t 1 S → Exp c f 1 S → Fit widest words D c (muxOf s t f) (λ e c′. Exp c′ e 1 S)
   unfolding muxOf emitRewrite
   fit-mux {s} {t} {f} hs ht hf =
       by-test R (eqb s 0) (λ q. fit-pure hf) (λ n₁. by-test R (eqb s 1 || eqb t f) (λ q. fit-pure ht) (λ n₂. by-test R (eqb f 0 && eqb t 1) (λ q. fit-pure hs) (λ n₃.
@@ -162,31 +163,31 @@ module _ {widest : ℕ} {D : ℕ → ℕ → Type 0} (room : 36 ≤ widest) {c :
       by-test R (eqb f 1) (λ q. fit-bind (emit-not hs) (λ i c₁ g h. emit-or h (grow-exp g ht))) (λ n₈. emit-mux (one-wide room) hs ht hf))))))))
     where
       R : Rewrite → Type 0
-      R r = Fit widest D c (unfold emitRewrite in emitRewrite r) (λ e c′. Exp c′ e 1 S)
+      R r = Fit widest words D c (unfold emitRewrite in emitRewrite r) (λ e c′. Exp c′ e 1 S)
 
-  pub fit-xor : {a b : ℕ} → Based c → Exp c a 1 S → Exp c b 1 S → Fit widest D c (xorOf a b) (λ e c′. Exp c′ e 1 S)
+  pub fit-xor : {a b : ℕ} → Based c → Exp c a 1 S → Exp c b 1 S → Fit widest words D c (xorOf a b) (λ e c′. Exp c′ e 1 S)
   unfolding xorOf emitRewrite
   fit-xor {a} {b} based ha hb =
       by-test R (eqb a b) (λ q. fit-pure (zero-exp based)) (λ n₁. by-test R (eqb a 0) (λ q. fit-pure hb) (λ n₂. by-test R (eqb b 0) (λ q. fit-pure ha) (λ n₃.
       by-test R (eqb a 1) (λ q. emit-not hb) (λ n₄. by-test R (eqb b 1) (λ q. emit-not ha) (λ n₅. emit-xor ha hb)))))
     where
       R : Rewrite → Type 0
-      R r = Fit widest D c (unfold emitRewrite in emitRewrite r) (λ e c′. Exp c′ e 1 S)
+      R r = Fit widest words D c (unfold emitRewrite in emitRewrite r) (λ e c′. Exp c′ e 1 S)
 
-module _ {widest : ℕ} {D : ℕ → ℕ → Type 0} (room : 36 ≤ widest) {S : ℕ → Type 0} where
-  pub fit-lut : (xs : List ℕ) (t : ℕ) {c : Context} → Based c → Parts c S xs → Fit widest D c (lutCofactor xs t) (λ e c′. Exp c′ e 1 S)
+module _ {widest words : ℕ} {D : ℕ → ℕ → Type 0} (room : 36 ≤ widest) {S : ℕ → Type 0} where
+  pub fit-lut : (xs : List ℕ) (t : ℕ) {c : Context} → Based c → Parts c S xs → Fit widest words D c (lutCofactor xs t) (λ e c′. Exp c′ e 1 S)
   unfolding lutCofactor joinCofactors
-  fit-lut [] t {c} based h = by-test (λ (w : Writer ℕ). Fit widest D c w (λ e c′. Exp c′ e 1 S)) (eqb t 0) (λ q. fit-pure (zero-exp based)) (λ q. fit-pure (one-exp based))
+  fit-lut [] t {c} based h = by-test (λ (w : Writer ℕ). Fit widest words D c w (λ e c′. Exp c′ e 1 S)) (eqb t 0) (λ q. fit-pure (zero-exp based)) (λ q. fit-pure (one-exp based))
   fit-lut (x ∷ xs) t {c} based (part h₀ h₁) =
       by-test R (eqb t 0) (λ q. fit-pure (zero-exp based)) (λ n₁. by-test R (eqb t (fullTable (suc (length xs)))) (λ q. fit-pure (one-exp based)) (λ n₂.
       by-test R (eqb x 0) (λ q. fit-lut xs (lowOf t) based h₁) (λ n₃. by-test R (eqb x 1) (λ q. fit-lut xs (highOf t) based h₁) (λ n₄.
       fit-bind (fit-lut xs (lowOf t) based h₁) (λ l c₁ g hl.
-      by-test (λ (w : Writer ℕ). Fit widest D c₁ w (λ e c′. Exp c′ e 1 S)) (eqb (lowOf t) (highOf t)) (λ q. fit-pure hl) (λ n₅.
-      by-test (λ (w : Writer ℕ). Fit widest D c₁ w (λ e c′. Exp c′ e 1 S)) (eqb (bitXor (lowOf t) (highOf t)) (fullTable (length xs))) (λ q. fit-xor room (grow-based g based) (grow-exp g h₀) hl) (λ n₆.
+      by-test (λ (w : Writer ℕ). Fit widest words D c₁ w (λ e c′. Exp c′ e 1 S)) (eqb (lowOf t) (highOf t)) (λ q. fit-pure hl) (λ n₅.
+      by-test (λ (w : Writer ℕ). Fit widest words D c₁ w (λ e c′. Exp c′ e 1 S)) (eqb (bitXor (lowOf t) (highOf t)) (fullTable (length xs))) (λ q. fit-xor room (grow-based g based) (grow-exp g h₀) hl) (λ n₆.
       fit-bind (fit-lut xs (highOf t) (grow-based g based) (grow-parts g h₁)) (λ k c₂ g₂ hk. fit-mux room (grow-exp g₂ (grow-exp g h₀)) hk (grow-exp g₂ hl)))))))))
     where
       R : Writer ℕ → Type 0
-      R w = Fit widest D c w (λ e c′. Exp c′ e 1 S)
+      R w = Fit widest words D c w (λ e c′. Exp c′ e 1 S)
 
 -- SMALL CELLS
 
@@ -205,8 +206,8 @@ parts-get based [] i h = zero-exp based
 parts-get based (e ∷ es) zero (part x h) = x
 parts-get based (e ∷ es) (suc i) (part x h) = parts-get based es i h
 
-module _ {widest : ℕ} {D : ℕ → ℕ → Type 0} {words : ℕ} (room : 36 ≤ widest) (m : Wires) {c : Context} (ready : Ready words c m) where
-  pub fit-multiplier : (lhs rhs : List Bit) (product : List ℕ) → Suits D words m (getD product 0 0) 36 (From m (lhs ++ rhs)) → Fit widest D c (emitMultiplier m lhs rhs product) (λ x c′. Unit {0})
+module _ {widest words : ℕ} {D : ℕ → ℕ → Type 0} (room : 36 ≤ widest) (m : Wires) {c : Context} (ready : Ready words c m) where
+  pub fit-multiplier : (lhs rhs : List Bit) (product : List ℕ) → Suits D words m (getD product 0 0) 36 (From m (lhs ++ rhs)) → Fit widest words D c (emitMultiplier m lhs rhs product) (λ x c′. Unit {0})
   unfolding emitMultiplier
   fit-multiplier lhs rhs product s =
       fit-bind (fit-vector room m lhs 0 36 ready (small room 36 (omega arith) (omega arith)) (λ y q. from-left rhs q)) (λ a c₁ g₁ ha.
@@ -214,7 +215,7 @@ module _ {widest : ℕ} {D : ℕ → ℕ → Type 0} {words : ℕ} (room : 36 �
       fit-bind (emit-mul (grow-exp g₂ ha) hb) (λ v c₃ g₃ hv.
       fit-assign room m (getD product 0 0) (grow-ready g₃ (grow-ready g₂ (grow-ready g₁ ready))) s hv)))
 
-  pub fit-lut4 : (inputs : List Bit) (output init : ℕ) → Suits D words m output 1 (From m inputs) → Fit widest D c (emitLut4 m inputs output init) (λ x c′. Unit {0})
+  pub fit-lut4 : (inputs : List Bit) (output init : ℕ) → Suits D words m output 1 (From m inputs) → Fit widest words D c (emitLut4 m inputs output init) (λ x c′. Unit {0})
   unfolding emitLut4
   fit-lut4 inputs output init s =
       fit-bind (fit-reads room m inputs [] ready (λ y q. q) no-part) (λ es c₁ g₁ h.
@@ -224,7 +225,7 @@ module _ {widest : ℕ} {D : ℕ → ℕ → Type 0} {words : ℕ} (room : 36 �
   -- three bits, a mux of them in some order, an assignment
   fit-three : {S : ℕ → Type 0} (first second third : Bit) (output : ℕ) (s t f : (a b d : ℕ) → ℕ) → ((y : ℕ) → From m (first ∷ []) y → S y) → ((y : ℕ) → From m (second ∷ []) y → S y) → ((y : ℕ) → From m (third ∷ []) y → S y)
       → ((c₁ : Context) (a b d : ℕ) → Exp c₁ a 1 S → Exp c₁ b 1 S → Exp c₁ d 1 S → Exp c₁ (s a b d) 1 S × Exp c₁ (t a b d) 1 S × Exp c₁ (f a b d) 1 S) → Suits D words m output 1 S
-      → Fit widest D c (bitExpression m first >>= λ a. bitExpression m second >>= λ b. bitExpression m third >>= λ d. muxOf (s a b d) (t a b d) (f a b d) >>= λ v. assignWire m output v) (λ x c′. Unit {0})
+      → Fit widest words D c (bitExpression m first >>= λ a. bitExpression m second >>= λ b. bitExpression m third >>= λ d. muxOf (s a b d) (t a b d) (f a b d) >>= λ v. assignWire m output v) (λ x c′. Unit {0})
   fit-three first second third output s t f h₁ h₂ h₃ choose suits =
       fit-bind (fit-bit room m ready first h₁) (λ a c₁ g₁ ha.
       let r₁ = grow-ready g₁ ready in
@@ -235,24 +236,24 @@ module _ {widest : ℕ} {D : ℕ → ℕ → Type 0} {words : ℕ} (room : 36 �
       fit-bind (fit-mux room (q .0) (q .1) (q .2)) (λ v c₄ g₄ hv.
       fit-assign room m output (grow-ready g₄ (grow-ready g₃ r₂)) suits hv))))
 
-  pub fit-pfumx : (high low select : Bit) (output : ℕ) → Suits D words m output 1 (From m (high ∷ low ∷ select ∷ [])) → Fit widest D c (emitPfumx m high low select output) (λ x c′. Unit {0})
+  pub fit-pfumx : (high low select : Bit) (output : ℕ) → Suits D words m output 1 (From m (high ∷ low ∷ select ∷ [])) → Fit widest words D c (emitPfumx m high low select output) (λ x c′. Unit {0})
   unfolding emitPfumx
   fit-pfumx high low select output s =
       fit-three select high low output (λ a b d. a) (λ a b d. b) (λ a b d. d) (third-of high low select) (first-of high low select) (second-of high low select) (λ c₁ a b d x y z. (x, y, z)) s
 
-  pub fit-l6mux21 : (low high select : Bit) (output : ℕ) → Suits D words m output 1 (From m (low ∷ high ∷ select ∷ [])) → Fit widest D c (emitL6mux21 m low high select output) (λ x c′. Unit {0})
+  pub fit-l6mux21 : (low high select : Bit) (output : ℕ) → Suits D words m output 1 (From m (low ∷ high ∷ select ∷ [])) → Fit widest words D c (emitL6mux21 m low high select output) (λ x c′. Unit {0})
   unfolding emitL6mux21
   fit-l6mux21 low high select output s =
       fit-three select low high output (λ a b d. a) (λ a b d. d) (λ a b d. b) (third-of low high select) (first-of low high select) (second-of low high select) (λ c₁ a b d x y z. (x, z, y)) s
 
-  pub fit-io : (pad : ℕ) (driven : Bit) (input : ℕ) (tristate : Bit) → Suits D words m input 1 (From m (Wire pad ∷ driven ∷ tristate ∷ [])) → Fit widest D c (emitIo m pad driven input tristate) (λ x c′. Unit {0})
+  pub fit-io : (pad : ℕ) (driven : Bit) (input : ℕ) (tristate : Bit) → Suits D words m input 1 (From m (Wire pad ∷ driven ∷ tristate ∷ [])) → Fit widest words D c (emitIo m pad driven input tristate) (λ x c′. Unit {0})
   unfolding emitIo
   fit-io pad driven input tristate s =
       fit-three (Wire pad) driven tristate input (λ a b d. d) (λ a b d. a) (λ a b d. b) (first-of (Wire pad) driven tristate) (second-of (Wire pad) driven tristate) (third-of (Wire pad) driven tristate) (λ c₁ a b d x y z. (z, x, y)) s
 
-module _ {widest : ℕ} {D : ℕ → ℕ → Type 0} {words : ℕ} (room : 36 ≤ widest) (m : Wires) where
+module _ {widest words : ℕ} {D : ℕ → ℕ → Type 0} (room : 36 ≤ widest) (m : Wires) where
   fit-row : {S : ℕ → Type 0} (inputs : List Bit) (init inject sum carry : ℕ) {c : Context} → Ready words c m → ((y : ℕ) → From m inputs y → S y) → Suits D words m sum 1 S → Exp c carry 1 S
-      → Fit widest D c (ccuRow m inputs init inject sum carry) (λ e c′. Exp c′ e 1 S)
+      → Fit widest words D c (ccuRow m inputs init inject sum carry) (λ e c′. Exp c′ e 1 S)
   unfolding ccuRow
   fit-row {S} inputs init inject sum carry ready f s hc =
       fit-bind (fit-reads room m inputs [] ready f no-part) (λ es c₁ g₁ h.
@@ -268,7 +269,7 @@ module _ {widest : ℕ} {D : ℕ → ℕ → Type 0} {words : ℕ} (room : 36 �
       fit-mux room (grow-exp g₅ (grow-exp g₄ (grow-exp g₃ hl))) (grow-exp g₅ (grow-exp g₄ gated)) (grow-exp g₅ (grow-exp g₄ hk)))))))
 
   pub fit-ccu2c : (u : Ccu2c) {c : Context} → Ready words c m → AllSuit D words m (u .sum0 ∷ u .sum1 ∷ u .carry ∷ []) (From m (u .row0 ++ (u .row1 ++ (u .carryIn ∷ []))))
-      → Fit widest D c (emitCcu2c m u) (λ x c′. Unit {0})
+      → Fit widest words D c (emitCcu2c m u) (λ x c′. Unit {0})
   unfolding emitCcu2c
   fit-ccu2c u ready s =
       fit-bind (fit-bit room m ready (u .carryIn) (λ y q. from-right (u .row0) (from-right (u .row1) q))) (λ e₀ c₁ g₁ h₀.
@@ -276,12 +277,12 @@ module _ {widest : ℕ} {D : ℕ → ℕ → Type 0} {words : ℕ} (room : 36 �
       fit-bind (fit-row (u .row1) (u .init1) (u .inject1) (u .sum1) e₁ (grow-ready g₂ (grow-ready g₁ ready)) (λ y q. from-right (u .row0) (from-left (u .carryIn ∷ []) q)) (s .1 .0) h₁) (λ e₂ c₃ g₃ h₂.
       fit-assign room m (u .carry) (grow-ready g₃ (grow-ready g₂ (grow-ready g₁ ready))) (s .1 .1 .0) h₂)))
 
-  fit-all : {S : ℕ → Type 0} (ws : List ℕ) {e : ℕ} {c : Context} → Ready words c m → ((w : ℕ) → Mem w ws → Suits D words m w 1 S) → Exp c e 1 S → Fit widest D c (assignAll m ws e) (λ x c′. Unit {0})
+  fit-all : {S : ℕ → Type 0} (ws : List ℕ) {e : ℕ} {c : Context} → Ready words c m → ((w : ℕ) → Mem w ws → Suits D words m w 1 S) → Exp c e 1 S → Fit widest words D c (assignAll m ws e) (λ x c′. Unit {0})
   unfolding assignAll
   fit-all [] ready s h = fit-pure tt
   fit-all (w ∷ ws) ready s h = fit-bind (fit-assign room m w ready (s w (here refl)) h) (λ x c₁ g u. fit-all ws (grow-ready g ready) (λ v q. s v (there q)) (grow-exp g h))
 
-  pub fit-jtagg : (ws : List ℕ) {c : Context} → Ready words c m → length ws ≡ 9 → ((w : ℕ) → Mem w ws → Suits D words m w 1 None) → Fit widest D c (emitIdleJtagg m ws) (λ x c′. Unit {0})
+  pub fit-jtagg : (ws : List ℕ) {c : Context} → Ready words c m → length ws ≡ 9 → ((w : ℕ) → Mem w ws → Suits D words m w 1 None) → Fit widest words D c (emitIdleJtagg m ws) (λ x c′. Unit {0})
   unfolding emitIdleJtagg
   fit-jtagg ws ready l s =
       fit-bind (fit-all (take 6 ws ++ drop 7 ws) ready (λ w q. s w (among w (append-cases (take 6 ws) q))) (ready .based .zero-is)) (λ x c₁ g u.
@@ -310,16 +311,16 @@ module _ {widest : ℕ} {D : ℕ → ℕ → Type 0} {words : ℕ} (room : 36 �
       at (x ∷ xs) zero h = here refl
       at (x ∷ xs) (suc i) h = there (at xs i (omega arith))
 
-  fit-unless : {S : ℕ → Type 0} (b : Bool) (w : ℕ) {e : ℕ} {c : Context} → Ready words c m → Suits D words m w 1 S → Exp c e 1 S → Fit widest D c (pick b (pure tt) (assignWire m w e)) (λ x c′. Unit {0})
+  fit-unless : {S : ℕ → Type 0} (b : Bool) (w : ℕ) {e : ℕ} {c : Context} → Ready words c m → Suits D words m w 1 S → Exp c e 1 S → Fit widest words D c (pick b (pure tt) (assignWire m w e)) (λ x c′. Unit {0})
   fit-unless true w ready s h = fit-pure tt
   fit-unless false w ready s h = fit-assign room m w ready s h
 
-  fit-clocks : (S : ℕ → Type 0) (f o : ℕ) (ws : List ℕ) {e : ℕ} {c : Context} → Ready words c m → AllSuit D words m ws S → Exp c e 1 S → Fit widest D c (pllClocks m f o ws e) (λ x c′. Unit {0})
+  fit-clocks : (S : ℕ → Type 0) (f o : ℕ) (ws : List ℕ) {e : ℕ} {c : Context} → Ready words c m → AllSuit D words m ws S → Exp c e 1 S → Fit widest words D c (pllClocks m f o ws e) (λ x c′. Unit {0})
   unfolding pllClocks
   fit-clocks S f o [] ready s h = fit-pure tt
   fit-clocks S f o (w ∷ ws) ready s h = fit-bind (fit-unless (eqb w f || eqb w o) w ready (s .0) h) (λ x c₁ g u. fit-clocks S f o ws (grow-ready g ready) (s .1) (grow-exp g h))
 
-  pub fit-pll : (p : Pll) {c : Context} → Ready words c m → AllSuit D words m (p .feedback ∷ p .output ∷ p .more) (From m (p .reference ∷ [])) → Suits D words m (p .locked) 1 None → Fit widest D c (emitCyclePll m p) (λ x c′. Unit {0})
+  pub fit-pll : (p : Pll) {c : Context} → Ready words c m → AllSuit D words m (p .feedback ∷ p .output ∷ p .more) (From m (p .reference ∷ [])) → Suits D words m (p .locked) 1 None → Fit widest words D c (emitCyclePll m p) (λ x c′. Unit {0})
   unfolding emitCyclePll
   fit-pll p ready s l =
       fit-bind (fit-bit room m ready (p .reference) (λ y q. q)) (λ e c₁ g₁ h.
@@ -356,8 +357,8 @@ abbrev pub Levelled : Option Reset → Type 0
 Levelled none = Unit {0}
 Levelled (some r) = r .active ≤ 1
 
-module _ {widest : ℕ} {D : ℕ → ℕ → Type 0} {words : ℕ} (room : 36 ≤ widest) (m : Wires) where
-  fit-enable : (output : ℕ) (o : Option Control) {next : ℕ} {c : Context} → Ready words c m → Exp c next 1 Any → Fit widest D c (withEnable m output o next) (λ e c′. Exp c′ e 1 Any)
+module _ {widest words : ℕ} {D : ℕ → ℕ → Type 0} (room : 36 ≤ widest) (m : Wires) where
+  fit-enable : (output : ℕ) (o : Option Control) {next : ℕ} {c : Context} → Ready words c m → Exp c next 1 Any → Fit widest words D c (withEnable m output o next) (λ e c′. Exp c′ e 1 Any)
   fit-enable output none ready h = fit-pure h
   fit-enable output (some k) ready h =
       fit-bind (fit-ref room m ready output) (λ r c₁ g₁ x.
@@ -365,21 +366,21 @@ module _ {widest : ℕ} {D : ℕ → ℕ → Type 0} {words : ℕ} (room : 36 �
       fit-bind (fit-asserted room m (grow-ready g₂ (grow-ready g₁ ready)) k (λ y p. tt)) (λ y c₃ g₃ hy.
       emit-mux (one-wide room) hy (grow-exp g₃ (grow-exp g₂ (grow-exp g₁ h))) (grow-exp g₃ hq))))
 
-  fit-reset : (o : Option Reset) {next : ℕ} {c : Context} → Ready words c m → Exp c next 1 Any → Fit widest D c (withReset m o next) (λ e c′. Exp c′ e 1 Any)
+  fit-reset : (o : Option Reset) {next : ℕ} {c : Context} → Ready words c m → Exp c next 1 Any → Fit widest words D c (withReset m o next) (λ e c′. Exp c′ e 1 Any)
   fit-reset none ready h = fit-pure h
   fit-reset (some r) {c = c} ready h =
-      by-test (λ (w : Writer ℕ). Fit widest D c w (λ e c′. Exp c′ e 1 Any)) (eqb (r .asynchronous) 1) (λ q. fit-pure h) (λ q.
+      by-test (λ (w : Writer ℕ). Fit widest words D c w (λ e c′. Exp c′ e 1 Any)) (eqb (r .asynchronous) 1) (λ q. fit-pure h) (λ q.
       fit-bind (fit-asserted room m ready (record { signal = r .signal; active = r .active }) (λ y p. tt)) (λ y c₁ g hy.
       emit-mux (one-wide room) hy (reset-bit (grow-ready g ready .based) (some r)) (grow-exp g h)))
 
-  fit-next : (f : FlipFlop) {c : Context} → Ready words c m → Fit widest D c (nextBit m f) (λ e c′. Exp c′ e 1 Any)
+  fit-next : (f : FlipFlop) {c : Context} → Ready words c m → Fit widest words D c (nextBit m f) (λ e c′. Exp c′ e 1 Any)
   unfolding nextBit
   fit-next f ready =
       fit-bind (fit-bit room m ready (f .input) (λ y p. tt)) (λ d c₁ g₁ hd.
       fit-bind (fit-enable (f .output) (f .enable) (grow-ready g₁ ready) hd) (λ e c₂ g₂ he.
       fit-reset (f .reset) (grow-ready g₂ (grow-ready g₁ ready)) he))
 
-  fit-nexts : (fs : List Member) (ps : List ℕ) {c : Context} → Ready words c m → Parts c Any ps → Fit widest D c (nextBits m fs ps) (λ qs c′. Parts c′ Any qs × (length qs ≡ length fs + length ps))
+  fit-nexts : (fs : List Member) (ps : List ℕ) {c : Context} → Ready words c m → Parts c Any ps → Fit widest words D c (nextBits m fs ps) (λ qs c′. Parts c′ Any qs × (length qs ≡ length fs + length ps))
   unfolding nextBits
   fit-nexts [] ps ready h = fit-pure (h, omega arith)
   fit-nexts (f ∷ fs) ps ready h =
@@ -387,7 +388,7 @@ module _ {widest : ℕ} {D : ℕ → ℕ → Type 0} {words : ℕ} (room : 36 �
       fit-so (fit-nexts fs (e ∷ ps) (grow-ready g ready) (part he (grow-parts g h))) (λ qs c₂ g₂ r. (r .0, omega (arith, r .1))))
 
   fit-bank-reset : (z : Constants) (o : Option Reset) (fs : List Member) {c : Context} → Ready words c m → Sig c (z .zero .0) 1 → Sig c (z .one .0) 1 → Wide widest (length fs) → Levelled o
-      → Fit widest D c (bankReset m z o fs) (λ r c′. GoodReset c′ (length fs) r)
+      → Fit widest words D c (bankReset m z o fs) (λ r c′. GoodReset c′ (length fs) r)
   fit-bank-reset z none fs ready hz ho w l = fit-pure tt
   fit-bank-reset z (some r) fs {c} ready hz ho w l =
       let k : length (resetBits fs []) ≡ length fs = omega (arith, reset-count fs []) in
@@ -396,7 +397,7 @@ module _ {widest : ℕ} {D : ℕ → ℕ → Type 0} {words : ℕ} (room : 36 �
       fit-pure (hs, l, subst (λ (j : ℕ). At (c₂ .exprs) v j) k (grow-exp g₂ hv .typed))))
 
   pub fit-bank : (z : Constants) (b : Bank) {c : Context} → Ready words c m → Sig c (z .zero .0) 1 → Sig c (z .one .0) 1 → Wide widest (length (b .members)) → WideAs m (b .leader .flop .output) (length (b .members))
-      → Levelled (asyncReset (b .leader .flop)) → b .leader .flop .edge ≤ 1 → Fit widest D c (emitFlipFlopBank m z b) (λ x c′. Unit {0})
+      → Levelled (asyncReset (b .leader .flop)) → b .leader .flop .edge ≤ 1 → Fit widest words D c (emitFlipFlopBank m z b) (λ x c′. Unit {0})
   unfolding emitFlipFlopBank
   fit-bank z b ready hz ho w wide l e =
       let k : ℕ = length (b .members) in

@@ -78,8 +78,8 @@ nodes-snoc : {c : Context} {width : ℕ} {ns : List Node} {n : Node} → FitNode
 nodes-snoc no-node a b = node a b no-node
 nodes-snoc (node x y h) a b = node x y (nodes-snoc h a b)
 
-module _ {widest : ℕ} {D : ℕ → ℕ → Type 0} (width : ℕ) (wide : Wide widest width) where
-  fit-level : (ns next : List Node) {c : Context} → FitNodes c width ns → FitNodes c width next → Fit widest D c (muxLevel width ns next) (λ ms c′. FitNodes c′ width ms)
+module _ {widest words : ℕ} {D : ℕ → ℕ → Type 0} (width : ℕ) (wide : Wide widest width) where
+  fit-level : (ns next : List Node) {c : Context} → FitNodes c width ns → FitNodes c width next → Fit widest words D c (muxLevel width ns next) (λ ms c′. FitNodes c′ width ms)
   unfolding muxLevel
   fit-level [] next h k = fit-pure k
   fit-level (l ∷ []) next (node x y h) k = fit-pure (nodes-snoc k x y)
@@ -88,7 +88,7 @@ module _ {widest : ℕ} {D : ℕ → ℕ → Type 0} (width : ℕ) (wide : Wide 
       fit-bind (emit-mux wide (grow-exp g₁ u) (grow-exp g₁ v) (grow-exp g₁ y)) (λ b c₂ g₂ hb.
       fit-level ns (next ++ (record { matched = a; value = b } ∷ [])) (grow-nodes g₂ (grow-nodes g₁ h)) (nodes-snoc (grow-nodes g₂ (grow-nodes g₁ k)) (grow-exp g₂ ha) hb)))
 
-  fit-levels : (fuel : ℕ) (ns : List Node) {e : ℕ} {c : Context} → FitNodes c width ns → Exp c e width Any → Fit widest D c (muxLevels fuel width ns e) (λ v c′. Exp c′ v width Any)
+  fit-levels : (fuel : ℕ) (ns : List Node) {e : ℕ} {c : Context} → FitNodes c width ns → Exp c e width Any → Fit widest words D c (muxLevels fuel width ns e) (λ v c′. Exp c′ v width Any)
   unfolding muxLevels
   fit-levels zero [] h k = fit-pure k
   fit-levels zero (n ∷ []) (node x y h) k = emit-mux wide x y k
@@ -140,8 +140,8 @@ words-snoc (word x h) k = word x (words-snoc h k)
 any : {c : Context} {e w : ℕ} {S : ℕ → Type 0} → Exp c e w S → Exp c e w Any
 any h = exp-so (λ y q. tt) h
 
-module _ {widest : ℕ} {D : ℕ → ℕ → Type 0} (room : 36 ≤ widest) (width aw : ℕ) (wide : Wide widest width) (aw-wide : Wide widest aw) where
-  fit-write : (p : PortExprs) (index : ℕ) {now : ℕ} {c : Context} → FitPort c width aw p → index < 2 ^ aw → Exp c now width Any → Fit widest D c (writeWord p width aw index now) (λ e c′. Exp c′ e width Any)
+module _ {widest words : ℕ} {D : ℕ → ℕ → Type 0} (room : 36 ≤ widest) (width aw : ℕ) (wide : Wide widest width) (aw-wide : Wide widest aw) where
+  fit-write : (p : PortExprs) (index : ℕ) {now : ℕ} {c : Context} → FitPort c width aw p → index < 2 ^ aw → Exp c now width Any → Fit widest words D c (writeWord p width aw index now) (λ e c′. Exp c′ e width Any)
   unfolding writeWord
   fit-write p index hp hi h =
       fit-bind (emit-const aw-wide hi) (λ k c₁ g₁ hk.
@@ -149,22 +149,22 @@ module _ {widest : ℕ} {D : ℕ → ℕ → Type 0} (room : 36 ≤ widest) (wid
       fit-bind (emit-and (grow-exp g₂ (grow-exp g₁ (hp .write-asserted))) he) (λ y c₃ g₃ hy.
       emit-mux wide hy (grow-exp g₃ (grow-exp g₂ (grow-exp g₁ (hp .write-data)))) (grow-exp g₃ (grow-exp g₂ (grow-exp g₁ h))))))
 
-  fit-second : (o : Option PortExprs) (index : ℕ) {now : ℕ} {c : Context} → FitSecond c width aw o → index < 2 ^ aw → Exp c now width Any → Fit widest D c (writeSecond o width aw index now) (λ e c′. Exp c′ e width Any)
+  fit-second : (o : Option PortExprs) (index : ℕ) {now : ℕ} {c : Context} → FitSecond c width aw o → index < 2 ^ aw → Exp c now width Any → Fit widest words D c (writeSecond o width aw index now) (λ e c′. Exp c′ e width Any)
   fit-second none index hp hi h = fit-pure h
   fit-second (some p) index (second hp) hi h = fit-write p index hp hi h
 
-  fit-word : {words : ℕ} (a : PortExprs) (b : Option PortExprs) (owner index : ℕ) {c : Context} → words ≤ length (c .signals) → FitPort c width aw a → FitSecond c width aw b → index < 2 ^ aw
-      → Fit widest D c (ramWord a b owner width aw index) (λ w c′. FitWord c′ words width w)
+  fit-word : (a : PortExprs) (b : Option PortExprs) (owner index : ℕ) {c : Context} → words ≤ length (c .signals) → FitPort c width aw a → FitSecond c width aw b → index < 2 ^ aw
+      → Fit widest words D c (ramWord a b owner width aw index) (λ w c′. FitWord c′ words width w)
   unfolding ramWord
-  fit-word {words} a b owner index many ha hb hi =
+  fit-word a b owner index many ha hb hi =
       fit-bind (fit-declare wide) (λ s c₁ g₁ hs.
       fit-bind (emit-read {S = λ y. words ≤ y} wide (hs .0) (omega arith) (omega (arith, many, hs .1))) (λ q c₂ g₂ hq.
       fit-bind (fit-write a index (grow-port g₂ (grow-port g₁ ha)) hi (any hq)) (λ n c₃ g₃ hn.
       fit-bind (fit-second b index (grow-second g₃ (grow-second g₂ (grow-second g₁ hb))) hi hn) (λ n₂ c₄ g₄ h₂.
       fit-pure (record { signal = grow-sig g₄ (grow-sig g₃ (grow-sig g₂ (hs .0))); current = grow-exp g₄ (grow-exp g₃ hq); next = h₂ })))))
 
-  fit-words : {words : ℕ} (a : PortExprs) (b : Option PortExprs) (owner left index : ℕ) (ws : List Word) {c : Context} → words ≤ length (c .signals) → FitPort c width aw a → FitSecond c width aw b → index + left ≤ 2 ^ aw → FitWords c words width ws
-      → Fit widest D c (ramWords a b owner width aw left index ws) (λ vs c′. FitWords c′ words width vs × (length vs ≡ length ws + left))
+  fit-words : (a : PortExprs) (b : Option PortExprs) (owner left index : ℕ) (ws : List Word) {c : Context} → words ≤ length (c .signals) → FitPort c width aw a → FitSecond c width aw b → index + left ≤ 2 ^ aw → FitWords c words width ws
+      → Fit widest words D c (ramWords a b owner width aw left index ws) (λ vs c′. FitWords c′ words width vs × (length vs ≡ length ws + left))
   unfolding ramWords
   fit-words a b owner zero index ws many ha hb hi h = fit-pure (h, omega arith)
   fit-words a b owner (suc left) index ws many ha hb hi h =
@@ -172,8 +172,8 @@ module _ {widest : ℕ} {D : ℕ → ℕ → Type 0} (room : 36 ≤ widest) (wid
       fit-so (fit-words a b owner left (suc index) (ws ++ (w ∷ [])) (omega (arith, many, g .many)) (grow-port g ha) (grow-second g hb) (omega (arith, hi)) (words-snoc (grow-words g h) hw))
       (λ vs c₂ g₂ r. (r .0, omega (arith, r .1, length-append ws (w ∷ [])))))
 
-  fit-candidates : {words : ℕ} (address index : ℕ) (ws : List Word) (ns : List Node) {c : Context} → Exp c address aw Any → index + length ws ≤ 2 ^ aw → FitWords c words width ws → FitNodes c width ns
-      → Fit widest D c (candidatesFrom address aw index ws ns) (λ ms c′. FitNodes c′ width ms)
+  fit-candidates : (address index : ℕ) (ws : List Word) (ns : List Node) {c : Context} → Exp c address aw Any → index + length ws ≤ 2 ^ aw → FitWords c words width ws → FitNodes c width ns
+      → Fit widest words D c (candidatesFrom address aw index ws ns) (λ ms c′. FitNodes c′ width ms)
   unfolding candidatesFrom
   fit-candidates address index [] ns ha hi h k = fit-pure k
   fit-candidates address index (w ∷ ws) ns ha hi (word x h) k =
@@ -182,7 +182,7 @@ module _ {widest : ℕ} {D : ℕ → ℕ → Type 0} (room : 36 ≤ widest) (wid
       fit-candidates address (suc index) ws (ns ++ (record { matched = e; value = w .current } ∷ [])) (grow-exp g₂ (grow-exp g₁ ha)) (omega (arith, hi))
       (grow-words g₂ (grow-words g₁ h)) (nodes-snoc (grow-nodes g₂ (grow-nodes g₁ k)) he (any (grow-exp g₂ (grow-exp g₁ (x .current)))))))
 
-  fit-updates : {words : ℕ} (ws : List Word) (clock edge : ℕ) {c : Context} → FitWords c words width ws → Sig c clock 1 → edge ≤ 1 → Fit widest D c (updateWords ws clock edge) (λ x c′. Unit {0})
+  fit-updates : (ws : List Word) (clock edge : ℕ) {c : Context} → FitWords c words width ws → Sig c clock 1 → edge ≤ 1 → Fit widest words D c (updateWords ws clock edge) (λ x c′. Unit {0})
   unfolding updateWords
   fit-updates [] clock edge h k e = fit-pure tt
   fit-updates (w ∷ ws) clock edge (word x h) k e = fit-bind (fit-state (width, x .signal, x .next .typed, k, e, tt, tt)) (λ u c₁ g v. fit-updates ws clock edge (grow-words g h) (grow-sig g k) e)
@@ -200,14 +200,14 @@ control-level : (limits : Limits) (o : Option Control) → FitsOption (FitsContr
 control-level limits none h = tt
 control-level limits (some k) h = omega (arith, h .active)
 
-module _ {widest : ℕ} {D : ℕ → ℕ → Type 0} {words : ℕ} (room : 36 ≤ widest) (m : Wires) (z : Constants) where
-  fit-enable : (o : Option Control) {c : Context} → Ready words c m → Sig c (z .zero .0) 1 → Sig c (z .one .0) 1 → LevelledControl o → Fit widest D c (enableOf m z o) (λ e c′. GoodEnable c′ e)
+module _ {widest words : ℕ} {D : ℕ → ℕ → Type 0} (room : 36 ≤ widest) (m : Wires) (z : Constants) where
+  fit-enable : (o : Option Control) {c : Context} → Ready words c m → Sig c (z .zero .0) 1 → Sig c (z .one .0) 1 → LevelledControl o → Fit widest words D c (enableOf m z o) (λ e c′. GoodEnable c′ e)
   fit-enable none ready hz ho l = fit-pure tt
   fit-enable (some k) ready hz ho l = fit-bind (fit-signal room m ready hz ho (k .signal)) (λ s c₁ g h. fit-pure (h, l))
 
   fit-read-port : (p : PortExprs) (ws : List Word) (width aw clock edge : ℕ) {c : Context} → Wide widest width → Wide widest aw → Ready words c m → Sig c (z .zero .0) 1 → Sig c (z .one .0) 1 → FitPort c width aw p
       → length ws ≤ 2 ^ aw → FitWords c words width ws → Sig c clock 1 → edge ≤ 1 → LevelledControl (p .readEnable) → WideAs m (getD (p .readData) 0 0) width
-      → Fit widest D c (emitBlockRamReadPort m z p ws width aw clock edge) (λ x c′. Unit {0})
+      → Fit widest words D c (emitBlockRamReadPort m z p ws width aw clock edge) (λ x c′. Unit {0})
   unfolding emitBlockRamReadPort
   fit-read-port p ws width aw clock edge wide aww ready hz ho hp hl hw hk he hen hwide =
       fit-bind (emit-const wide (pow-pos width)) (λ e c₁ g₁ h₁.
@@ -219,12 +219,12 @@ module _ {widest : ℕ} {D : ℕ → ℕ → Type 0} {words : ℕ} (room : 36 �
       fit-state (width, subst (λ (k : ℕ). Sig c₅ (r .signal) k) (hwide r (hr .0)) (grow-sig g₅ (hr .1)), grow-exp g₅ (grow-exp g₄ hv) .typed, grow-sig g₅ (grow-sig g₄ (grow-sig g₃ (grow-sig g₂ (grow-sig g₁ hk)))), he, tt, h₅))))))
 
   fit-second-port : (o : Option PortExprs) (ws : List Word) (width aw clock edge : ℕ) {c : Context} → Wide widest width → Wide widest aw → Ready words c m → Sig c (z .zero .0) 1 → Sig c (z .one .0) 1 → FitSecond c width aw o
-      → length ws ≤ 2 ^ aw → FitWords c words width ws → Sig c clock 1 → edge ≤ 1 → SecondIs m width o → Fit widest D c (emitSecondReadPort m z o ws width aw clock edge) (λ x c′. Unit {0})
+      → length ws ≤ 2 ^ aw → FitWords c words width ws → Sig c clock 1 → edge ≤ 1 → SecondIs m width o → Fit widest words D c (emitSecondReadPort m z o ws width aw clock edge) (λ x c′. Unit {0})
   fit-second-port none ws width aw clock edge wide aww ready hz ho hp hl hw hk he hs = fit-pure tt
   fit-second-port (some p) ws width aw clock edge wide aww ready hz ho (second hp) hl hw hk he hs = fit-read-port p ws width aw clock edge wide aww ready hz ho hp hl hw hk he (hs .0) (hs .1)
 
   fit-second-exprs : (limits : Limits) (shift aw width : ℕ) (o : Option SecondPort) {c : Context} → Ready words c m → Wide widest aw → Wide widest width → FitsOption (FitsSecond limits width) o → SecondSuits D words m width o
-      → Fit widest D c (secondExprs m shift aw o) (λ p c′. FitSecond c′ width aw p × SecondIs m width p)
+      → Fit widest words D c (secondExprs m shift aw o) (λ p c′. FitSecond c′ width aw p × SecondIs m width p)
   fit-second-exprs limits shift aw width none ready aww wide sh su = fit-pure (no-second, tt)
   fit-second-exprs limits shift aw width (some p) ready aww wide sh su =
       let k : length (p .input) ≡ width = sh .input .0 in
@@ -238,7 +238,7 @@ module _ {widest : ℕ} {D : ℕ → ℕ → Type 0} {words : ℕ} (room : 36 �
       ))))
 
   pub fit-block-ram : (limits : Limits) (owner : ℕ) (r : BlockRam) {c : Context} → FitsBlockRam limits r → Ready words c m → Sig c (z .zero .0) 1 → Sig c (z .one .0) 1 → WideAs m (getD (r .output) 0 0) (r .width) → SecondSuits D words m (r .width) (r .second)
-      → Fit widest D c (emitBlockRam m z owner r) (λ x c′. Unit {0})
+      → Fit widest words D c (emitBlockRam m z owner r) (λ x c′. Unit {0})
   unfolding emitBlockRam
   fit-block-ram limits owner r sh ready hz ho su ss =
       let aw : ℕ = addressWidth (r .depth) in
@@ -281,9 +281,9 @@ module _ {widest : ℕ} {D : ℕ → ℕ → Type 0} {words : ℕ} (room : 36 �
 four-wide : {widest : ℕ} → 36 ≤ widest → Wide widest 4
 four-wide room = (omega arith, omega (arith, room))
 
-module _ {widest : ℕ} {D : ℕ → ℕ → Type 0} {words : ℕ} (room : 36 ≤ widest) where
+module _ {widest words : ℕ} {D : ℕ → ℕ → Type 0} (room : 36 ≤ widest) where
   fit-dram-words : (p : PortExprs) (owner clock edge left index : ℕ) (ws : List Word) {c : Context} → words ≤ length (c .signals) → FitPort c 4 4 p → Sig c clock 1 → edge ≤ 1 → index + left ≤ 16 → FitWords c words 4 ws
-      → Fit widest D c (dramWords p owner clock edge left index ws) (λ vs c′. FitWords c′ words 4 vs × (length vs ≡ length ws + left))
+      → Fit widest words D c (dramWords p owner clock edge left index ws) (λ vs c′. FitWords c′ words 4 vs × (length vs ≡ length ws + left))
   unfolding dramWords
   fit-dram-words p owner clock edge zero index ws many hp hk he hi h = fit-pure (h, omega arith)
   fit-dram-words p owner clock edge (suc left) index ws many hp hk he hi h =
@@ -293,7 +293,7 @@ module _ {widest : ℕ} {D : ℕ → ℕ → Type 0} {words : ℕ} (room : 36 �
       (λ vs c₃ g₃ r. (r .0, omega (arith, r .1, length-append ws (w ∷ []))))))
 
   fit-dram-select : {S : ℕ → Type 0} (address index : ℕ) (ws : List Word) (now : ℕ) {c : Context} → ((y : ℕ) → words ≤ y → S y) → Exp c address 4 S → index + length ws ≤ 16 → FitWords c words 4 ws → Exp c now 4 S
-      → Fit widest D c (dramSelect address index ws now) (λ e c′. Exp c′ e 4 S)
+      → Fit widest words D c (dramSelect address index ws now) (λ e c′. Exp c′ e 4 S)
   unfolding dramSelect
   fit-dram-select address index [] now f ha hi h k = fit-pure k
   fit-dram-select address index (w ∷ ws) now f ha hi (word x h) k =
@@ -303,7 +303,7 @@ module _ {widest : ℕ} {D : ℕ → ℕ → Type 0} {words : ℕ} (room : 36 �
       fit-dram-select address (suc index) ws v f (grow-exp g₃ (grow-exp g₂ (grow-exp g₁ ha))) (omega (arith, hi)) (grow-words g₃ (grow-words g₂ (grow-words g₁ h))) hv)))
 
   pub fit-distributed-ram : (m : Wires) (z : Constants) (owner : ℕ) (r : DistributedRam) {c : Context} → Ready words c m → Sig c (z .zero .0) 1 → Sig c (z .one .0) 1 → r .edge ≤ 1
-      → Suits D words m (getD (r .output) 0 0) 4 (λ y. From m (r .readAddress) y ⊎ (words ≤ y)) → Fit widest D c (emitDistributedRam m z owner r) (λ x c′. Unit {0})
+      → Suits D words m (getD (r .output) 0 0) 4 (λ y. From m (r .readAddress) y ⊎ (words ≤ y)) → Fit widest words D c (emitDistributedRam m z owner r) (λ x c′. Unit {0})
   unfolding emitDistributedRam
   fit-distributed-ram m z owner r ready hz ho edge su =
       let four : Wide widest 4 = four-wide room in

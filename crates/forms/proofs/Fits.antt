@@ -101,14 +101,14 @@ pub record New (c : Context) (x : Expr) (S : ℕ → Type 0) (e : ℕ) (c′ : C
   pub number : e ≡ length (c .exprs)
   pub count : length (c′ .exprs) ≡ suc (length (c .exprs))
 
-module _ {widest : ℕ} {D : ℕ → ℕ → Type 0} {c : Context} where
-  pub fit-pure : {A : Type 0} {a : A} {P : A → Context → Type 0} → P a c → Fit widest D c (pure a) P
+module _ {widest words : ℕ} {D : ℕ → ℕ → Type 0} {c : Context} where
+  pub fit-pure : {A : Type 0} {a : A} {P : A → Context → Type 0} → P a c → Fit widest words D c (pure a) P
   fit-pure h = record { fit = λ n q. (tt, h) }
 
-  pub fit-refuse : {A : Type 0} {a b : ℕ} {P : A → Context → Type 0} → Fit widest D c (refuse {A = A} a b) P
+  pub fit-refuse : {A : Type 0} {a b : ℕ} {P : A → Context → Type 0} → Fit widest words D c (refuse {A = A} a b) P
   fit-refuse = record { fit = λ n q. (tt, tt) }
 
-  pub fit-new : {x : Expr} {S : ℕ → Type 0} → GoodExpr widest D c x → ((y : ℕ) → Mem y (readsExpr (c .reads) x) → S y) → Fit widest D c (emit x) (λ e c′. New c x S e c′)
+  pub fit-new : {x : Expr} {S : ℕ → Type 0} → GoodExpr widest words D c x → ((y : ℕ) → Mem y (readsExpr (c .reads) x) → S y) → Fit widest words D c (emit x) (λ e c′. New c x S e c′)
   fit-new {x} {S} h f = record {
     fit = λ n q. (
       (h, tt),
@@ -124,20 +124,20 @@ module _ {widest : ℕ} {D : ℕ → ℕ → Type 0} {c : Context} where
     );
   }
 
-  pub fit-declare : {s : Signal} → Wide widest (s .width) → Fit widest D c (declare s) (λ i c′. Sig c′ i (s .width) × (i ≡ length (c .signals)) × (c′ .exprs ≡ c .exprs))
-  fit-declare {s} h = record { fit = λ n q. ((h, tt), (subst (λ (i : ℕ). At (c .signals ++ (s .width ∷ [])) i (s .width)) (sym (q .signals)) (at-new (c .signals) (s .width)), q .signals, refl)) }
+  pub fit-declare : {s : Signal} → Wide widest (s .width) → Fit widest words D c (declare s) (λ i c′. Sig c′ i (s .width) × (i ≡ length (c .signals)) × (c′ .exprs ≡ c .exprs) × (length (c′ .signals) ≡ suc (length (c .signals))))
+  fit-declare {s} h = record { fit = λ n q. ((h, tt), (subst (λ (i : ℕ). At (c .signals ++ (s .width ∷ [])) i (s .width)) (sym (q .signals)) (at-new (c .signals) (s .width)), q .signals, refl, let k : length (c .signals ++ (s .width ∷ [])) ≡ suc (length (c .signals)) = omega (arith, length-append (c .signals) (s .width ∷ [])) in k)) }
 
-  pub fit-state : {t : Stmt} → GoodStmt widest D c t → Fit widest D c (state t) (λ x c′. Unit {0})
+  pub fit-state : {t : Stmt} → GoodStmt widest words D c t → Fit widest words D c (state t) (λ x c′. Unit {0})
   fit-state h = record { fit = λ n q. ((h, tt), tt) }
 
 -- ONE WRITER AFTER ANOTHER
 
-good-append : (widest : ℕ) (D : ℕ → ℕ → Type 0) (c : Context) (xs ys : List Event) → GoodAll widest D c xs → GoodAll widest D (growAll c xs) ys → GoodAll widest D c (xs ++ ys)
-good-append widest D c [] ys h g = g
-good-append widest D c (x ∷ xs) ys h g = (h .0, good-append widest D (grow c x) xs ys (h .1) g)
+pub good-append : (widest words : ℕ) (D : ℕ → ℕ → Type 0) (c : Context) (xs ys : List Event) → GoodAll widest words D c xs → GoodAll widest words D (growAll c xs) ys → GoodAll widest words D c (xs ++ ys)
+good-append widest words D c [] ys h g = g
+good-append widest words D c (x ∷ xs) ys h g = (h .0, good-append widest words D (grow c x) xs ys (h .1) g)
 
-module _ {A B : Type 0} (widest : ℕ) (D : ℕ → ℕ → Type 0) (c : Context) (w : Writer A) (k : A → Writer B) (P : A → Context → Type 0) (Q : B → Context → Type 0)
-    (g : (a : A) (c₁ : Context) → Grows c c₁ → P a c₁ → Fit widest D c₁ (k a) Q) (n : Count) (q : Numbered c n) where
+module _ {A B : Type 0} (widest words : ℕ) (D : ℕ → ℕ → Type 0) (c : Context) (w : Writer A) (k : A → Writer B) (P : A → Context → Type 0) (Q : B → Context → Type 0)
+    (g : (a : A) (c₁ : Context) → Grows c c₁ → P a c₁ → Fit widest words D c₁ (k a) Q) (n : Count) (q : Numbered c n) where
   abbrev es : List Event
   es = w n .events
 
@@ -151,19 +151,19 @@ module _ {A B : Type 0} (widest : ℕ) (D : ℕ → ℕ → Type 0) (c : Context
   move (ok b) ys h = subst (Q b) (sym (grow-append c es ys)) h
   move (no x y) ys h = tt
 
-  go : (y : End A) → GoodAll widest D c es → Ends y (λ a. P a c₂) → GoodAll widest D c (after es y m k .events) × Ends (after es y m k .end) (λ b. Q b (growAll c (after es y m k .events)))
+  go : (y : End A) → GoodAll widest words D c es → Ends y (λ a. P a c₂) → GoodAll widest words D c (after es y m k .events) × Ends (after es y m k .end) (λ b. Q b (growAll c (after es y m k .events)))
   go (ok a) h e =
-      let f : GoodAll widest D c₂ (k a m .events) × Ends (k a m .end) (λ b. Q b (growAll c₂ (k a m .events))) = g a c₂ (grows-all c es) e .fit m (numbered-more c es n q) in
-      (good-append widest D c es (k a m .events) h (f .0), move (k a m .end) (k a m .events) (f .1))
+      let f : GoodAll widest words D c₂ (k a m .events) × Ends (k a m .end) (λ b. Q b (growAll c₂ (k a m .events))) = g a c₂ (grows-all c es) e .fit m (numbered-more c es n q) in
+      (good-append widest words D c es (k a m .events) h (f .0), move (k a m .end) (k a m .events) (f .1))
   go (no x y) h e = (h, tt)
 
-module _ {widest : ℕ} {D : ℕ → ℕ → Type 0} {A B : Type 0} {c : Context} {w : Writer A} {k : A → Writer B} {P : A → Context → Type 0} {Q : B → Context → Type 0} where
-  pub fit-bind : Fit widest D c w P → ((a : A) (c₁ : Context) → Grows c c₁ → P a c₁ → Fit widest D c₁ (k a) Q) → Fit widest D c (w >>= k) Q
+module _ {widest words : ℕ} {D : ℕ → ℕ → Type 0} {A B : Type 0} {c : Context} {w : Writer A} {k : A → Writer B} {P : A → Context → Type 0} {Q : B → Context → Type 0} where
+  pub fit-bind : Fit widest words D c w P → ((a : A) (c₁ : Context) → Grows c c₁ → P a c₁ → Fit widest words D c₁ (k a) Q) → Fit widest words D c (w >>= k) Q
   unfolding _>>=_
-  fit-bind f g = record { fit = λ n q. go widest D c w k P Q g n q (w n .end) (f .fit n q .0) (f .fit n q .1) }
+  fit-bind f g = record { fit = λ n q. go widest words D c w k P Q g n q (w n .end) (f .fit n q .0) (f .fit n q .1) }
 
-module _ {widest : ℕ} {D : ℕ → ℕ → Type 0} {A : Type 0} {c : Context} {w : Writer A} {P Q : A → Context → Type 0} where
-  pub fit-so : Fit widest D c w P → ((a : A) (c₁ : Context) → Grows c c₁ → P a c₁ → Q a c₁) → Fit widest D c w Q
+module _ {widest words : ℕ} {D : ℕ → ℕ → Type 0} {A : Type 0} {c : Context} {w : Writer A} {P Q : A → Context → Type 0} where
+  pub fit-so : Fit widest words D c w P → ((a : A) (c₁ : Context) → Grows c c₁ → P a c₁ → Q a c₁) → Fit widest words D c w Q
   fit-so f g = record { fit = λ n q. (f .fit n q .0, so (w n .end) (grows-all c (w n .events)) (f .fit n q .1)) }
     where
       so : {c₁ : Context} (y : End A) → Grows c c₁ → Ends y (λ a. P a c₁) → Ends y (λ a. Q a c₁)
@@ -179,44 +179,44 @@ both S l k y f g m = go (append-cases l m)
     go (inl q) = f y q
     go (inr q) = g y q
 
-module _ {widest : ℕ} {D : ℕ → ℕ → Type 0} {c : Context} {S : ℕ → Type 0} where
-  one-more : {x : Expr} → GoodExpr widest D c x → ((y : ℕ) → Mem y (readsExpr (c .reads) x) → S y) → Fit widest D c (emit x) (λ e c′. Exp c′ e (exprWidth x) S)
+module _ {widest words : ℕ} {D : ℕ → ℕ → Type 0} {c : Context} {S : ℕ → Type 0} where
+  one-more : {x : Expr} → GoodExpr widest words D c x → ((y : ℕ) → Mem y (readsExpr (c .reads) x) → S y) → Fit widest words D c (emit x) (λ e c′. Exp c′ e (exprWidth x) S)
   one-more h f = fit-so (fit-new h f) (λ e c₁ g r. r .exp)
 
-  pub emit-const : {w v : ℕ} → Wide widest w → v < 2 ^ w → Fit widest D c (emit (const w v)) (λ e c′. Exp c′ e w S)
+  pub emit-const : {w v : ℕ} → Wide widest w → v < 2 ^ w → Fit widest words D c (emit (const w v)) (λ e c′. Exp c′ e w S)
   emit-const h l = one-more (h, l) (λ y m. absurd (not-nil m))
 
-  pub emit-read : {w s l width : ℕ} → Wide widest w → Sig c s width → l + w ≤ width → S s → Fit widest D c (emit (read w s l)) (λ e c′. Exp c′ e w S)
+  pub emit-read : {w s l width : ℕ} → Wide widest w → Sig c s width → l + w ≤ width → S s → Fit widest words D c (emit (read w s l)) (λ e c′. Exp c′ e w S)
   emit-read {s = s} {width = width} h g l k = one-more (h, (width, g, l)) (λ y m. only y (cases-cons m))
     where
       only : (y : ℕ) → (y ≡ s) ⊎ Mem y [] → S y
       only y (inl e) = subst S (sym e) k
       only y (inr q) = absurd (not-nil q)
 
-  pub emit-concat : {w : ℕ} {ps : List ℕ} → Wide widest w → w ≡ length ps → Parts c S ps → Fit widest D c (emit (concat w ps)) (λ e c′. Exp c′ e w S)
+  pub emit-concat : {w : ℕ} {ps : List ℕ} → Wide widest w → w ≡ length ps → Parts c S ps → Fit widest words D c (emit (concat w ps)) (λ e c′. Exp c′ e w S)
   emit-concat h e p = one-more (h, e, typed-parts p) (joined-only p)
 
   module _ {a : ℕ} (ha : Exp c a 1 S) where
-    pub emit-not : Fit widest D c (emit (not a)) (λ e c′. Exp c′ e 1 S)
+    pub emit-not : Fit widest words D c (emit (not a)) (λ e c′. Exp c′ e 1 S)
     emit-not = one-more (ha .typed) (ha .only)
 
     module _ {b : ℕ} (hb : Exp c b 1 S) where
-      pub emit-and : Fit widest D c (emit (and a b)) (λ e c′. Exp c′ e 1 S)
+      pub emit-and : Fit widest words D c (emit (and a b)) (λ e c′. Exp c′ e 1 S)
       emit-and = one-more (ha .typed, hb .typed) (λ y m. both S (getD (c .reads) a []) (getD (c .reads) b []) y (ha .only) (hb .only) m)
 
-      pub emit-or : Fit widest D c (emit (or a b)) (λ e c′. Exp c′ e 1 S)
+      pub emit-or : Fit widest words D c (emit (or a b)) (λ e c′. Exp c′ e 1 S)
       emit-or = one-more (ha .typed, hb .typed) (λ y m. both S (getD (c .reads) a []) (getD (c .reads) b []) y (ha .only) (hb .only) m)
 
-      pub emit-xor : Fit widest D c (emit (xor a b)) (λ e c′. Exp c′ e 1 S)
+      pub emit-xor : Fit widest words D c (emit (xor a b)) (λ e c′. Exp c′ e 1 S)
       emit-xor = one-more (ha .typed, hb .typed) (λ y m. both S (getD (c .reads) a []) (getD (c .reads) b []) y (ha .only) (hb .only) m)
 
-  pub emit-mux : {w s t f : ℕ} → Wide widest w → Exp c s 1 S → Exp c t w S → Exp c f w S → Fit widest D c (emit (mux w s t f)) (λ e c′. Exp c′ e w S)
+  pub emit-mux : {w s t f : ℕ} → Wide widest w → Exp c s 1 S → Exp c t w S → Exp c f w S → Fit widest words D c (emit (mux w s t f)) (λ e c′. Exp c′ e w S)
   emit-mux {w} {s} {t} {f} h hs ht hf =
       one-more (h, hs .typed, ht .typed, hf .typed)
       (λ y m. both S (getD (c .reads) s [] ++ getD (c .reads) t []) (getD (c .reads) f []) y (λ z q. both S (getD (c .reads) s []) (getD (c .reads) t []) z (hs .only) (ht .only) q) (hf .only) m)
 
-  pub emit-eq : {w a b : ℕ} → Exp c a w S → Exp c b w S → Fit widest D c (emit (eq a b)) (λ e c′. Exp c′ e 1 S)
+  pub emit-eq : {w a b : ℕ} → Exp c a w S → Exp c b w S → Fit widest words D c (emit (eq a b)) (λ e c′. Exp c′ e 1 S)
   emit-eq {w} {a} {b} ha hb = one-more (w, ha .typed, hb .typed) (λ y m. both S (getD (c .reads) a []) (getD (c .reads) b []) y (ha .only) (hb .only) m)
 
-  pub emit-mul : {a b : ℕ} → Exp c a 36 S → Exp c b 36 S → Fit widest D c (emit (mul a b)) (λ e c′. Exp c′ e 36 S)
+  pub emit-mul : {a b : ℕ} → Exp c a 36 S → Exp c b 36 S → Fit widest words D c (emit (mul a b)) (λ e c′. Exp c′ e 36 S)
   emit-mul {a} {b} ha hb = one-more (ha .typed, hb .typed) (λ y m. both S (getD (c .reads) a []) (getD (c .reads) b []) y (ha .only) (hb .only) m)

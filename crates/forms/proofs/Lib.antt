@@ -8,3 +8,4 @@ pub mod FitCells
 pub mod FitRams
 pub mod FitLower
 pub mod Suiting
+pub mod Sounds

@@ -49,7 +49,7 @@ module _ {limits : Limits} {n : Netlist} (a : Lowered limits n) where
   abbrev words : ℕ
   words = firstWord n
 
-  at-wire : (v : ℕ) (q : Ref) → m v ≡ some q → Located n v q
+  pub at-wire : (v : ℕ) (q : Ref) → m v ≡ some q → Located n v q
   at-wire v q e = located n m (slot-signals a) (mapping a) v q e
 
   -- a wire in a group's slot is driven by that cell
@@ -245,7 +245,7 @@ module _ {limits : Limits} {n : Netlist} (a : Lowered limits n) where
     cell-suits (pll p) e f = (clocks-suit c inside p e (p .feedback ∷ p .output ∷ p .more) (λ w q. q), nothing-suits c inside p e (p .locked) (there (there (here refl))))
 
   -- a statement by place, for all of a list
-  each-from : {A : Type 0} (P : A → Type 0) (d : A) (l : List A) → ((i : ℕ) → i < length l → P (getD l i d)) → Each P l
+  pub each-from : {A : Type 0} (P : A → Type 0) (d : A) (l : List A) → ((i : ℕ) → i < length l → P (getD l i d)) → Each P l
   each-from P d [] f = tt
   each-from P d (x ∷ l) f = (f 0 (omega arith), each-from P d l (λ i h. f (suc i) (omega arith)))
 
@@ -254,14 +254,14 @@ module _ {limits : Limits} {n : Netlist} (a : Lowered limits n) where
 
   -- BANKS
 
-  each-mem-in : (P : Bank → Type 0) (bs : List Bank) → ((b : Bank) → Mem b bs → P b) → Each P bs
+  pub each-mem-in : (P : Bank → Type 0) (bs : List Bank) → ((b : Bank) → Mem b bs → P b) → Each P bs
   each-mem-in P [] f = tt
   each-mem-in P (b ∷ bs) f = (f b (here refl), each-mem-in P bs (λ x q. f x (there q)))
 
   outputs-long : (ms : List Member) → length (outputsOf ms) ≡ length ms
   outputs-long ms = length-map ms _
 
-  bank-suits : (b : Bank) → Mem b (collectFlipFlopBanks (n .cells)) → BankSuits D words m b
+  pub bank-suits : (b : Bank) → Mem b (collectFlipFlopBanks (n .cells)) → BankSuits D words m b
   bank-suits b h r e =
       let f = bank-is a b h .first in
       let p = bank-slot n b h in
@@ -282,14 +282,17 @@ module _ {limits : Limits} {n : Netlist} (a : Lowered limits n) where
       go true x y = x
       go false x y = y
 
-  abbrev noPort : Port
+  abbrev pub noPort : Port
   noPort = record { direction = 0; bits = [] }
 
   port-suits : (s : ℕ) → s < length (n .ports) → PortSuits D words m s (getD (n .ports) s noPort)
-  port-suits s h e y f = a-wire (f .wire) (f .ref) (f .is) (f .signal) (λ v q e₂ z.
-      let empty : (getD (slots n) s noSlot) .bits ≡ [] = ap (λ (x : Slot). x .bits) (ports-first n s h) ∙ port-empty (n .ports) 0 s noPort h e in
-      let none-there : q .lsb < length ((getD (slots n) s noSlot) .bits) = subst (λ (i : ℕ). q .lsb < length ((getD (slots n) i noSlot) .bits)) z (at-wire v q e₂ .within) in
-      absurd (omega (arith, none-there, ap length empty)))
+  port-suits s h e = (
+    omega (arith, h, ports-within n),
+    λ y f. a-wire (f .wire) (f .ref) (f .is) (f .signal) (λ v q e₂ z.
+        let empty : (getD (slots n) s noSlot) .bits ≡ [] = ap (λ (x : Slot). x .bits) (ports-first n s h) ∙ port-empty (n .ports) 0 s noPort h e in
+        let none-there : q .lsb < length ((getD (slots n) s noSlot) .bits) = subst (λ (i : ℕ). q .lsb < length ((getD (slots n) i noSlot) .bits)) z (at-wire v q e₂ .within) in
+        absurd (omega (arith, none-there, ap length empty))),
+  )
 
   ports-from : (p : ℕ) (xs : List Port) → ((i : ℕ) → i < length xs → PortSuits D words m (p + i) (getD xs i noPort)) → PortsSuit D words m p xs
   ports-from p [] f = tt
@@ -298,5 +301,5 @@ module _ {limits : Limits} {n : Netlist} (a : Lowered limits n) where
     ports-from (suc p) xs (λ i h. subst (λ (k : ℕ). PortSuits D words m k (getD xs i noPort)) (let z : p + suc i ≡ suc p + i = omega arith in z) (f (suc i) (omega arith))),
   )
 
-  ports-suit : PortsSuit D words m 0 (n .ports)
+  pub ports-suit : PortsSuit D words m 0 (n .ports)
   ports-suit = ports-from 0 (n .ports) (λ i h. subst (λ (k : ℕ). PortSuits D words m k (getD (n .ports) i noPort)) (let z : i ≡ 0 + i = omega arith in z) (port-suits i h))

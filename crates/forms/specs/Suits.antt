@@ -4,7 +4,7 @@ use mathlib.Core.Logic.{_⊎_}
 use mathlib.Core.List.{List, [], _∷_, _++_, List·Memᴰ as Mem}
 use mathlib.Core.Option.{Option, none, some}
 use mathlib.Core.Bool.{Bool, true}
-use Prim.Native.Nat.{ℕ, suc, _≤_}
+use Prim.Native.Nat.{ℕ, suc, _≤_, _<_}
 use lib.Dec.{eqb}
 use lib.ListN.{length, getD}
 use Rattle.netlist.specs.declared.Bit.{Bit}
@@ -60,7 +60,7 @@ module _ (D : ℕ → ℕ → Type 0) (words : ℕ) (m : Wires) where
 
   -- port p is an output
   abbrev pub PortSuits : ℕ → Port → Type 0
-  PortSuits p port = eqb (port .direction) 1 ≡ true → (y : ℕ) → From m (port .bits) y → D p y
+  PortSuits p port = eqb (port .direction) 1 ≡ true → (p < words) × ((y : ℕ) → From m (port .bits) y → D p y)
 
   abbrev pub PortsSuit : ℕ → List Port → Type 0
   PortsSuit p [] = Unit {0}

@@ -74,8 +74,8 @@ abbrev pub GoodEnable : Context → Option RegEnable → Type 0
 GoodEnable c none = Unit {0}
 GoodEnable c (some e) = Sig c (e .signal) 1 × (e .active ≤ 1)
 
--- a model's largest width, and what a signal may depend on
-module _ (widest : ℕ) (D : ℕ → ℕ → Type 0) where
+-- a model's largest width, the number of the first signal on which no assignment stands, and what a signal may depend on
+module _ (widest words : ℕ) (D : ℕ → ℕ → Type 0) where
   abbrev pub GoodExpr : Context → Expr → Type 0
   GoodExpr c (const w v) = Wide widest w × (v < 2 ^ w)
   GoodExpr c (read w s l) = Wide widest w × ((width : ℕ) × Sig c s width × (l + w ≤ width))
@@ -89,7 +89,7 @@ module _ (widest : ℕ) (D : ℕ → ℕ → Type 0) where
   GoodExpr c (mul a b) = At (c .exprs) a 36 × At (c .exprs) b 36
 
   abbrev pub GoodStmt : Context → Stmt → Type 0
-  GoodStmt c (assign t e) = (w : ℕ) × Sig c t w × Exp c e w (D t)
+  GoodStmt c (assign t e) = (w : ℕ) × Sig c t w × Exp c e w (D t) × (t < words)
   GoodStmt c (reg t n k d r e) = (w : ℕ) × Sig c t w × At (c .exprs) n w × Sig c k 1 × (d ≤ 1) × GoodReset c w r × GoodEnable c e
 
   abbrev pub Good : Context → Event → Type 0

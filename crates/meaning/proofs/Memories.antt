@@ -24,7 +24,7 @@ use Rattle.wires.specs.Wires.{WireRef, Wires}
 use Rattle.memories.specs.AddressMux.{Node, balancedAddressMux}
 use Rattle.memories.specs.Memories.{Word, PortExprs, writeWord, writeSecond, ramWord, ramWords, candidatesFrom, enableOf, emitBlockRamReadPort, emitSecondReadPort, updateWords, secondExprs, emitBlockRam, dramWords, dramSelect, emitDistributedRam}
 use Rattle.meaning.specs.Held.{held, valuesAt, Driven, Choice, lastChoice}
-use Rattle.meaning.specs.Settles.{Tick, enableNow, Holds, Settles, Gets}
+use Rattle.meaning.specs.Settles.{Tick, enableNow, RegOn, Holds, Settles, Gets}
 use Rattle.meaning.proofs.Settling.{gets-pure, gets-bind, gets-so, gets-any, settles-both, settles-makes, settles-gets, settles-state, settles-pure, settles-bind, settles-so}
 use Rattle.meaning.proofs.BitReads.{ref-gets, IsSignal, signal-gets, asserted-means, bits-means, vector-means}
 use Rattle.meaning.proofs.Tree.{Nodes, nodes-keep, nodes-snoc, tree-means}
@@ -169,14 +169,19 @@ pub record ReadPort (κ : Tick) (m : Wires) (z : Constants) (width aw : ℕ) (a 
   pub target-is : m (getD outputs 0 0) ≡ some target
   pub enable : Option RegEnable
   pub enable-is : EnableIs m z readEnable enable
+  pub registered : RegOn κ (target .signal)
   pub taken : κ .next (target .signal)
       ≡ pick (κ .fires clock edge && enableNow (κ .before) enable) (lastChoice (choices (κ .before) width aw a b at 0 words) (binary width 0)) (κ .before (target .signal))
 
--- the words that a port may write take their next values
+-- a word that a port may write takes its next value
+pub record NewWord (κ : Tick) (width aw : ℕ) (a : PortValue) (b : Option PortValue) (clock edge index s : ℕ) : Type 0 where
+  pub registered : RegOn κ s
+  pub taken : κ .next s ≡ pick (κ .fires clock edge) (wroteSecond b aw index (wrote a aw index (wordOf (κ .before) width s))) (κ .before s)
+
 abbrev pub Updated : Tick → ℕ → ℕ → PortValue → Option PortValue → ℕ → ℕ → ℕ → List ℕ → Type 0
 Updated κ width aw a b clock edge index [] = Unit {0}
 Updated κ width aw a b clock edge index (s ∷ ss) =
-    (κ .next s ≡ pick (κ .fires clock edge) (wroteSecond b aw index (wrote a aw index (wordOf (κ .before) width s))) (κ .before s)) × Updated κ width aw a b clock edge (suc index) ss
+    NewWord κ width aw a b clock edge index s × Updated κ width aw a b clock edge (suc index) ss
 
 module _ {K : Type 0} (κ : K → Tick) (Ω : K → Values) (m : Wires) (z : Constants) (width aw : ℕ) (a : K → PortValue) (b : K → Option PortValue) where
   read-port-equation : (p : PortExprs) (at : K → Bits) (ws : List Word) (clock edge : ℕ) {env : K → Values} → ((k : K) → Is (env k) (p .readAddress) (at k)) → ((k : K) → WordsAre (κ k .before) width aw (a k) (b k) (env k) 0 ws)
@@ -193,7 +198,8 @@ module _ {K : Type 0} (κ : K → Tick) (Ω : K → Values) (m : Wires) (z : Con
         target-is = hr;
         enable = en;
         enable-is = hen;
-        taken = q k ∙ ap (λ (x : Bits). pick (κ k .fires clock edge && enableNow (κ k .before) en) x (κ k .before (r .signal))) (kp k _ _ (k₅ k _ _ (k₄ k _ _ (hv k))) .value);
+        registered = q k .1;
+        taken = q k .0 ∙ ap (λ (x : Bits). pick (κ k .fires clock edge && enableNow (κ k .before) en) x (κ k .before (r .signal))) (kp k _ _ (k₅ k _ _ (k₄ k _ _ (hv k))) .value);
       }))))))
 
   updates-equation : (ws : List Word) (clock edge index : ℕ) {env : K → Values} → ((k : K) → WordsAre (κ k .before) width aw (a k) (b k) (env k) index ws)
@@ -202,8 +208,8 @@ module _ {K : Type 0} (κ : K → Tick) (Ω : K → Values) (m : Wires) (z : Con
   updates-equation [] clock edge index h = settles-pure (λ k. tt)
   updates-equation (w ∷ ws) clock edge index {env} h =
       settles-bind
-      (settles-state {env = env} {P = λ u env′. (k : K) → κ k .next (w .signal) ≡ pick (κ k .fires clock edge) (wroteSecond (b k) aw index (wrote (a k) aw index (wordOf (κ k .before) width (w .signal)))) (κ k .before (w .signal))}
-      (λ kp q k. q k ∙ ap₂ (λ (x : Bool) (y : Bits). pick x y (κ k .before (w .signal))) (and-yes (κ k .fires clock edge)) (kp k _ _ (h k .0 .next-is) .value)))
+      (settles-state {env = env} {P = λ u env′. (k : K) → NewWord (κ k) width aw (a k) (b k) clock edge index (w .signal)}
+      (λ kp q k. record { registered = q k .1; taken = q k .0 ∙ ap₂ (λ (x : Bool) (y : Bits). pick x y (κ k .before (w .signal))) (and-yes (κ k .fires clock edge)) (kp k _ _ (h k .0 .next-is) .value) }))
       (λ u env₁ k₁ t. settles-so (updates-equation ws clock edge (suc index) (λ k. keep-words (κ k .before) width aw (a k) (b k) (k₁ k) (suc index) ws (h k .1))) (λ x env₂ k₂ r k. (t k, r k)))
 
 -- BLOCK RAM
@@ -315,9 +321,9 @@ module _ {K : Type 0} (κ : K → Tick) (Ω : K → Values) (m : Wires) (z : Con
 -- DISTRIBUTED RAM
 
 updated-snoc : (κ : Tick) (width aw : ℕ) (a : PortValue) (b : Option PortValue) (clock edge index i : ℕ) (ws : List Word) (w : Word) → i ≡ index + length ws → Updated κ width aw a b clock edge index (signalsIn ws)
-    → κ .next (w .signal) ≡ pick (κ .fires clock edge) (wroteSecond b aw i (wrote a aw i (wordOf (κ .before) width (w .signal)))) (κ .before (w .signal)) → Updated κ width aw a b clock edge index (signalsIn (ws ++ (w ∷ [])))
+    → NewWord κ width aw a b clock edge i (w .signal) → Updated κ width aw a b clock edge index (signalsIn (ws ++ (w ∷ [])))
 updated-snoc κ width aw a b clock edge index i [] w p h t =
-    (subst (λ (j : ℕ). κ .next (w .signal) ≡ pick (κ .fires clock edge) (wroteSecond b aw j (wrote a aw j (wordOf (κ .before) width (w .signal)))) (κ .before (w .signal))) (let q : i ≡ index = omega (arith, p) in q) t, tt)
+    (subst (λ (j : ℕ). NewWord κ width aw a b clock edge j (w .signal)) (let q : i ≡ index = omega (arith, p) in q) t, tt)
 updated-snoc κ width aw a b clock edge index i (x ∷ ws) w p h t = (h .0, updated-snoc κ width aw a b clock edge (suc index) i ws w (omega (arith, p)) (h .1) t)
 
 record DramWords {K : Type 0} (κ : K → Tick) (a : K → PortValue) (clock edge left : ℕ) (before : List Word) (env : K → Values) (ws : List Word) : Type 0 where
@@ -333,8 +339,8 @@ module _ {K : Type 0} (κ : K → Tick) (Ω : K → Values) (p : PortExprs) (a :
   dram-words (suc left) index ws q hp h u =
       settles-bind (settles-makes (λ k. word-makes (κ k .before) 4 4 (a k) none p none owner index (hp k) tt)) (λ w env₁ k₁ hw.
       settles-bind
-      (settles-state {env = env₁} {P = λ x env′. (k : K) → κ k .next (w .signal) ≡ pick (κ k .fires clock edge) (wrote (a k) 4 index (wordOf (κ k .before) 4 (w .signal))) (κ k .before (w .signal))}
-      (λ kp s k. s k ∙ ap₂ (λ (x : Bool) (y : Bits). pick x y (κ k .before (w .signal))) (and-yes (κ k .fires clock edge)) (kp k _ _ (hw k .next-is) .value)))
+      (settles-state {env = env₁} {P = λ x env′. (k : K) → NewWord (κ k) 4 4 (a k) none clock edge index (w .signal)}
+      (λ kp s k. record { registered = s k .1; taken = s k .0 ∙ ap₂ (λ (x : Bool) (y : Bits). pick x y (κ k .before (w .signal))) (and-yes (κ k .fires clock edge)) (kp k _ _ (hw k .next-is) .value) }))
       (λ x env₂ k₂ t.
       settles-so
       (dram-words left (suc index) (ws ++ (w ∷ [])) (omega (arith, q, length-append ws (w ∷ []))) (λ k. keep-port (k₂ k) (keep-port (k₁ k) (hp k)))

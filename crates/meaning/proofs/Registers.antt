@@ -27,7 +27,7 @@ use Rattle.wires.specs.Wires.{WireRef, Wires}
 use Rattle.wires.specs.Expressions.{refOf, wireRef, readRef, bitSignal, assertedExpression, concatParts}
 use Rattle.lowering.specs.Emit.{withEnable, resetBit, withReset, nextBit, nextBits, resetBits, bankReset, emitFlipFlopBank}
 use Rattle.meaning.specs.Held.{refBit, held}
-use Rattle.meaning.specs.Settles.{Tick, asserts, Holds, Settles, Gets}
+use Rattle.meaning.specs.Settles.{Tick, asserts, RegOn, Holds, Settles, Gets}
 use Rattle.meaning.proofs.Settling.{gets-pure, settles-makes, settles-gets, settles-state, settles-bind, settles-so, settles-pure}
 use Rattle.meaning.proofs.BitReads.{bit-means, asserted-means, ref-gets, IsSignal, signal-gets, Parts, parts-keep, parts-cons, concat-means}
 use Rattle.meaning.proofs.Equations.{now, Bases, bases-keep}
@@ -152,6 +152,7 @@ pub record Banked (κ : Tick) (m : Wires) (z : Constants) (b : Bank) : Type 0 wh
   pub clock-is : IsSignal m z (b .leader .flop .clock) clock
   pub resets : Bool
   pub resets-is : ResetNow (κ .before) m z (asyncReset (b .leader .flop)) resets
+  pub registered : RegOn κ (target .signal)
   pub taken : κ .next (target .signal)
       ≡ pick resets (resetValues (b .members)) (pick (κ .fires clock (b .leader .flop .edge)) (loadedAll (κ .before) m (b .members)) (κ .before (target .signal)))
 
@@ -169,7 +170,8 @@ module _ (κ : Tick) (Ω : Values) (m : Wires) (z : Constants) (b : Bank) (t : W
     clock-is = hc;
     resets = false;
     resets-is = subst (λ (o : Option Reset). ResetNow (κ .before) m z o false) (sym q) refl;
-    taken = subst (λ (x : Option RegReset). Holds κ Ω (reg (t .signal) n clock (b .leader .flop .edge) x none)) hr h
+    registered = h .1;
+    taken = subst (λ (x : Option RegReset). Holds κ Ω (reg (t .signal) n clock (b .leader .flop .edge) x none)) hr h .0
         ∙ ap₂ (λ (x : Bool) (y : Bits). pick x y (κ .before (t .signal))) (and-yes (κ .fires clock (b .leader .flop .edge))) (hn .value);
   }
   commit (some w) q r hr hv h = record {
@@ -179,7 +181,8 @@ module _ (κ : Tick) (Ω : Values) (m : Wires) (z : Constants) (b : Bank) (t : W
     clock-is = hc;
     resets = asserts (κ .before) (hr .0) (w .active);
     resets-is = subst (λ (o : Option Reset). ResetNow (κ .before) m z o (asserts (κ .before) (hr .0) (w .active))) (sym q) (hr .0, hr .2, refl);
-    taken = subst (λ (x : Option RegReset). Holds κ Ω (reg (t .signal) n clock (b .leader .flop .edge) x none)) (hr .3) h
+    registered = h .1;
+    taken = subst (λ (x : Option RegReset). Holds κ Ω (reg (t .signal) n clock (b .leader .flop .edge) x none)) (hr .3) h .0
         ∙ ap₂ (λ (x : Bits) (y : Bits). pick (asserts (κ .before) (hr .0) (w .active)) x y) (subst (λ (x : Option RegReset). LoadsValues Ω x (resetValues (b .members))) (hr .3) hv .value)
         (ap₂ (λ (x : Bool) (y : Bits). pick x y (κ .before (t .signal))) (and-yes (κ .fires clock (b .leader .flop .edge))) (hn .value));
   }

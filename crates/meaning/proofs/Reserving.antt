@@ -277,7 +277,7 @@ module _ {n : Count} {held : List Slot} {ss : List Signal} {m : Wires} (at : At 
       → Writes n (declare s >>= k) (λ m′ es. Adds (held ++ (x ∷ [])) ss m′ es)
   reserve-bits x s k f g = writes-so (reserve-known x s k f g) (λ m′ es a. a .0)
 
-  reserve-scalar : (label owner w c k : ℕ) → 1 ≤ label → label ≤ 15 → Writes n (reserveScalar m label owner w) (λ m′ es. Adds (held ++ single c (w ∷ []) k) ss m′ es)
+  reserve-scalar : (label owner w c k : ℕ) → 2 ≤ label → label ≤ 15 → Writes n (reserveScalar m label owner w) (λ m′ es. Adds (held ++ single c (w ∷ []) k) ss m′ es)
   unfolding reserveScalar
   reserve-scalar label owner w c k l u =
       reserve-bits (record { source = pins c k; bits = Wire w ∷ [] }) (signalOf label 1 owner) _ (record { label = (l, u); width = refl })
@@ -293,7 +293,7 @@ module _ {n : Count} {held : List Slot} {ss : List Signal} {m : Wires} (at : At 
 
 -- SEVERAL
 
-reserve-scalars : (label owner c : ℕ) → 1 ≤ label → label ≤ 15 → (ws : List ℕ) (k : ℕ) {n : Count} {held : List Slot} {ss : List Signal} {m : Wires} → At n ss → Mapping held ss m
+reserve-scalars : (label owner c : ℕ) → 2 ≤ label → label ≤ 15 → (ws : List ℕ) (k : ℕ) {n : Count} {held : List Slot} {ss : List Signal} {m : Wires} → At n ss → Mapping held ss m
     → Writes n (reserveScalars m label owner ws) (λ m′ es. Adds (held ++ single c ws k) ss m′ es)
 unfolding reserveScalars
 reserve-scalars label owner c l u [] k {held = held} at h = writes-pure (adds-as (sym (append-nil held)) (adds-none h))
@@ -326,7 +326,7 @@ reserve-absent owner c (w ∷ ws) k {n} {held} {ss} {m} at h =
 -- CELLS
 
 module _ {n : Count} {held : List Slot} {ss : List Signal} {m : Wires} (at : At n ss) (h : Mapping held ss m) where
-  pinned : (label owner c k : ℕ) (ws : List ℕ) → 1 ≤ label → label ≤ 15 → Writes n (reserveVector m label owner ws) (λ m′ es. Adds (held ++ together c ws k) ss m′ es)
+  pinned : (label owner c k : ℕ) (ws : List ℕ) → 2 ≤ label → label ≤ 15 → Writes n (reserveVector m label owner ws) (λ m′ es. Adds (held ++ together c ws k) ss m′ es)
   pinned label owner c k ws l u = reserve-vector at h label owner ws (record { source = pins c k; bits = map Wire ws }) refl (l, u) (λ j. refl)
 
   reserve-cell : (c : ℕ) (x : Cell) → Writes n (reserveCellOutput m c x) (λ m′ es. Adds (reserve c x held) ss m′ es)

@@ -20,12 +20,12 @@ abbrev pub refOf : Option WireRef → Option Ref
 refOf none = none
 refOf (some r) = some (record { signal = r .signal; lsb = r .lowest; width = r .width })
 
--- the labels of the signals that a source may have: only an input has 0
+-- the labels of the signals that a source may have: only an input has 0, and only an output port 1
 abbrev pub LabelFits : Source → ℕ → Type 0
 LabelFits (inputs k) label = label ≡ 0
 LabelFits shown label = label ≡ 1
-LabelFits (pins c k) label = (1 ≤ label) × (label ≤ 15)
-LabelFits (bank cells) label = (1 ≤ label) × (label ≤ 15)
+LabelFits (pins c k) label = (2 ≤ label) × (label ≤ 15)
+LabelFits (bank cells) label = (2 ≤ label) × (label ≤ 15)
 
 -- an output port's slot holds no bits, whatever its signal's width
 abbrev pub WidthFits : Source → ℕ → ℕ → Type 0

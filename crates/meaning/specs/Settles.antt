@@ -1,7 +1,7 @@
 -- What it is for statements to hold in a tick, and what a writer settles where its statements hold.
 use mathlib.Core.Path.{_≡_}
 use mathlib.Core.Bool.{Bool, true, false, not, _&&_}
-use mathlib.Core.List.{List, [], _∷_}
+use mathlib.Core.List.{List, [], _∷_, List·Memᴰ as Mem}
 use mathlib.Core.Option.{Option, none, some}
 use Prim.Native.Nat.{ℕ}
 use lib.Dec.{eqb}
@@ -12,11 +12,12 @@ use Rattle.recorder.specs.Writer.{Event, exprsOf, stmtsOf, Count, End, Out, Wri
 use Rattle.recorder.specs.Evaluate.{Signals, Values, valueOf, evalAll}
 use Rattle.recorder.specs.Meaning.{Keeps, Ends}
 
--- the signals before a commit and after it, and which clock and edge fires
+-- the signals before a commit and after it, which clock and edge fires, and the statements of the whole model
 pub record Tick : Type 0 where
   pub before : Signals
   pub next : Signals
   pub fires : ℕ → ℕ → Bool
+  pub stmts : List Stmt
 
 -- a control's signal has the level that asserts it
 abbrev pub asserts : Signals → ℕ → ℕ → Bool
@@ -34,11 +35,21 @@ abbrev pub enableNow : Signals → Option RegEnable → Bool
 enableNow σ none = true
 enableNow σ (some e) = asserts σ (e .signal) (e .active)
 
+abbrev pub IsReg : Stmt → ℕ → Type 0
+IsReg (assign u e) t = ⊥
+IsReg (reg u n c d r e) t = u ≡ t
+
+-- signal t is a register of the model
+pub record RegOn (κ : Tick) (t : ℕ) : Type 0 where
+  pub statement : Stmt
+  pub one-of : Mem statement (κ .stmts)
+  pub register : IsReg statement t
+
 -- an assignment holds before the commit, and a register has taken its value after it; Ω are the values of all expressions before it
 abbrev pub Holds : Tick → Values → Stmt → Type 0
 Holds κ Ω (assign t e) = κ .before t ≡ valueOf Ω e
 Holds κ Ω (reg t n c d r e) =
-    κ .next t ≡ pick (resetNow (κ .before) r) (resetBits Ω r) (pick (κ .fires c d && enableNow (κ .before) e) (valueOf Ω n) (κ .before t))
+    (κ .next t ≡ pick (resetNow (κ .before) r) (resetBits Ω r) (pick (κ .fires c d && enableNow (κ .before) e) (valueOf Ω n) (κ .before t))) × RegOn κ t
 
 abbrev pub AllHold : Tick → Values → List Stmt → Type 0
 AllHold κ Ω [] = Unit {0}

@@ -1,0 +1,159 @@
+-- What the output ports show: the bytes of their signals, and what their bit words hold.
+-- Assumes nothing.
+use mathlib.Core.Path.{_≡_, refl, ap, ap₂, sym, _∙_, subst}
+use mathlib.Core.Bool.{Bool, true, false}
+use mathlib.Core.List.{List, [], _∷_, _++_, map}
+use mathlib.Core.Option.{Option, none, some, Option·some-ne-none}
+use Prim.Native.Nat.{ℕ, zero, suc, _+_, _≤_, _<_}
+use native.Mathlib.Omega.{arith}
+use lib.Dec.{eqb, leb}
+use lib.ListN.{length, getD, take, drop, replicate, length-drop, length-replicate}
+use borrow.Author.Tests.{eq-eqb, ne-eqb, leb-true}
+use Rattle.bits.specs.Bits.{pick, Bits, digit}
+use Rattle.settle.specs.Table.{at}
+use Rattle.netlist.specs.declared.Bit.{Bit}
+use Rattle.netlist.specs.Netlist.{Port}
+use Rattle.netlist.specs.Shape.{Each}
+use Rattle.recorder.specs.Record.{Signal}
+use Rattle.recorder.specs.Evaluate.{Signals}
+use Rattle.lowering.specs.Reserve.{signalOf}
+use Rattle.behaviour.specs.Behaviour.{values, zeros, outputPorts}
+use Rattle.simulation.specs.Run.{total, perSignal, isOne, noBit}
+use Rattle.simulation.specs.Kept.{AllBits}
+use Rattle.wires.specs.Wires.{Wires}
+use Rattle.meaning.specs.Held.{held, valuesAt}
+use Rattle.meaning.specs.Mapped.{portSignals}
+use Rattle.meaning.proofs.Equations.{Shown}
+use Rattle.equivalence.specs.Demand.{shownBytes, bytesOf}
+use Rattle.equivalence.proofs.Vectors.{values-all}
+
+-- the bits of the signals with label 1
+abbrev pub shownBits : List Signal → List Bits → List Bits
+shownBits [] t = []
+shownBits (s ∷ ss) [] = []
+shownBits (s ∷ ss) (v ∷ t) = pick (eqb (s .label) 1) (v ∷ shownBits ss t) (shownBits ss t)
+
+-- BYTES THAT ARE BITS
+
+abbrev wideOf : Signal → ℕ
+wideOf s = s .width
+
+-- the first k bytes are bits
+abbrev pub BitsIn : ℕ → List ℕ → Type 0
+BitsIn k bytes = AllBits (take k bytes)
+
+back : (k : ℕ) (bytes : List ℕ) → BitsIn k bytes → map digit (take k (map isOne bytes)) ≡ take k bytes
+back zero bytes h = refl
+back (suc k) [] h = refl
+back (suc k) (b ∷ bytes) h = ap₂ (λ (x : ℕ) (l : List ℕ). x ∷ l) (bit b (h .0)) (back k bytes (h .1))
+  where
+    bit : (b : ℕ) → b ≤ 1 → digit (isOne b) ≡ b
+    bit zero l = refl
+    bit (suc zero) l = refl
+    bit (suc (suc b)) l = absurd (omega (arith, l))
+
+bits-left : (j k : ℕ) (bytes : List ℕ) → BitsIn (j + k) bytes → BitsIn j bytes
+bits-left zero k bytes h = tt
+bits-left (suc j) k [] h = tt
+bits-left (suc j) k (b ∷ bytes) h =
+    let h′ : BitsIn (suc (j + k)) (b ∷ bytes) = subst (λ (i : ℕ). BitsIn i (b ∷ bytes)) (let z : suc j + k ≡ suc (j + k) = omega arith in z) h in
+    (h′ .0, bits-left j k bytes (h′ .1))
+
+bits-right : (j k : ℕ) (bytes : List ℕ) → BitsIn (j + k) bytes → BitsIn k (drop j bytes)
+bits-right zero k bytes h = subst (λ (i : ℕ). BitsIn i bytes) (let z : 0 + k ≡ k = omega arith in z) h
+bits-right (suc j) zero [] h = tt
+bits-right (suc j) (suc k) [] h = tt
+bits-right (suc j) k (b ∷ bytes) h =
+    let h′ : BitsIn (suc (j + k)) (b ∷ bytes) = subst (λ (i : ℕ). BitsIn i (b ∷ bytes)) (let z : suc j + k ≡ suc (j + k) = omega arith in z) h in
+    bits-right j k bytes (h′ .1)
+
+drop-map : (k : ℕ) (bytes : List ℕ) → drop k (map isOne bytes) ≡ map isOne (drop k bytes)
+drop-map zero bytes = refl
+drop-map (suc k) [] = refl
+drop-map (suc k) (b ∷ bytes) = drop-map k bytes
+
+-- the bytes shown are the bits shown
+pub bytes-shown : (ss : List Signal) (bytes : List ℕ) → BitsIn (total (λ (s : Signal). s .width) ss) bytes → shownBytes ss bytes ≡ bytesOf (shownBits ss (perSignal ss (map isOne bytes)))
+bytes-shown [] bytes h = refl
+bytes-shown (s ∷ ss) bytes h =
+    go (eqb (s .label) 1) (sym (back (s .width) bytes (bits-left (s .width) (total (λ (x : Signal). x .width) ss) bytes h)))
+    (bytes-shown ss (drop (s .width) bytes) (bits-right (s .width) (total (λ (x : Signal). x .width) ss) bytes h) ∙ ap (λ (l : Bits). bytesOf (shownBits ss (perSignal ss l))) (sym (drop-map (s .width) bytes)))
+  where
+    go : (b : Bool) → take (s .width) bytes ≡ map digit (take (s .width) (map isOne bytes)) → shownBytes ss (drop (s .width) bytes) ≡ bytesOf (shownBits ss (perSignal ss (drop (s .width) (map isOne bytes))))
+        → pick b (take (s .width) bytes ∷ shownBytes ss (drop (s .width) bytes)) (shownBytes ss (drop (s .width) bytes))
+        ≡ bytesOf (pick b (take (s .width) (map isOne bytes) ∷ shownBits ss (perSignal ss (drop (s .width) (map isOne bytes)))) (shownBits ss (perSignal ss (drop (s .width) (map isOne bytes)))))
+    go true p q = ap₂ (λ (x : List ℕ) (l : List (List ℕ)). x ∷ l) p q
+    go false p q = q
+
+-- bytes that pass the test are bits, and bits pass it
+pub bits-pass : (k : ℕ) (bytes : List ℕ) → AllBits bytes → noBit k bytes ≡ none
+bits-pass k [] h = refl
+bits-pass k (b ∷ bytes) h = ap (λ (t : Bool). pick t (noBit (suc k) bytes) (some (14, k))) (borrow.Author.Tests.le-leb b 1 (h .0)) ∙ bits-pass (suc k) bytes (h .1)
+
+-- THE PORTS
+
+-- no output port among these
+abbrev pub NoneShown : List Signal → Type 0
+NoneShown ss = Each (λ (s : Signal). eqb (s .label) 1 ≡ false) ss
+
+none-shown : (ss : List Signal) (t : List Bits) → NoneShown ss → shownBits ss t ≡ []
+none-shown [] t h = refl
+none-shown (s ∷ ss) [] h = refl
+none-shown (s ∷ ss) (v ∷ t) h = ap (λ (b : Bool). pick b (v ∷ shownBits ss t) (shownBits ss t)) (h .0) ∙ none-shown ss t (h .1)
+
+pub ports-shown : (ports : List Port) (p : ℕ) (rest : List Signal) (t : List Bits) (σ : Signals) (m : Wires) → ((i : ℕ) → getD t i [] ≡ σ (p + i)) → length t ≡ length (portSignals p ports ++ rest) → NoneShown rest → Shown σ m p ports
+    → shownBits (portSignals p ports ++ rest) t ≡ map (values (held σ m)) (outputPorts ports)
+ports-shown [] p rest t σ m e l h s = none-shown rest t h
+ports-shown (x ∷ ports) p rest [] σ m e l h s = absurd (omega (arith, l))
+ports-shown (x ∷ ports) p rest (v ∷ t) σ m e l h s =
+    go (eqb (x .direction) 1) (s .0) (ports-shown ports (suc p) rest t σ m (λ i. e (suc i) ∙ ap σ (let z : p + suc i ≡ suc p + i = omega arith in z)) (omega (arith, l)) h (s .1))
+  where
+    here-is : v ≡ σ p
+    here-is = e 0 ∙ ap σ (let z : p + 0 ≡ p = omega arith in z)
+
+    go : (b : Bool) → (b ≡ true → σ p ≡ valuesAt (held σ m) (x .bits) 0 (length (x .bits))) → shownBits (portSignals (suc p) ports ++ rest) t ≡ map (values (held σ m)) (outputPorts ports)
+        → shownBits (pick b (signalOf 1 (length (x .bits)) p) (signalOf 0 (length (x .bits)) p) ∷ (portSignals (suc p) ports ++ rest)) (v ∷ t) ≡ map (values (held σ m)) (pick b (x .bits ∷ outputPorts ports) (outputPorts ports))
+    go true f q = ap₂ (λ (a : Bits) (l : List Bits). a ∷ l) (here-is ∙ f refl ∙ values-all (held σ m) (x .bits)) q
+    go false f q = q
+
+-- at the start
+
+pub zero-bytes : (k size : ℕ) → AllBits (take k (replicate size 0))
+zero-bytes zero size = tt
+zero-bytes (suc k) zero = tt
+zero-bytes (suc k) (suc size) = (omega arith, zero-bytes k size)
+
+pub drop-zeros : (k size : ℕ) → (j : ℕ) × (drop {A = ℕ} k (replicate size 0) ≡ replicate j 0)
+drop-zeros zero size = (size, refl)
+drop-zeros (suc k) zero = (0, refl)
+drop-zeros (suc k) (suc size) = drop-zeros k size
+
+take-zeros : (k size : ℕ) → k ≤ size → take k (replicate size 0) ≡ map digit (zeros k)
+take-zeros zero size h = refl
+take-zeros (suc k) zero h = absurd (omega (arith, h))
+take-zeros (suc k) (suc size) h = ap (λ (l : List ℕ). 0 ∷ l) (take-zeros k size (omega arith))
+
+none-bytes : (ss : List Signal) (bytes : List ℕ) → NoneShown ss → shownBytes ss bytes ≡ []
+none-bytes [] bytes h = refl
+none-bytes (s ∷ ss) bytes h = ap (λ (b : Bool). pick b (take (s .width) bytes ∷ shownBytes ss (drop (s .width) bytes)) (shownBytes ss (drop (s .width) bytes))) (h .0) ∙ none-bytes ss (drop (s .width) bytes) (h .1)
+
+pub zeros-shown : (ports : List Port) (p : ℕ) (rest : List Signal) (size : ℕ) → total (λ (s : Signal). s .width) (portSignals p ports ++ rest) ≤ size → NoneShown rest
+    → shownBytes (portSignals p ports ++ rest) (replicate size 0) ≡ bytesOf (map (λ (bits : List Bit). zeros (length bits)) (outputPorts ports))
+zeros-shown [] p rest size h q = none-bytes rest (replicate size 0) q
+zeros-shown (x ∷ ports) p rest size h q = go (λ j k. zeros-shown ports (suc p) rest j k q) (eqb (x .direction) 1) h
+  where
+    d : (j : ℕ) × (drop {A = ℕ} (length (x .bits)) (replicate size 0) ≡ replicate j 0)
+    d = drop-zeros (length (x .bits)) size
+
+    left : length (x .bits) + total (λ (s : Signal). s .width) (portSignals (suc p) ports ++ rest) ≤ size → total (λ (s : Signal). s .width) (portSignals (suc p) ports ++ rest) ≤ d .0
+    left k = omega (arith, k, ap length (d .1), length-drop {A = ℕ} (length (x .bits)) (replicate size 0), length-replicate {A = ℕ} size 0, length-replicate {A = ℕ} (d .0) 0)
+
+    later : length (x .bits) + total (λ (s : Signal). s .width) (portSignals (suc p) ports ++ rest) ≤ size → ((j : ℕ) → total (λ (s : Signal). s .width) (portSignals (suc p) ports ++ rest) ≤ j → shownBytes (portSignals (suc p) ports ++ rest) (replicate j 0) ≡ bytesOf (map (λ (bits : List Bit). zeros (length bits)) (outputPorts ports)))
+        → shownBytes (portSignals (suc p) ports ++ rest) (drop (length (x .bits)) (replicate size 0)) ≡ bytesOf (map (λ (bits : List Bit). zeros (length bits)) (outputPorts ports))
+    later k f = ap (shownBytes (portSignals (suc p) ports ++ rest)) (d .1) ∙ f (d .0) (left k)
+
+    go : ((j : ℕ) → total (λ (s : Signal). s .width) (portSignals (suc p) ports ++ rest) ≤ j → shownBytes (portSignals (suc p) ports ++ rest) (replicate j 0) ≡ bytesOf (map (λ (bits : List Bit). zeros (length bits)) (outputPorts ports)))
+        → (b : Bool) → (pick b (signalOf 1 (length (x .bits)) p) (signalOf 0 (length (x .bits)) p)) .width + total (λ (s : Signal). s .width) (portSignals (suc p) ports ++ rest) ≤ size
+        → shownBytes (pick b (signalOf 1 (length (x .bits)) p) (signalOf 0 (length (x .bits)) p) ∷ (portSignals (suc p) ports ++ rest)) (replicate size 0) ≡ bytesOf (map (λ (bits : List Bit). zeros (length bits)) (pick b (x .bits ∷ outputPorts ports) (outputPorts ports)))
+    go ih true k = ap₂ (λ (a : List ℕ) (l : List (List ℕ)). a ∷ l) (take-zeros (length (x .bits)) size (omega (arith, k))) (later k ih)
+    go ih false k = later k ih

@@ -1,0 +1,106 @@
+-- Demand 3: an accepted model shows what the netlist's own cells show, over whole lists of ticks, and refuses the same ticks.
+use mathlib.Core.Path.{_≡_}
+use mathlib.Core.Logic.{_⊎_}
+use mathlib.Core.Bool.{Bool, true, false, _&&_}
+use mathlib.Core.List.{List, [], _∷_, map}
+use mathlib.Core.Option.{Option, none, some}
+use Prim.Native.Nat.{ℕ, _≤_}
+use lib.Dec.{eqb, leb}
+use lib.ListN.{length, take, drop, replicate}
+use Rattle.bits.specs.Bits.{pick, Bits, digit}
+use Rattle.netlist.specs.declared.Limits.{Limits}
+use Rattle.netlist.specs.Netlist.{Netlist}
+use Rattle.netlist.specs.Reader.{netlist, readWords}
+use Rattle.recorder.specs.declared.Tapes.{Tapes}
+use Rattle.recorder.specs.Record.{Signal, Model}
+use Rattle.recorder.specs.Lists.{Lists, lists}
+use Rattle.lowering.specs.Lower.{Lowered, Accepted, Lowering, lowerWords}
+use Rattle.behaviour.specs.Behaviour.{Fired, Tick, State, start, tick, accepts, NoWireLoop}
+use Rattle.simulation.specs.Run.{Call, Outcome, run, exprBits, signalBytes}
+use Rattle.forms.specs.Lowered.{loweredModel, Roomy}
+
+-- A CALL: tick bits, the fired signal and edge or none, and the three works that it is lent, of any length and contents
+pub record Entry : Type 0 where
+  pub ticks : List ℕ
+  pub fired : Option (ℕ × ℕ)
+  pub workBits : List ℕ
+  pub workExprs : List ℕ
+  pub workSignals : List ℕ
+
+-- THE MODEL
+
+-- a run is lent just the words that lowering used
+abbrev pub usedLists : Lists → Tapes → Lists
+usedLists l t = lists (take (t .signals .used) (l .signals)) (take (t .exprs .used) (l .exprs)) (take (t .stmts .used) (l .stmts))
+
+abbrev pub callOf : Lists → List ℕ → Entry → Call
+callOf l bytes e = record { lists = l; bytes = bytes; ticks = e .ticks; fired = e .fired; workBits = e .workBits; workExprs = e .workExprs; workSignals = e .workSignals }
+
+-- the bytes of the output ports' signals (label 1), in order
+abbrev pub shownBytes : List Signal → List ℕ → List (List ℕ)
+shownBytes [] bytes = []
+shownBytes (s ∷ ss) bytes = pick (eqb (s .label) 1) (take (s .width) bytes ∷ shownBytes ss (drop (s .width) bytes)) (shownBytes ss (drop (s .width) bytes))
+
+-- after a call: how it ended, and what the output ports show
+pub record ByModel : Type 0 where
+  pub answer : Option (ℕ × ℕ)
+  pub outputs : List (List ℕ)
+
+-- each call gets the signal bytes as the last one left them
+abbrev pub shownByModel : ℕ → Lists → List Signal → List ℕ → List Entry → List ByModel
+shownByModel widest l ss bytes [] = []
+shownByModel widest l ss bytes (e ∷ es) =
+    let o = run widest (callOf l bytes e) in
+    record { answer = o .answer; outputs = shownBytes ss (o .bytes) } ∷ shownByModel widest l ss (o .bytes) es
+
+-- THE CELLS
+
+abbrev pub firedBy : Option (ℕ × ℕ) → Option Fired
+firedBy none = none
+firedBy (some f) = some (record { signal = f .0; edge = f .1 })
+
+abbrev pub tickBy : Entry → Tick
+tickBy e = record { bits = e .ticks; fired = firedBy (e .fired) }
+
+-- the works are as long as the model asks
+abbrev pub enough : Model → Entry → Bool
+enough M e = leb (exprBits M) (length (e .workBits)) && (leb (length (M .exprs)) (length (e .workExprs)) && leb (length (M .signals)) (length (e .workSignals)))
+
+-- the tick is made
+abbrev pub made : Netlist → Entry → Bool
+made n e = enough (loweredModel n) e && accepts n (tickBy e)
+
+abbrev pub after : Netlist → State → Entry → State
+after n s e = pick (made n e) (tick n s (tickBy e)) s
+
+pub record ByCells : Type 0 where
+  pub made : Bool
+  pub outputs : List (List ℕ)
+
+abbrev pub bytesOf : List Bits → List (List ℕ)
+bytesOf outputs = map (λ (bits : Bits). map digit bits) outputs
+
+abbrev pub shownByCells : Netlist → State → List Entry → List ByCells
+shownByCells n s [] = []
+shownByCells n s (e ∷ es) = record { made = made n e; outputs = bytesOf ((after n s e) .outputs) } ∷ shownByCells n (after n s e) es
+
+-- THE SAME: the outputs, and the ticks that are made; a refusal is 1 or 14
+
+pub data Agrees : ByModel → ByCells → Type 0 where
+  done : (outputs : List (List ℕ)) → Agrees (record { answer = none; outputs = outputs }) (record { made = true; outputs = outputs })
+  refused : (number place : ℕ) (outputs : List (List ℕ)) → (number ≡ 1) ⊎ (number ≡ 14) → Agrees (record { answer = some (number, place); outputs = outputs }) (record { made = false; outputs = outputs })
+
+abbrev pub AllAgree : List ByModel → List ByCells → Type 0
+AllAgree [] [] = Unit {0}
+AllAgree [] (c ∷ cs) = ⊥
+AllAgree (m ∷ ms) [] = ⊥
+AllAgree (m ∷ ms) (c ∷ cs) = Agrees m c × AllAgree ms cs
+
+-- from signal bytes all zero, of at least the needed length
+abbrev pub Demand3 : Type 0
+Demand3 =
+    (limits : Limits) (widest : ℕ) → Roomy limits widest
+    → (words : List ℕ) (s e t : ℕ) (tapes : Tapes) (l : Lists) → lowerWords limits words s e t ≡ record { answer = Accepted tapes; lists = l }
+    → (n : Netlist) → readWords limits words ≡ netlist n → NoWireLoop n
+    → (size : ℕ) → signalBytes (loweredModel n) ≤ size
+    → (entries : List Entry) → AllAgree (shownByModel widest (usedLists l tapes) (loweredModel n .signals) (replicate size 0) entries) (shownByCells n (start n) entries)

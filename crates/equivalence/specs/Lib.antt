@@ -1,0 +1,4 @@
+-- The specs of equivalence.
+pub mod Settled
+pub mod Registers
+pub mod Demand

@@ -1,0 +1,1 @@
+// A lowered model shows what the netlist's own cells show. Definitions and theorems; no code.
