@@ -146,7 +146,7 @@ pub fn reserve_scalar(
 }
 
 // A refusal handed on.
-fn undeclared(r: Declared) -> Stated
+pub fn undeclared(r: Declared) -> Stated
     ensures { λ q. ⌜ q ≡ undeclaredOf r ⌝ }
 {
     match r {
@@ -155,7 +155,7 @@ fn undeclared(r: Declared) -> Stated
     }
 }
 
-fn not_inserted(r: Inserted) -> Stated
+pub fn not_inserted(r: Inserted) -> Stated
     ensures { λ q. ⌜ q ≡ notInsertedOf r ⌝ }
 {
     match r {
@@ -165,7 +165,7 @@ fn not_inserted(r: Inserted) -> Stated
 }
 
 // A signal of n bits, for the bit words (kind 0) or wires (1) that stand from an index on.
-fn reserve_vector(
+pub fn reserve_vector(
     list: &mut [u32],
     signals: &mut [u32],
     places: &mut [u32],
