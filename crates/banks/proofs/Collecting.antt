@@ -3,7 +3,7 @@ use mathlib.Core.Path.{_≡_, refl, ap, ap₂, sym, _∙_, subst}
 use mathlib.Core.Bool.{Bool, true, false}
 use mathlib.Core.List.{List, [], _∷_, _++_, append-nil}
 use mathlib.Core.Option.{Option, none, some}
-use Prim.Native.Nat.{ℕ, zero, suc, _+_, _-_, _≤_, _<_}
+use Prim.Native.Nat.{ℕ, zero, suc, _+_, _-_, _≤_, _<_, min}
 use native.Mathlib.Nat.{add-zero, add-suc, suc-add}
 use native.Mathlib.Numerals.{add-one}
 use native.Mathlib.Decide.{ℕ-discrete}
@@ -22,6 +22,7 @@ use Rattle.netlist.proofs.WordLaws.{records-more}
 use Rattle.behaviour.specs.Banks.{Member, flipFlopOf, also, flipFlopsFrom, bankIn, joined, leadersFrom, leadersOf}
 use Rattle.behaviour.proofs.BankLaws.{bank-here}
 use Rattle.lowering.specs.Reserves.{Fitting}
+use Rattle.lowering.proofs.Reserving.{place-start, place-step}
 use Rattle.banks.specs.Banked.{larger, Keyed, numberOf, numberIn, withCell, JoinedBank, Joins, Collected, Work}
 use Rattle.banks.proofs.Keys.{bank-most, larger-left, larger-right}
 
@@ -140,3 +141,34 @@ module _ (limits : Limits) (words : List ℕ) (at i count : ℕ) (banks first se
   collecting-end n h g =
       let e : i ≡ n = omega arith in
       subst (λ (m : ℕ). Collected words at m count banks) e (record { long = so .keyed .long; numbers = so .numbers })
+
+-- THE LOOP
+
+pub record Gathers (words : List ℕ) (at n : ℕ) (banks₀ first₀ second₀ : List ℕ) (i count place : ℕ) (banks first second : List ℕ) : Type 0 where
+  pub so : (limits : Limits) → limits .wires < 1000000000 → Fitting (cellAt words) (cellEnd words) (FitsCell limits) (length words) n at → Work n banks₀ first₀ second₀
+      → Collecting limits words at i count banks first second × (place ≡ endAt (cellEnd words) i at)
+
+module _ (words : List ℕ) (at n : ℕ) (banks₀ first₀ second₀ : List ℕ) where
+  pub gathers-start : Gathers words at n banks₀ first₀ second₀ 0 0 at banks₀ first₀ second₀
+  gathers-start = record { so = λ limits small fit work. (collecting-start limits words at banks₀ first₀ second₀, place-start (cellEnd words) at) }
+
+  module _ {i count place : ℕ} {banks first second : List ℕ} (now : Gathers words at n banks₀ first₀ second₀ i count place banks first second) where
+    pub gathers-step : length banks ≡ length banks₀ → length first ≡ length first₀ → length second ≡ length second₀ → i < n → n < 4294967296
+        → {r count′ place′ j : ℕ} {banks′ first′ second′ : List ℕ} → Joins words place first second count r first′ second′ → j ≡ i → banks′ ≡ set banks j r → count′ ≡ larger count r → place′ ≡ min (cellEnd words place) (length words)
+        → Gathers words at n banks₀ first₀ second₀ (i + 1) count′ place′ banks′ first′ second′
+    gathers-step lb lf ls h big {r} {count′} {place′} {j} {banks′} {first′} {second′} join e b c p = record { so = λ limits small fit work.
+      let s = now .so limits small fit work in
+      let few : count ≤ i = s .0 .few in
+      let here : cellAt words place ≡ cellAt words (endAt (cellEnd words) i at) = ap (cellAt words) (s .1) in
+      let fits : FitsCell limits (cellAt words place) = subst (FitsCell limits) (sym here) (fit .fit i h) in
+      let done = join limits (leadersOf (cellsAt words at i)) i small fits (s .0 .keyed) (omega (arith, few, work .clocks)) (omega (arith, few, work .resets)) (omega (arith, few)) in
+      let now′ = subst (λ (x : Cell). JoinedBank limits (leadersOf (cellsAt words at i)) i x count r first′ second′) here done in
+      (
+        subst (λ (k : ℕ). Collecting limits words at (i + 1) k banks′ first′ second′) (sym c)
+        (subst (λ (l : List ℕ). Collecting limits words at (i + 1) (larger count r) l first′ second′) (sym (b ∙ ap (λ (k : ℕ). set banks k r) e))
+        (collecting-step limits words at i count banks first second (s .0) r first′ second′ now′ (omega (arith, work .numbers)))),
+        place-step (cellEnd words) fit h (s .1) p,
+      ) }
+
+    pub gathers-end : i ≤ n → n ≤ i → (limits : Limits) → limits .wires < 1000000000 → Fitting (cellAt words) (cellEnd words) (FitsCell limits) (length words) n at → Work n banks₀ first₀ second₀ → Collected words at n count banks
+    gathers-end h g limits small fit work = collecting-end limits words at i count banks first second (now .so limits small fit work .0) n h g

@@ -239,11 +239,11 @@ module _ (words : List ℕ) (i : ℕ) {k : ℕ} (kind : k ≡ wordAt words (i + 
   here : wordAt words i ≡ k
   here = ap (wordAt words) (sym (add-zero i)) ∙ sym kind
 
-  no-flop : (k ≡ 5 → ⊥) → flipFlopOf (cellAt words i) ≡ none
+  pub no-flop : (k ≡ 5 → ⊥) → flipFlopOf (cellAt words i) ≡ none
   unfolding cellAt
   no-flop h = kind-none words i (wordAt words i) (λ e. h (sym here ∙ e))
 
-  a-flop : k ≡ 5 → cellAt words i ≡ flipFlop (flopAt words i)
+  pub a-flop : k ≡ 5 → cellAt words i ≡ flipFlop (flopAt words i)
   unfolding cellAt
   a-flop h = ap (ofKind words i) (here ∙ h)
 

@@ -1,3 +1,6 @@
 -- The laws of banks that other crates cite.
 pub mod Keys
 pub mod Collecting
+pub mod Walking
+pub mod Noted
+pub mod Inserting
