@@ -111,3 +111,13 @@ module _ (words banks : List ℕ) (s : Scan) where
   -- the first of what is left
   pub walk-here : {c r : Cursor} {done : ℕ} → Walks c done → c .cell < s .n → Goes words banks s c r → restFrom words banks s c ≡ record { cell = c .cell; flop = flopAt words (c .place) } ∷ restFrom words banks s r
   walk-here {c} w h g = rest-member (c .cell) (c .place) h (w .on h) ∙ ap (λ (ms : List Member). record { cell = c .cell; flop = flopAt words (c .place) } ∷ ms) (sym (g .next h .rest))
+
+-- one member less
+pub count-on : {k total : ℕ} {m : Member} {ms more : List Member} → k + length ms ≡ total → ms ≡ m ∷ more → k + 1 + length more ≡ total
+count-on h e = omega (arith, h, ap length e)
+
+pub count-end : {k total : ℕ} {ms : List Member} → k + length ms ≡ total → ms ≡ [] → k ≡ total
+count-end h e = omega (arith, h, ap length e)
+
+pub count-start : {ms all : List Member} → ms ≡ all → 0 + length ms ≡ length all
+count-start e = omega (arith, ap length e)
