@@ -156,19 +156,20 @@ module _ (words : List ℕ) (at n : ℕ) (banks₀ first₀ second₀ : List ℕ
     pub gathers-step : length banks ≡ length banks₀ → length first ≡ length first₀ → length second ≡ length second₀ → i < n → n < 4294967296
         → {r count′ place′ j : ℕ} {banks′ first′ second′ : List ℕ} → Joins words place first second count r first′ second′ → j ≡ i → banks′ ≡ set banks j r → count′ ≡ larger count r → place′ ≡ min (cellEnd words place) (length words)
         → Gathers words at n banks₀ first₀ second₀ (i + 1) count′ place′ banks′ first′ second′
-    gathers-step lb lf ls h big {r} {count′} {place′} {j} {banks′} {first′} {second′} join e b c p = record { so = λ limits small fit work.
-      let s = now .so limits small fit work in
-      let few : count ≤ i = s .0 .few in
-      let here : cellAt words place ≡ cellAt words (endAt (cellEnd words) i at) = ap (cellAt words) (s .1) in
-      let fits : FitsCell limits (cellAt words place) = subst (FitsCell limits) (sym here) (fit .fit i h) in
-      let done = join limits (leadersOf (cellsAt words at i)) i small fits (s .0 .keyed) (omega (arith, few, work .clocks)) (omega (arith, few, work .resets)) (omega (arith, few)) in
-      let now′ = subst (λ (x : Cell). JoinedBank limits (leadersOf (cellsAt words at i)) i x count r first′ second′) here done in
-      (
-        subst (λ (k : ℕ). Collecting limits words at (i + 1) k banks′ first′ second′) (sym c)
-        (subst (λ (l : List ℕ). Collecting limits words at (i + 1) (larger count r) l first′ second′) (sym (b ∙ ap (λ (k : ℕ). set banks k r) e))
-        (collecting-step limits words at i count banks first second (s .0) r first′ second′ now′ (omega (arith, work .numbers)))),
-        place-step (cellEnd words) fit h (s .1) p,
-      ) }
+    gathers-step lb lf ls h big {r} {count′} {place′} {j} {banks′} {first′} {second′} join e b c p = record {
+      so = λ limits small fit work.
+          let s = now .so limits small fit work in
+          let few : count ≤ i = s .0 .few in
+          let here : cellAt words place ≡ cellAt words (endAt (cellEnd words) i at) = ap (cellAt words) (s .1) in
+          let fits : FitsCell limits (cellAt words place) = subst (FitsCell limits) (sym here) (fit .fit i h) in
+          let done = join limits (leadersOf (cellsAt words at i)) i small fits (s .0 .keyed) (omega (arith, few, work .clocks)) (omega (arith, few, work .resets)) (omega (arith, few)) in
+          let now′ = subst (λ (x : Cell). JoinedBank limits (leadersOf (cellsAt words at i)) i x count r first′ second′) here done in (
+            subst (λ (k : ℕ). Collecting limits words at (i + 1) k banks′ first′ second′) (sym c)
+                (subst (λ (l : List ℕ). Collecting limits words at (i + 1) (larger count r) l first′ second′) (sym (b ∙ ap (λ (k : ℕ). set banks k r) e))
+                (collecting-step limits words at i count banks first second (s .0) r first′ second′ now′ (omega (arith, work .numbers)))),
+            place-step (cellEnd words) fit h (s .1) p,
+          );
+    }
 
     pub gathers-end : i ≤ n → n ≤ i → (limits : Limits) → limits .wires < 1000000000 → Fitting (cellAt words) (cellEnd words) (FitsCell limits) (length words) n at → Work n banks₀ first₀ second₀ → Collected words at n count banks
     gathers-end h g limits small fit work = collecting-end limits words at i count banks first second (now .so limits small fit work .0) n h g

@@ -83,5 +83,5 @@ room-each : {limits : Limits} {ss ps : List ℕ} → Room limits ss ps → (ws :
 room-each h [] f = tt
 room-each h (w ∷ ws) f = (room-tabled h w (f .0), room-each h ws (f .1))
 
-pub bank-tabled : {limits : Limits} {ss ps : List ℕ} {ms : List Member} {s width : ℕ} → MembersFit ss ps ms limits → width ≡ length ms → s < 4294967295 → TabledWires ss ps (outputsOf ms) s width
-bank-tabled {ms = ms} p e h = record { tabled = room-each (p .0) (outputsOf ms) (p .1); numbered = h; narrow = omega (arith, p .2, e); placed = omega (arith, e, outputs-length ms) }
+pub bank-tabled : {limits : Limits} {ss ps : List ℕ} (ms : List Member) {s width : ℕ} → MembersFit ss ps ms limits → width ≡ length ms → s < 4294967295 → TabledWires ss ps (outputsOf ms) s width
+bank-tabled ms p e h = record { tabled = room-each (p .0) (outputsOf ms) (p .1); numbered = h; narrow = omega (arith, p .2, e); placed = omega (arith, e, outputs-length ms) }

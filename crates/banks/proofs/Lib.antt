@@ -4,3 +4,5 @@ pub mod Collecting
 pub mod Walking
 pub mod Noted
 pub mod Inserting
+pub mod BanksReserved
+pub mod NextBits

@@ -79,7 +79,7 @@ module _ {words : List ℕ} {at n count : ℕ} {banks : List ℕ} (so : Collecte
   nowhere = record { cell = 0; flop = flopAt [] 0 }
 
   -- bank b
-  pub bankOf : ℕ → Bank
+  unfoldable pub bankOf : ℕ → Bank
   bankOf b = record { leader = getD (leadersOf cells) b nowhere; members = membersOf (leadersOf cells) b (flipFlopsOf cells) }
 
   -- is the next one

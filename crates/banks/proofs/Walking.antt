@@ -16,7 +16,7 @@ use Rattle.netlist.specs.declared.Reset.{Reset}
 use Rattle.netlist.specs.Netlist.{FlipFlop, bitOf}
 use Rattle.netlist.specs.Fields.{wordAt, whenSet, controlAt, resetAt, cellEnd}
 use Rattle.netlist.proofs.WordLaws.{word-past}
-use Rattle.behaviour.specs.Banks.{Member, kept}
+use Rattle.behaviour.specs.Banks.{Member, kept, outputsOf}
 use Rattle.banks.specs.declared.Scan.{Scan}
 use Rattle.banks.specs.declared.Cursor.{Cursor}
 use Rattle.banks.specs.Banked.{flopAt}
@@ -109,15 +109,22 @@ module _ (words banks : List ℕ) (s : Scan) where
   walk-next w h g = record { on = g .next h .member; few = omega (arith, w .few, g .onward h) }
 
   -- the first of what is left
+  pub walk-first : {c : Cursor} {done : ℕ} → Walks c done → c .cell < s .n → restFrom words banks s c ≡ record { cell = c .cell; flop = flopAt words (c .place) } ∷ restAt words banks s (suc (c .cell)) (cellEnd words (c .place))
+  walk-first {c} w h = rest-member (c .cell) (c .place) h (w .on h)
+
+  -- and the others
   pub walk-here : {c r : Cursor} {done : ℕ} → Walks c done → c .cell < s .n → Goes words banks s c r → restFrom words banks s c ≡ record { cell = c .cell; flop = flopAt words (c .place) } ∷ restFrom words banks s r
-  walk-here {c} w h g = rest-member (c .cell) (c .place) h (w .on h) ∙ ap (λ (ms : List Member). record { cell = c .cell; flop = flopAt words (c .place) } ∷ ms) (sym (g .next h .rest))
+  walk-here {c} w h g = walk-first w h ∙ ap (λ (ms : List Member). record { cell = c .cell; flop = flopAt words (c .place) } ∷ ms) (sym (g .next h .rest))
 
 -- one member less
-pub count-on : {k total : ℕ} {m : Member} {ms more : List Member} → k + length ms ≡ total → ms ≡ m ∷ more → k + 1 + length more ≡ total
-count-on h e = omega (arith, h, ap length e)
+pub count-on : (k : ℕ) {total : ℕ} {m : Member} {ms more : List Member} → k + length ms ≡ total → ms ≡ m ∷ more → k + 1 + length more ≡ total
+count-on k h e = omega (arith, h, ap length e)
 
 pub count-end : {k total : ℕ} {ms : List Member} → k + length ms ≡ total → ms ≡ [] → k ≡ total
 count-end h e = omega (arith, h, ap length e)
 
 pub count-start : {ms all : List Member} → ms ≡ all → 0 + length ms ≡ length all
 count-start e = omega (arith, ap length e)
+
+pub outputs-on : (words : List ℕ) {w cell : ℕ} (place : ℕ) {ms more : List Member} → ms ≡ record { cell = cell; flop = flopAt words place } ∷ more → w ≡ wordAt words (place + 2) → outputsOf ms ≡ w ∷ outputsOf more
+outputs-on words place {more = more} e f = ap outputsOf e ∙ ap (λ (x : ℕ). x ∷ outputsOf more) (sym f)

@@ -15,16 +15,12 @@ use Rattle.recorder.specs.Writer.{Writer, state, _>>=_}
 use Rattle.recorder.specs.Lists.{Answer, Answer.Done, Answer.Failed, stated, resetOf}
 use Rattle.wires.specs.declared.Constants.{Constants}
 use Rattle.wires.specs.Wires.{Wires, wiresOf}
-use Rattle.wires.specs.Expressions.{wireRef, readRef, bitSignal, concatParts, roomy}
+use Rattle.wires.specs.Expressions.{bitSignal, concatParts, roomy}
 use Rattle.cells.specs.Answers.{WroteBoth}
 use Rattle.lowering.specs.Emit.{nextBits, emitFlipFlopBank, emitBanks}
 use Rattle.banks.specs.declared.Resetting.{Resetting}
 use Rattle.banks.specs.declared.Resetting.the-variants as R
 use Rattle.banks.specs.Banked.{Collected}
-
--- the value that a flip-flop has
-abbrev pub heldValue : Wires → ℕ → Writer ℕ
-heldValue m w = wireRef m w >>= readRef
 
 -- the next value of a bank's members
 abbrev pub nextValue : Wires → List Member → Writer ℕ

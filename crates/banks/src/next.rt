@@ -2,6 +2,7 @@
 use crate::Scan;
 use crate::members::first_member;
 use crate::members::next_member;
+use netlist::Bit;
 use netlist::Control;
 use netlist::fields::OptionalControl;
 use netlist::fields::OptionalReset;
@@ -14,12 +15,9 @@ use recorder::Emitted;
 use recorder::ExprId;
 use recorder::Tapes;
 use recorder::builder;
-use refusal::Refusal;
-use wires::Found;
 use wires::expressions::asserted_expression;
 use wires::expressions::bit_expression;
 use wires::expressions::concat_parts;
-use wires::map::wire_ref;
 ghost use mathlib.Core.Path.{_≡_};
 ghost use mathlib.Core.List.{[]};
 ghost use Prim.Native.Nat.{_≤_};
@@ -31,17 +29,7 @@ ghost use Rattle.wires.specs.Expressions.{concatParts};
 ghost use Rattle.lowering.specs.Emit.{withEnable, withReset, resetBit as resetBitOf, resetBits, nextBit};
 ghost use Rattle.banks.specs.Banked.{flopAt};
 ghost use Rattle.banks.specs.Members.{membersIn};
-ghost use Rattle.banks.specs.Emits.{heldValue, nextValue};
-
-// The value that a flip-flop has.
-fn held(exprs: &mut [u32], signals: &[u32], places: &[u32], t: Tapes, output: u32) -> Emitted
-    ensures { λ r. ⌜ WroteExprs (now (exprs .entry)) t (heldValue (wiresOf (now (signals .entry)) (now (places .entry))) output) (emitted r) (now (exprs .exit)) ⌝ }
-{
-    match wire_ref(signals, places, output) {
-        Found::At(r) => builder::read(exprs, t, 1, r.signal, r.lsb),
-        Found::Missing => Emitted::Refused(Refusal::MissingWire(wide(output))),
-    }
-}
+ghost use Rattle.banks.specs.Emits.{nextValue};
 
 fn with_enable(
     exprs: &mut [u32],
@@ -57,7 +45,7 @@ fn with_enable(
     let OptionalControl::Present(control) = enable else {
         return Emitted::Done(next, t);
     };
-    let r = held(exprs, signals, places, t, output);
+    let r = bit_expression(exprs, signals, places, t, Bit::Wire(output));
     let Emitted::Done(q, after_held) = r else {
         return r;
     };

@@ -1,3 +1,8 @@
+use Rattle.wires.specs.Wires.{wiresOf}
+use Rattle.lowering.proofs.Reserved.{reserve-full, reserve-numbered, reserve-done, reserve-taken}
+use Rattle.lowering.proofs.Reserving.{reserves-as}
+use Rattle.banks.specs.Members.{membersIn}
+use Rattle.banks.proofs.Inserting.{bank-vector, bank-tabled}
 use borrow.Author.Needs.{needs}
 use Rattle.banks.proofs.bank.reserve_flip_flop_bank.Statement.{statement}
 use Rattle.banks.proofs.bank.reserve_flip_flop_bank.Tie as tie
@@ -35,7 +40,7 @@ same-length c = search needs
 
 -- src/bank.rt:62:9
 returns : tie.Need-returns
-returns c = ?
+returns c = reserves-as (bank-vector (wiresOf (c .before .before .before .before .before .before .before .before .before .before .before .before .before .args .signals .now) (c .before .before .before .before .before .before .before .before .before .before .before .before .before .args .places .now)) (c .before .before .before .before .before .before .before .before .before .before .before .before .before .args .owner) (membersIn (c .before .before .before .before .before .before .before .before .before .before .before .before .before .args .words .now) (c .before .before .before .before .before .before .before .before .before .before .before .before .before .args .bank-of .now) (c .before .before .before .before .before .before .before .before .before .before .before .before .before .args .scan)) (c .before .before .before .before .before .before .before .count-members .ensures)) (record { so = λ limits p. reserve-full _ (c .before .before .before .before .before .signal .result) (c .before .before .before .before .before .signal .ensures) (c .undeclared .result) _ (c .before .enum-told .given .1) (c .undeclared .ensures) })
 
 -- src/bank.rt:64:9
 insert-members-requires : tie.Need-insert-members-requires
@@ -66,7 +71,7 @@ same-length-4 c = search needs
 
 -- src/bank.rt:66:9
 returns-2 : tie.Need-returns-2
-returns-2 c = ?
+returns-2 c = reserves-as (bank-vector (wiresOf (c .before .before .before .before .before .before .before .before .before .before .before .before .before .before .before .before .before .before .before .before .before .before .before .args .signals .now) (c .before .before .before .before .before .before .before .before .before .before .before .before .before .before .before .before .before .before .before .before .before .before .before .args .places .now)) (c .before .before .before .before .before .before .before .before .before .before .before .before .before .before .before .before .before .before .before .before .before .before .before .args .owner) (membersIn (c .before .before .before .before .before .before .before .before .before .before .before .before .before .before .before .before .before .before .before .before .before .before .before .args .words .now) (c .before .before .before .before .before .before .before .before .before .before .before .before .before .before .before .before .before .before .before .before .before .before .before .args .bank-of .now) (c .before .before .before .before .before .before .before .before .before .before .before .before .before .before .before .before .before .before .before .before .before .before .before .args .scan)) (c .before .before .before .before .before .before .before .before .before .before .before .before .before .before .before .before .before .count-members .ensures)) (record { so = λ limits p. reserve-taken _ (c .before .before .before .before .before .before .before .before .before .before .before .before .before .before .before .signal .result) (c .before .before .before .before .before .before .before .before .before .before .before .before .before .before .before .signal .ensures) (c .before .before .before .before .before .before .before .before .before .before .before .d .given .1) (c .before .before .before .before .before .before .before .insert-members .result) (wiresOf (c .before .before .before .before .before .before .before .insert-members .last .0) (c .before .before .before .before .before .before .before .insert-members .last .1 .0)) (c .before .before .before .before .before .before .before .insert-members .ensures .so (bank-tabled (membersIn (c .before .before .before .before .before .before .before .before .before .before .before .before .before .before .before .before .before .before .before .before .before .before .before .args .words .now) (c .before .before .before .before .before .before .before .before .before .before .before .before .before .before .before .before .before .before .before .before .before .before .before .args .bank-of .now) (c .before .before .before .before .before .before .before .before .before .before .before .before .before .before .before .before .before .before .before .before .before .before .before .args .scan)) p (c .before .before .before .before .before .before .before .before .before .before .before .before .before .before .before .before .before .count-members .ensures) (reserve-numbered _ (c .before .before .before .before .before .before .before .before .before .before .before .before .before .before .before .signal .result) (c .before .before .before .before .before .before .before .before .before .before .before .before .before .before .before .signal .ensures) (c .before .before .before .before .before .before .before .before .before .before .before .d .given .1)))) (c .not-inserted .result) (c .before .enum-told3 .given .1) (c .not-inserted .ensures) })
 
 -- src/bank.rt:47:1
 same-length-5 : tie.Need-same-length-5
@@ -82,7 +87,7 @@ same-length-7 c = search needs
 
 -- src/bank.rt:47:1
 returns-3 : tie.Need-returns-3
-returns-3 c = ?
+returns-3 c = reserves-as (bank-vector (wiresOf (c .before .before .before .before .before .before .before .before .before .before .before .before .before .before .before .before .before .before .before .before .before .before .args .signals .now) (c .before .before .before .before .before .before .before .before .before .before .before .before .before .before .before .before .before .before .before .before .before .before .args .places .now)) (c .before .before .before .before .before .before .before .before .before .before .before .before .before .before .before .before .before .before .before .before .before .before .args .owner) (membersIn (c .before .before .before .before .before .before .before .before .before .before .before .before .before .before .before .before .before .before .before .before .before .before .args .words .now) (c .before .before .before .before .before .before .before .before .before .before .before .before .before .before .before .before .before .before .before .before .before .before .args .bank-of .now) (c .before .before .before .before .before .before .before .before .before .before .before .before .before .before .before .before .before .before .before .before .before .before .args .scan)) (c .before .before .before .before .before .before .before .before .before .before .before .before .before .before .before .before .count-members .ensures)) (record { so = λ limits p. reserve-done _ (c .before .before .before .before .before .before .before .before .before .before .before .before .before .before .signal .result) (c .before .before .before .before .before .before .before .before .before .before .before .before .before .before .signal .ensures) (c .before .before .before .before .before .before .before .before .before .before .d .given .1) (c .before .before .before .before .before .before .insert-members .result) (wiresOf (c .before .before .before .before .before .before .insert-members .last .0) (c .before .before .before .before .before .before .insert-members .last .1 .0)) (c .before .before .before .before .before .before .insert-members .ensures .so (bank-tabled (membersIn (c .before .before .before .before .before .before .before .before .before .before .before .before .before .before .before .before .before .before .before .before .before .before .args .words .now) (c .before .before .before .before .before .before .before .before .before .before .before .before .before .before .before .before .before .before .before .before .before .before .args .bank-of .now) (c .before .before .before .before .before .before .before .before .before .before .before .before .before .before .before .before .before .before .before .before .before .before .args .scan)) p (c .before .before .before .before .before .before .before .before .before .before .before .before .before .before .before .before .count-members .ensures) (reserve-numbered _ (c .before .before .before .before .before .before .before .before .before .before .before .before .before .before .signal .result) (c .before .before .before .before .before .before .before .before .before .before .before .before .before .before .signal .ensures) (c .before .before .before .before .before .before .before .before .before .before .d .given .1)))) (c .enum-told2 .given .1) })
 
 pub reserve-flip-flop-bank-spec : {M : Type 1} → statement M
 reserve-flip-flop-bank-spec =

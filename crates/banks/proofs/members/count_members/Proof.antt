@@ -40,7 +40,7 @@ loop-less c = omega (arith, c .next-member .ensures .onward (c .before .if1 .tak
 
 -- src/members.rt:57:5
 loop-again : tie.Need-loop-again Inv-loop μ-loop
-loop-again c = (walk-next (c .before .before .before .before .before .before .before .before .args .words .now) (c .before .before .before .before .before .before .before .before .args .bank-of .now) (c .before .before .before .before .before .before .before .before .args .scan) (c .before .before .before .before .loop .inv .0) (c .before .if1 .taken) (c .next-member .ensures), count-on (c .before .before .before .before .loop .inv .1) (walk-here (c .before .before .before .before .before .before .before .before .args .words .now) (c .before .before .before .before .before .before .before .before .args .bank-of .now) (c .before .before .before .before .before .before .before .before .args .scan) (c .before .before .before .before .loop .inv .0) (c .before .if1 .taken) (c .next-member .ensures)))
+loop-again c = (walk-next (c .before .before .before .before .before .before .before .before .args .words .now) (c .before .before .before .before .before .before .before .before .args .bank-of .now) (c .before .before .before .before .before .before .before .before .args .scan) (c .before .before .before .before .loop .inv .0) (c .before .if1 .taken) (c .next-member .ensures), count-on (c .before .before .before .before .loop .k) (c .before .before .before .before .loop .inv .1) (walk-here (c .before .before .before .before .before .before .before .before .args .words .now) (c .before .before .before .before .before .before .before .before .args .bank-of .now) (c .before .before .before .before .before .before .before .before .args .scan) (c .before .before .before .before .loop .inv .0) (c .before .if1 .taken) (c .next-member .ensures)))
 
 -- src/members.rt:52:1
 returns : tie.Need-returns Inv-loop μ-loop

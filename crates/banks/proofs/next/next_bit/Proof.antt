@@ -1,3 +1,8 @@
+use Rattle.banks.proofs.NextBits.{next-is}
+use mathlib.Core.Path.{_≡_, refl, ap, sym, _∙_}
+use Rattle.wires.specs.Wires.{wiresOf}
+use Rattle.recorder.specs.Lists.{emitted}
+use Rattle.recorder.proofs.Wrote.{wrote-as, wrote-pure, then-done, then-same}
 use borrow.Author.Needs.{needs}
 use Rattle.banks.proofs.next.next_bit.Statement.{statement}
 use Rattle.banks.proofs.next.next_bit.Tie as tie
@@ -33,7 +38,7 @@ same-length c = search needs
 
 -- src/next.rt:126:9
 returns : tie.Need-returns
-returns c = ?
+returns c = λ s m. wrote-as (next-is (wiresOf (c .before .before .before .before .before .before .before .before .before .before .before .args .signals .now) (c .before .before .before .before .before .before .before .before .before .before .before .args .places .now)) (c .before .before .before .before .before .before .before .before .before .before .before .args .words .now) (c .before .before .before .before .before .before .before .before .before .before .before .args .at) (c .before .before .before .before .before .bit-at .ensures) refl refl refl) (then-same (c .before .before .before .before .bit-expression .ensures s m) _ (ap emitted (c .enum-told .given .1)))
 
 -- src/next.rt:128:9
 field-requires : tie.Need-field-requires
@@ -61,7 +66,7 @@ same-length-2 c = search needs
 
 -- src/next.rt:132:9
 returns-2 : tie.Need-returns-2
-returns-2 c = ?
+returns-2 c = λ s m. wrote-as (next-is (wiresOf (c .before .before .before .before .before .before .before .before .before .before .before .before .before .before .before .before .before .before .before .before .args .signals .now) (c .before .before .before .before .before .before .before .before .before .before .before .before .before .before .before .before .before .before .before .before .args .places .now)) (c .before .before .before .before .before .before .before .before .before .before .before .before .before .before .before .before .before .before .before .before .args .words .now) (c .before .before .before .before .before .before .before .before .before .before .before .before .before .before .before .before .before .before .before .before .args .at) (c .before .before .before .before .before .before .before .before .before .before .before .before .before .before .bit-at .ensures) (c .before .before .before .before .before .before .before .field .ensures) (c .before .before .before .before .before .before .optional-control .ensures) refl) (then-done (c .before .before .before .before .before .before .before .before .before .before .before .before .before .bit-expression .ensures s m) _ (ap emitted (c .before .before .before .before .before .before .before .before .before .r .given .1)) (then-same (c .before .before .before .before .with-enable .ensures s m) _ (ap emitted (c .enum-told2 .given .1))))
 
 -- src/next.rt:134:9
 optional-reset-requires : tie.Need-optional-reset-requires
@@ -77,7 +82,7 @@ same-length-3 c = ?
 
 -- src/next.rt:114:1
 returns-3 : tie.Need-returns-3
-returns-3 c = ?
+returns-3 c = λ s m. wrote-as (next-is (wiresOf (c .before .before .before .before .before .before .before .before .before .before .before .before .before .before .before .before .before .before .before .before .before .before .before .before .before .before .args .signals .now) (c .before .before .before .before .before .before .before .before .before .before .before .before .before .before .before .before .before .before .before .before .before .before .before .before .before .before .args .places .now)) (c .before .before .before .before .before .before .before .before .before .before .before .before .before .before .before .before .before .before .before .before .before .before .before .before .before .before .args .words .now) (c .before .before .before .before .before .before .before .before .before .before .before .before .before .before .before .before .before .before .before .before .before .before .before .before .before .before .args .at) (c .before .before .before .before .before .before .before .before .before .before .before .before .before .before .before .before .before .before .before .before .bit-at .ensures) (c .before .before .before .before .before .before .before .before .before .before .before .before .before .field .ensures) (c .before .before .before .before .before .before .before .before .before .before .before .before .optional-control .ensures) (c .before .before .before .before .optional-reset .ensures)) (then-done (c .before .before .before .before .before .before .before .before .before .before .before .before .before .before .before .before .before .before .before .bit-expression .ensures s m) _ (ap emitted (c .before .before .before .before .before .before .before .before .before .before .before .before .before .before .before .r .given .1)) (then-done (c .before .before .before .before .before .before .before .before .before .before .with-enable .ensures s m) _ (ap emitted (c .before .before .before .before .before .before .r2 .given .1)) (c .before .before .with-reset .ensures s m)))
 
 pub next-bit-spec : {M : Type 1} → statement M
 next-bit-spec =

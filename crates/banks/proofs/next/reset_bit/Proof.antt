@@ -1,3 +1,4 @@
+use Rattle.banks.proofs.NextBits.{reset-zero}
 use borrow.Author.Needs.{needs}
 use Rattle.banks.proofs.next.reset_bit.Statement.{statement}
 use Rattle.banks.proofs.next.reset_bit.Tie as tie
@@ -22,7 +23,7 @@ returns-2 c = search needs
 
 -- src/next.rt:72:1
 returns-3 : tie.Need-returns-3
-returns-3 c = ?
+returns-3 c = reset-zero (c .before .before .before .reset .given .1) (c .if1 .left)
 
 pub reset-bit-spec : {M : Type 1} → statement M
 reset-bit-spec = tie.close (tie.spec enum-known-reset enum-told returns returns-2 returns-3)

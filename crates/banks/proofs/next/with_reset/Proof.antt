@@ -1,3 +1,8 @@
+use Rattle.banks.proofs.NextBits.{reset-none, reset-async, reset-sync}
+use mathlib.Core.Path.{_≡_, refl, ap, sym, _∙_}
+use Rattle.wires.specs.Wires.{wiresOf}
+use Rattle.recorder.specs.Lists.{emitted}
+use Rattle.recorder.proofs.Wrote.{wrote-as, wrote-pure, then-done, then-same}
 use borrow.Author.Needs.{needs}
 use Rattle.banks.proofs.next.with_reset.Statement.{statement}
 use Rattle.banks.proofs.next.with_reset.Tie as tie
@@ -17,11 +22,11 @@ enum-told c = search needs
 
 -- src/next.rt:95:9
 returns : tie.Need-returns
-returns c = ?
+returns c = λ s m. wrote-as (reset-none (wiresOf (c .before .before .before .before .before .args .signals .now) (c .before .before .before .before .before .args .places .now)) (c .enum-told .given .1) (c .before .before .before .before .before .args .next .0)) wrote-pure
 
 -- src/next.rt:98:9
 returns-2 : tie.Need-returns-2
-returns-2 c = ?
+returns-2 c = λ s m. wrote-as (reset-async (wiresOf (c .before .before .before .before .before .before .before .before .args .signals .now) (c .before .before .before .before .before .before .before .before .args .places .now)) (c .before .before .before .reset .given .1) (c .if1 .taken) (c .before .before .before .before .before .before .before .before .args .next .0)) wrote-pure
 
 -- src/next.rt:106:9
 asserted-expression-requires : tie.Need-asserted-expression-requires
@@ -41,7 +46,7 @@ same-length c = search needs
 
 -- src/next.rt:108:9
 returns-3 : tie.Need-returns-3
-returns-3 c = ?
+returns-3 c = λ s m. wrote-as (reset-sync (wiresOf (c .before .before .before .before .before .before .before .before .before .before .before .before .before .before .args .signals .now) (c .before .before .before .before .before .before .before .before .before .before .before .before .before .before .args .places .now)) (c .before .before .before .before .before .before .before .before .before .reset .given .1) (c .before .before .before .before .before .before .if1 .left) refl (c .before .before .before .before .before .before .before .before .before .before .before .before .before .before .args .next .0)) (then-same (c .before .before .before .before .asserted-expression .ensures s m) _ (ap emitted (c .enum-told2 .given .1)))
 
 -- src/next.rt:110:44
 reset-bit-requires : tie.Need-reset-bit-requires
@@ -57,7 +62,7 @@ same-length-2 c = search needs
 
 -- src/next.rt:84:1
 returns-4 : tie.Need-returns-4
-returns-4 c = ?
+returns-4 c = λ s m. wrote-as (reset-sync (wiresOf (c .before .before .before .before .before .before .before .before .before .before .before .before .before .before .before .before .before .before .before .before .args .signals .now) (c .before .before .before .before .before .before .before .before .before .before .before .before .before .before .before .before .before .before .before .before .args .places .now)) (c .before .before .before .before .before .before .before .before .before .before .before .before .before .before .before .reset .given .1) (c .before .before .before .before .before .before .before .before .before .before .before .before .if1 .left) (c .before .before .before .reset-bit .ensures) (c .before .before .before .before .before .before .before .before .before .before .before .before .before .before .before .before .before .before .before .before .args .next .0)) (then-done (c .before .before .before .before .before .before .before .before .before .before .asserted-expression .ensures s m) _ (ap emitted (c .before .before .before .before .before .before .e .given .1)) (c .before .before .mux .ensures s m))
 
 pub with-reset-spec : {M : Type 1} → statement M
 with-reset-spec =
