@@ -6,3 +6,4 @@ pub mod Noted
 pub mod Inserting
 pub mod BanksReserved
 pub mod NextBits
+pub mod Registers

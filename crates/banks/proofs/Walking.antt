@@ -7,9 +7,9 @@ use mathlib.Core.Option.{Option, none, some}
 use Prim.Native.Nat.{ℕ, zero, suc, _+_, _-_, _≤_, _<_, min}
 use native.Mathlib.Numerals.{add-one}
 use native.Mathlib.Omega.{arith}
-use lib.Dec.{eqb, leb}
+use lib.Dec.{eqb, leb, ltb}
 use lib.ListN.{length, getD}
-use borrow.Author.Tests.{eq-eqb, ne-eqb, leb-true, leb-false}
+use borrow.Author.Tests.{eq-eqb, ne-eqb, leb-true, leb-false, ltb-true, ltb-false}
 use Rattle.netlist.specs.declared.Bit.{Bit}
 use Rattle.netlist.specs.declared.Control.{Control}
 use Rattle.netlist.specs.declared.Reset.{Reset}
@@ -108,6 +108,9 @@ module _ (words banks : List ℕ) (s : Scan) where
   pub walk-next : {c r : Cursor} {done : ℕ} → Walks c done → c .cell < s .n → Goes words banks s c r → Walks r (done + 1)
   walk-next w h g = record { on = g .next h .member; few = omega (arith, w .few, g .onward h) }
 
+  pub walk-past : {c r : Cursor} {done : ℕ} → Walks c done → c .cell < s .n → Goes words banks s c r → Walks r 0
+  walk-past w h g = record { on = g .next h .member; few = omega arith }
+
   -- the first of what is left
   pub walk-first : {c : Cursor} {done : ℕ} → Walks c done → c .cell < s .n → restFrom words banks s c ≡ record { cell = c .cell; flop = flopAt words (c .place) } ∷ restAt words banks s (suc (c .cell)) (cellEnd words (c .place))
   walk-first {c} w h = rest-member (c .cell) (c .place) h (w .on h)
@@ -115,6 +118,20 @@ module _ (words banks : List ℕ) (s : Scan) where
   -- and the others
   pub walk-here : {c r : Cursor} {done : ℕ} → Walks c done → c .cell < s .n → Goes words banks s c r → restFrom words banks s c ≡ record { cell = c .cell; flop = flopAt words (c .place) } ∷ restFrom words banks s r
   walk-here {c} w h g = walk-first w h ∙ ap (λ (ms : List Member). record { cell = c .cell; flop = flopAt words (c .place) } ∷ ms) (sym (g .next h .rest))
+
+  -- the first of all
+  pub leader-is : {c : Cursor} {m : Member} {ms more : List Member} → Stands words banks s c ms → ms ≡ m ∷ more → m .flop ≡ flopAt words (c .place)
+  leader-is {c} {m} {ms} {more} h e = go (ltb (c .cell) (s .n)) refl
+    where
+      go : (b : Bool) → ltb (c .cell) (s .n) ≡ b → m .flop ≡ flopAt words (c .place)
+      go true q =
+          let less : c .cell < s .n = ltb-true (c .cell) (s .n) q in
+          let both : record { cell = c .cell; flop = flopAt words (c .place) } ∷ restAt words banks s (suc (c .cell)) (cellEnd words (c .place)) ≡ m ∷ more = sym (rest-member (c .cell) (c .place) less (h .member less)) ∙ h .rest ∙ e in
+          let same : record { cell = c .cell; flop = flopAt words (c .place) } ≡ m = cc in
+          sym (ap (λ (x : Member). x .flop) same)
+      go false q =
+          let none : [] ≡ m ∷ more = sym (rest-end (c .cell) (c .place) (ltb-false (c .cell) (s .n) q)) ∙ h .rest ∙ e in
+          absurd (omega (arith, ap length none))
 
 -- one member less
 pub count-on : (k : ℕ) {total : ℕ} {m : Member} {ms more : List Member} → k + length ms ≡ total → ms ≡ m ∷ more → k + 1 + length more ≡ total

@@ -78,7 +78,7 @@ with-reset-requires c κs = search needs
 
 -- src/next.rt:114:1
 same-length-3 : tie.Need-same-length-3
-same-length-3 c = ?
+same-length-3 c = c .before .before .with-reset .kept .0 ∙ c .before .before .before .before .before .before .before .before .before .before .with-enable .kept .0 ∙ c .before .before .before .before .before .before .before .before .before .before .before .before .before .before .before .before .before .before .before .bit-expression .kept .0
 
 -- src/next.rt:114:1
 returns-3 : tie.Need-returns-3

@@ -1,3 +1,6 @@
+use native.Mathlib.Omega.{arith}
+use Rattle.banks.specs.Members.{membersIn}
+use Rattle.banks.proofs.NextBits.{loaded}
 use borrow.Author.Needs.{needs}
 use Rattle.banks.proofs.next.reset_value.Statement.{statement}
 use Rattle.banks.proofs.next.reset_value.Tie as tie
@@ -24,7 +27,7 @@ same-length-2 c = search needs
 
 -- src/next.rt:184:1
 returns : tie.Need-returns
-returns c = ?
+returns c = loaded (membersIn (c .before .before .before .before .before .before .before .before .before .before .before .before .before .args .words .now) (c .before .before .before .before .before .before .before .before .before .before .before .before .before .args .bank-of .now) (c .before .before .before .before .before .before .before .before .before .before .before .before .before .args .scan)) (omega (arith, c .before .before .before .before .before .before .before .before .before .before .before .before .before .pre .0, c .before .before .before .before .before .before .before .reset-bits .kept .0)) (c .before .before .before .before .before .before .before .reset-bits .ensures) (c .before .before .concat-parts .ensures)
 
 pub reset-value-spec : {M : Type 1} → statement M
 reset-value-spec =

@@ -1,3 +1,11 @@
+use mathlib.Core.Path.{ap}
+use Rattle.wires.specs.Wires.{wiresOf}
+use Rattle.recorder.specs.Lists.{emitted}
+use Rattle.recorder.proofs.Wrote.{wrote-as, wrote-pure, wrote-refuse, then-done}
+use Rattle.cells.proofs.Laws.{then-changed}
+use Rattle.banks.specs.Emits.{unset}
+use Rattle.banks.specs.Members.{membersIn}
+use Rattle.banks.proofs.Registers.{bank-none, bank-some, reads-then, reads-stop}
 use borrow.Author.Needs.{needs}
 use Rattle.banks.proofs.register.bank_reset.Statement.{statement}
 use Rattle.banks.proofs.register.bank_reset.Tie as tie
@@ -17,7 +25,7 @@ enum-told c = search needs
 
 -- src/register.rt:93:9
 returns : tie.Need-returns
-returns c = ?
+returns c = λ s m. wrote-as (bank-none (wiresOf (c .before .before .before .before .before .before .before .before .args .signals .now) (c .before .before .before .before .before .before .before .before .args .places .now)) (c .before .before .before .before .before .before .before .before .args .constants) (c .enum-told .given .1) (membersIn (c .before .before .before .before .before .before .before .before .args .words .now) (c .before .before .before .before .before .before .before .before .args .bank-of .now) (c .before .before .before .before .before .before .before .before .args .scan))) wrote-pure
 
 -- src/register.rt:97:9
 reset-value-requires : tie.Need-reset-value-requires
@@ -45,7 +53,7 @@ same-length-2 c = search needs
 
 -- src/register.rt:99:9
 returns-2 : tie.Need-returns-2
-returns-2 c = ?
+returns-2 c = λ s m. wrote-as (bank-some (wiresOf (c .before .before .before .before .before .before .before .before .before .before .before .before .before .before .before .before .before .before .before .args .signals .now) (c .before .before .before .before .before .before .before .before .before .before .before .before .before .before .before .before .before .before .before .args .places .now)) (c .before .before .before .before .before .before .before .before .before .before .before .before .before .before .before .before .before .before .before .args .constants) (c .before .before .before .before .before .before .before .before .before .before .before .reset .given .1) (membersIn (c .before .before .before .before .before .before .before .before .before .before .before .before .before .before .before .before .before .before .before .args .words .now) (c .before .before .before .before .before .before .before .before .before .before .before .before .before .before .before .before .before .before .before .args .bank-of .now) (c .before .before .before .before .before .before .before .before .before .before .before .before .before .before .before .before .before .before .before .args .scan))) (then-changed unset (c .before .before .before .before .before .before .before .reset-value .ensures s m) _ (ap emitted (c .before .enum-told2 .given .1)) (c .unvalued .ensures))
 
 -- src/register.rt:101:11
 bit-signal-requires : tie.Need-bit-signal-requires
@@ -69,7 +77,7 @@ same-length-4 c = search needs
 
 -- src/register.rt:76:1
 returns-3 : tie.Need-returns-3
-returns-3 c = ?
+returns-3 c = λ s m. wrote-as (bank-some (wiresOf (c .before .before .before .before .before .before .before .before .before .before .before .before .before .before .before .before .before .before .before .before .before .before .before .args .signals .now) (c .before .before .before .before .before .before .before .before .before .before .before .before .before .before .before .before .before .before .before .before .before .before .before .args .places .now)) (c .before .before .before .before .before .before .before .before .before .before .before .before .before .before .before .before .before .before .before .before .before .before .before .args .constants) (c .before .before .before .before .before .before .before .before .before .before .before .before .before .before .before .reset .given .1) (membersIn (c .before .before .before .before .before .before .before .before .before .before .before .before .before .before .before .before .before .before .before .before .before .before .before .args .words .now) (c .before .before .before .before .before .before .before .before .before .before .before .before .before .before .before .before .before .before .before .before .before .before .before .args .bank-of .now) (c .before .before .before .before .before .before .before .before .before .before .before .before .before .before .before .before .before .before .before .before .before .before .before .args .scan))) (then-done (c .before .before .before .before .before .before .before .before .before .before .before .reset-value .ensures s m) _ (ap emitted (c .before .before .before .before .before .r .given .1)) (wrote-as (reads-then (c .before .before .before .bit-signal .ensures) _ (c .before .s .given .1)) wrote-pure))
 
 -- src/register.rt:76:1
 same-length-5 : tie.Need-same-length-5
@@ -81,7 +89,7 @@ same-length-6 c = search needs
 
 -- src/register.rt:76:1
 returns-4 : tie.Need-returns-4
-returns-4 c = ?
+returns-4 c = λ s m. wrote-as (bank-some (wiresOf (c .before .before .before .before .before .before .before .before .before .before .before .before .before .before .before .before .before .before .before .before .before .before .before .args .signals .now) (c .before .before .before .before .before .before .before .before .before .before .before .before .before .before .before .before .before .before .before .before .before .before .before .args .places .now)) (c .before .before .before .before .before .before .before .before .before .before .before .before .before .before .before .before .before .before .before .before .before .before .before .args .constants) (c .before .before .before .before .before .before .before .before .before .before .before .before .before .before .before .reset .given .1) (membersIn (c .before .before .before .before .before .before .before .before .before .before .before .before .before .before .before .before .before .before .before .before .before .before .before .args .words .now) (c .before .before .before .before .before .before .before .before .before .before .before .before .before .before .before .before .before .before .before .before .before .before .before .args .bank-of .now) (c .before .before .before .before .before .before .before .before .before .before .before .before .before .before .before .before .before .before .before .before .before .before .before .args .scan))) (then-done (c .before .before .before .before .before .before .before .before .before .before .before .reset-value .ensures s m) _ (ap emitted (c .before .before .before .before .before .r .given .1)) (wrote-as (reads-stop (c .before .before .before .bit-signal .ensures) _ (c .before .y .given .1)) wrote-refuse))
 
 pub bank-reset-spec : {M : Type 1} → statement M
 bank-reset-spec =

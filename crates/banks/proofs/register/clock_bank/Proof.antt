@@ -1,3 +1,8 @@
+use mathlib.Core.Path.{_∙_}
+use Rattle.wires.specs.Wires.{wiresOf}
+use Rattle.recorder.specs.Lists.{resetOf}
+use Rattle.recorder.proofs.Wrote.{wrote-as, wrote-refuse}
+use Rattle.banks.proofs.Registers.{clock-is, reads-then, reads-stop}
 use borrow.Author.Needs.{needs}
 use Rattle.banks.proofs.register.clock_bank.Statement.{statement}
 use Rattle.banks.proofs.register.clock_bank.Tie as tie
@@ -38,11 +43,11 @@ same-length c = search needs
 
 -- src/register.rt:108:1
 returns : tie.Need-returns
-returns c = ?
+returns c = λ s e. wrote-as (clock-is (wiresOf (c .before .before .before .before .before .before .before .before .before .before .before .before .before .before .args .signals .now) (c .before .before .before .before .before .before .before .before .before .before .before .before .before .before .args .places .now)) (c .before .before .before .before .before .before .before .before .before .before .before .before .before .before .args .constants) (c .before .before .before .before .before .before .before .before .before .before .before .before .before .before .args .words .now) (c .before .before .before .before .before .before .before .before .before .before .before .before .before .before .args .at) (c .before .before .before .before .before .before .before .before .bit-at .ensures) (c .before .before .before .before .before .before .before .before .before .field .ensures) (c .before .before .before .before .before .before .before .before .before .before .before .before .before .before .args .target .0) (c .before .before .before .before .before .before .before .before .before .before .before .before .before .before .args .next .0) (resetOf (c .before .before .before .before .before .before .before .before .before .before .before .before .before .before .args .reset)) ∙ reads-then (c .before .before .before .before .before .before .before .bit-signal .ensures) _ (c .before .before .before .before .before .clock .given .1)) (c .before .before .register .ensures s e)
 
 -- src/register.rt:108:1
 returns-2 : tie.Need-returns-2
-returns-2 c = ?
+returns-2 c = λ s e. wrote-as (clock-is (wiresOf (c .before .before .before .before .before .before .before .before .before .before .args .signals .now) (c .before .before .before .before .before .before .before .before .before .before .args .places .now)) (c .before .before .before .before .before .before .before .before .before .before .args .constants) (c .before .before .before .before .before .before .before .before .before .before .args .words .now) (c .before .before .before .before .before .before .before .before .before .before .args .at) (c .before .before .before .before .bit-at .ensures) (c .before .before .before .before .before .field .ensures) (c .before .before .before .before .before .before .before .before .before .before .args .target .0) (c .before .before .before .before .before .before .before .before .before .before .args .next .0) (resetOf (c .before .before .before .before .before .before .before .before .before .before .args .reset)) ∙ reads-stop (c .before .before .before .bit-signal .ensures) _ (c .before .x .given .1)) wrote-refuse
 
 pub clock-bank-spec : {M : Type 1} → statement M
 clock-bank-spec =

@@ -1,3 +1,8 @@
+use mathlib.Core.Path.{sym, ap}
+use Rattle.recorder.specs.declared.Emitted.{Emitted}
+use Rattle.recorder.specs.Lists.{emitted}
+use Rattle.banks.specs.Emits.{unset}
+use Rattle.cells.specs.Answers.{changed}
 use borrow.Author.Needs.{needs}
 use Rattle.banks.proofs.register.unvalued.Statement.{statement}
 use Rattle.banks.proofs.register.unvalued.Tie as tie
@@ -14,11 +19,13 @@ enum-known-r-2 c = search needs
 
 -- src/register.rt:57:1
 returns : tie.Need-returns
-returns c = ?
+unfolding changed
+returns c = sym (ap (λ (x : Emitted). changed unset (emitted x)) (c .before .r .given .1))
 
 -- src/register.rt:57:1
 returns-2 : tie.Need-returns-2
-returns-2 c = ?
+unfolding changed
+returns-2 c = sym (ap (λ (x : Emitted). changed unset (emitted x)) (c .before .r2 .given .1))
 
 pub unvalued-spec : {M : Type 1} → statement M
 unvalued-spec = tie.close (tie.spec enum-known-r enum-known-r-2 returns returns-2)
