@@ -188,5 +188,5 @@ module _ {all : List Member} {width : ℕ} where
     loading-end q = sym (parts-all width left parts (counting-end c q)) ∙ sym (ap (λ (ms : List Member). resetBits ms (partsDone width left parts)) q) ∙ now .so
 
 -- the constants as one value
-pub loaded : {e : List ℕ} {t : Tapes} {width : ℕ} {parts : List ℕ} {a : Answer ℕ} {e₁ : List ℕ} (all : List Member) → width ≤ length parts → take width parts ≡ resetBits all [] → WroteExprs e t (roomy width parts (concatParts (take width parts))) a e₁ → WroteExprs e t (concatParts (resetBits all [])) a e₁
-loaded {width = width} {parts = parts} all r q h s k = wrote-as (ap concatParts (sym q) ∙ sym (roomy-yes width parts (concatParts (take width parts)) r)) (h s k)
+pub loaded : {e : List ℕ} {t : Tapes} {width : ℕ} (parts : List ℕ) {a : Answer ℕ} {e₁ : List ℕ} (all : List Member) → width ≤ length parts → take width parts ≡ resetBits all [] → WroteExprs e t (roomy width parts (concatParts (take width parts))) a e₁ → WroteExprs e t (concatParts (resetBits all [])) a e₁
+loaded {width = width} parts all r q h s k = wrote-as (ap concatParts (sym q) ∙ sym (roomy-yes width parts (concatParts (take width parts)) r)) (h s k)

@@ -120,7 +120,7 @@ module _ (words : List ℕ) (at n : ℕ) (banks : List ℕ) (count : ℕ) (ss ps
   scan b = record { at = at; n = n; number = b + 1 }
 
   -- what is left from bank b on
-  unfoldable left : ℕ → Writer (Unit {0})
+  unfoldable pub left : ℕ → Writer (Unit {0})
   left b = emitBanks (wiresOf ss ps) z (drop b bs)
 
   left-more : (so : Collected words at n count banks) (b : ℕ) → b < count → left b ≡ (emitFlipFlopBank (wiresOf ss ps) z (bankOf so b) >>= λ u. left (b + 1))

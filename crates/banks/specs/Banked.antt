@@ -1,4 +1,4 @@
--- What the functions of banks.rt say: keys of banks, and the bank of each cell by number.
+-- What the functions of collect.rt say: keys of banks, and the bank of each cell by number.
 use mathlib.Core.Path.{_≡_}
 use mathlib.Core.Bool.{Bool, true, false, _&&_}
 use mathlib.Core.List.{List, [], _∷_}

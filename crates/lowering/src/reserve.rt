@@ -165,7 +165,7 @@ pub fn not_inserted(r: Inserted) -> Stated
 }
 
 // A signal of n bits, for the bit words (kind 0) or wires (1) that stand from an index on.
-pub fn reserve_vector(
+fn reserve_vector(
     list: &mut [u32],
     signals: &mut [u32],
     places: &mut [u32],

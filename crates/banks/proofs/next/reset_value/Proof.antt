@@ -27,7 +27,7 @@ same-length-2 c = search needs
 
 -- src/next.rt:184:1
 returns : tie.Need-returns
-returns c = loaded (membersIn (c .before .before .before .before .before .before .before .before .before .before .before .before .before .args .words .now) (c .before .before .before .before .before .before .before .before .before .before .before .before .before .args .bank-of .now) (c .before .before .before .before .before .before .before .before .before .before .before .before .before .args .scan)) (omega (arith, c .before .before .before .before .before .before .before .before .before .before .before .before .before .pre .0, c .before .before .before .before .before .before .before .reset-bits .kept .0)) (c .before .before .before .before .before .before .before .reset-bits .ensures) (c .before .before .concat-parts .ensures)
+returns c = loaded (c .before .before .before .before .before .before .before .reset-bits .last .0) (membersIn (c .before .before .before .before .before .before .before .before .before .before .before .before .before .args .words .now) (c .before .before .before .before .before .before .before .before .before .before .before .before .before .args .bank-of .now) (c .before .before .before .before .before .before .before .before .before .before .before .before .before .args .scan)) (omega (arith, c .before .before .before .before .before .before .before .before .before .before .before .before .before .pre .0, c .before .before .before .before .before .before .before .reset-bits .kept .0)) (c .before .before .before .before .before .before .before .reset-bits .ensures) (c .before .before .concat-parts .ensures)
 
 pub reset-value-spec : {M : Type 1} → statement M
 reset-value-spec =

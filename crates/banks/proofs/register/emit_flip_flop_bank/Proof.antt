@@ -1,3 +1,18 @@
+use mathlib.Core.Path.{_≡_, ap, refl, sym, _∙_}
+use native.Mathlib.Omega.{arith}
+use Prim.Native.Nat.{ℕ}
+use lib.ListN.{length}
+use Rattle.wires.proofs.Laws.{roomy-yes, roomy-no}
+use Rattle.wires.specs.Wires.{wiresOf, foundOf}
+use Rattle.recorder.specs.Writer.{refuse}
+use Rattle.recorder.specs.Lists.{emitted}
+use Rattle.recorder.proofs.Wrote.{wrote-as, wrote-pure, wrote-refuse, then-done}
+use Rattle.cells.specs.Answers.{nothing}
+use Rattle.cells.proofs.Laws.{then-changed}
+use Rattle.banks.specs.Emits.{resetting, dropped}
+use Rattle.banks.specs.Members.{membersIn}
+use Rattle.banks.proofs.Walking.{leader-is}
+use Rattle.banks.proofs.Registers.{bank-writes, bank-missing}
 use borrow.Author.Needs.{needs}
 use Rattle.banks.proofs.register.emit_flip_flop_bank.Statement.{statement}
 use Rattle.banks.proofs.register.emit_flip_flop_bank.Tie as tie
@@ -33,7 +48,7 @@ wide-requires-2 c κs = search needs
 
 -- src/register.rt:157:9
 returns : tie.Need-returns
-returns c = ?
+returns c = record { so = λ m more q s. wrote-as (roomy-no (length (membersIn (c .before .before .before .before .before .before .before .before .before .before .before .before .args .words .now) (c .before .before .before .before .before .before .before .before .before .before .before .before .args .bank-of .now) (c .before .before .before .before .before .before .before .before .before .before .before .before .args .scan))) (c .before .before .before .before .before .before .before .before .before .before .before .before .args .parts .now) _ (omega (arith, c .before .before .before .count-members .ensures, c .before .before .wide .ensures, c .before .if1 .taken)) ∙ ap (λ (x : ℕ). refuse 1 x) (sym (c .wide2 .ensures ∙ c .before .before .before .count-members .ensures))) wrote-refuse }
 
 -- src/register.rt:159:9
 field-requires : tie.Need-field-requires
@@ -57,7 +72,7 @@ wide-requires-3 c κs = search needs
 
 -- src/register.rt:161:9
 returns-2 : tie.Need-returns-2
-returns-2 c = ?
+returns-2 c = record { so = λ m more q s. wrote-as (roomy-yes (length (membersIn (c .before .before .before .before .before .before .before .before .before .before .before .before .before .before .before .before .args .words .now) (c .before .before .before .before .before .before .before .before .before .before .before .before .before .before .before .before .args .bank-of .now) (c .before .before .before .before .before .before .before .before .before .before .before .before .before .before .before .before .args .scan))) (c .before .before .before .before .before .before .before .before .before .before .before .before .before .before .before .before .args .parts .now) _ (omega (arith, c .before .before .before .before .before .before .before .count-members .ensures, c .before .before .before .before .before .before .wide .ensures, c .before .before .before .before .before .if1 .left)) ∙ bank-missing (wiresOf (c .before .before .before .before .before .before .before .before .before .before .before .before .before .before .before .before .args .signals .now) (c .before .before .before .before .before .before .before .before .before .before .before .before .before .before .before .before .args .places .now)) (c .before .before .before .before .before .before .before .before .before .before .before .before .before .before .before .before .args .constants) m (membersIn (c .before .before .before .before .before .before .before .before .before .before .before .before .before .before .before .before .args .words .now) (c .before .before .before .before .before .before .before .before .before .before .before .before .before .before .before .before .args .bank-of .now) (c .before .before .before .before .before .before .before .before .before .before .before .before .before .before .before .before .args .scan)) (leader-is (c .before .before .before .before .before .before .before .before .before .before .before .before .before .before .before .before .args .words .now) (c .before .before .before .before .before .before .before .before .before .before .before .before .before .before .before .before .args .bank-of .now) (c .before .before .before .before .before .before .before .before .before .before .before .before .before .before .before .before .args .scan) (c .before .before .before .before .before .before .before .before .first-member .ensures) q) (c .before .before .before .before .field .ensures) (sym (c .before .before .before .wire-ref .ensures) ∙ ap foundOf (c .before .enum-told .given .1)) ∙ ap (λ (x : ℕ). refuse 8 x) (sym (c .wide3 .ensures))) wrote-refuse }
 
 -- src/register.rt:164:9
 next-value-requires : tie.Need-next-value-requires
@@ -85,7 +100,7 @@ same-length-2 c = search needs
 
 -- src/register.rt:176:9
 returns-3 : tie.Need-returns-3
-returns-3 c = ?
+returns-3 c = record { so = λ m more q s. wrote-as (roomy-yes (length (membersIn (c .before .before .before .before .before .before .before .before .before .before .before .before .before .before .before .before .before .before .before .before .before .before .before .before .before .before .before .args .words .now) (c .before .before .before .before .before .before .before .before .before .before .before .before .before .before .before .before .before .before .before .before .before .before .before .before .before .before .before .args .bank-of .now) (c .before .before .before .before .before .before .before .before .before .before .before .before .before .before .before .before .before .before .before .before .before .before .before .before .before .before .before .args .scan))) (c .before .before .before .before .before .before .before .before .before .before .before .before .before .before .before .before .before .before .before .before .before .before .before .before .before .before .before .args .parts .now) _ (omega (arith, c .before .before .before .before .before .before .before .before .before .before .before .before .before .before .before .before .before .before .count-members .ensures, c .before .before .before .before .before .before .before .before .before .before .before .before .before .before .before .before .before .wide .ensures, c .before .before .before .before .before .before .before .before .before .before .before .before .before .before .before .before .if1 .left)) ∙ bank-writes (wiresOf (c .before .before .before .before .before .before .before .before .before .before .before .before .before .before .before .before .before .before .before .before .before .before .before .before .before .before .before .args .signals .now) (c .before .before .before .before .before .before .before .before .before .before .before .before .before .before .before .before .before .before .before .before .before .before .before .before .before .before .before .args .places .now)) (c .before .before .before .before .before .before .before .before .before .before .before .before .before .before .before .before .before .before .before .before .before .before .before .before .before .before .before .args .constants) m (membersIn (c .before .before .before .before .before .before .before .before .before .before .before .before .before .before .before .before .before .before .before .before .before .before .before .before .before .before .before .args .words .now) (c .before .before .before .before .before .before .before .before .before .before .before .before .before .before .before .before .before .before .before .before .before .before .before .before .before .before .before .args .bank-of .now) (c .before .before .before .before .before .before .before .before .before .before .before .before .before .before .before .before .before .before .before .before .before .before .before .before .before .before .before .args .scan)) (leader-is (c .before .before .before .before .before .before .before .before .before .before .before .before .before .before .before .before .before .before .before .before .before .before .before .before .before .before .before .args .words .now) (c .before .before .before .before .before .before .before .before .before .before .before .before .before .before .before .before .before .before .before .before .before .before .before .before .before .before .before .args .bank-of .now) (c .before .before .before .before .before .before .before .before .before .before .before .before .before .before .before .before .before .before .before .before .before .before .before .before .before .before .before .args .scan) (c .before .before .before .before .before .before .before .before .before .before .before .before .before .before .before .before .before .before .before .first-member .ensures) q) (c .before .before .before .before .before .before .before .before .before .before .before .before .before .before .before .field .ensures) (sym (c .before .before .before .before .before .before .before .before .before .before .before .before .before .before .wire-ref .ensures) ∙ ap foundOf (c .before .before .before .before .before .before .before .before .before .before .before .before .target .given .1)) refl) (then-changed nothing (c .before .before .before .before .before .before .before .next-value .ensures s _) _ (ap emitted (c .before .enum-told2 .given .1)) (c .stopped .ensures)) }
 
 -- src/register.rt:178:9
 async-reset-requires : tie.Need-async-reset-requires
@@ -93,7 +108,7 @@ async-reset-requires c κs = search needs
 
 -- src/register.rt:179:9
 bank-reset-requires : tie.Need-bank-reset-requires
-bank-reset-requires c κs = ?
+bank-reset-requires c κs = (omega (arith, c .before .before .before .before .before .before .before .before .before .before .before .before .before .before .before .before .before .before .before .before .before .count-members .ensures, c .before .before .before .before .before .before .before .before .before .before .before .before .before .before .before .before .before .before .before .before .wide .ensures, c .before .before .before .before .before .before .before .before .before .before .before .before .before .before .before .before .before .before .before .if1 .left, c .before .before .before .before .before .before .before .before .before .before .next-value .kept .1 .0), c .before .before .before .before .before .before .before .before .before .before .before .before .before .before .before .before .before .before .before .before .before .count-members .ensures)
 
 -- src/register.rt:192:25
 enum-known-r2 : tie.Need-enum-known-r2
@@ -117,7 +132,7 @@ same-length-4 c = search needs
 
 -- src/register.rt:193:9
 returns-4 : tie.Need-returns-4
-returns-4 c = ?
+returns-4 c = record { so = λ m more q s. wrote-as (roomy-yes (length (membersIn (c .before .before .before .before .before .before .before .before .before .before .before .before .before .before .before .before .before .before .before .before .before .before .before .before .before .before .before .before .before .before .before .before .before .before .before .before .before .before .args .words .now) (c .before .before .before .before .before .before .before .before .before .before .before .before .before .before .before .before .before .before .before .before .before .before .before .before .before .before .before .before .before .before .before .before .before .before .before .before .before .before .args .bank-of .now) (c .before .before .before .before .before .before .before .before .before .before .before .before .before .before .before .before .before .before .before .before .before .before .before .before .before .before .before .before .before .before .before .before .before .before .before .before .before .before .args .scan))) (c .before .before .before .before .before .before .before .before .before .before .before .before .before .before .before .before .before .before .before .before .before .before .before .before .before .before .before .before .before .before .before .before .before .before .before .before .before .before .args .parts .now) _ (omega (arith, c .before .before .before .before .before .before .before .before .before .before .before .before .before .before .before .before .before .before .before .before .before .before .before .before .before .before .before .before .before .count-members .ensures, c .before .before .before .before .before .before .before .before .before .before .before .before .before .before .before .before .before .before .before .before .before .before .before .before .before .before .before .before .wide .ensures, c .before .before .before .before .before .before .before .before .before .before .before .before .before .before .before .before .before .before .before .before .before .before .before .before .before .before .before .if1 .left)) ∙ bank-writes (wiresOf (c .before .before .before .before .before .before .before .before .before .before .before .before .before .before .before .before .before .before .before .before .before .before .before .before .before .before .before .before .before .before .before .before .before .before .before .before .before .before .args .signals .now) (c .before .before .before .before .before .before .before .before .before .before .before .before .before .before .before .before .before .before .before .before .before .before .before .before .before .before .before .before .before .before .before .before .before .before .before .before .before .before .args .places .now)) (c .before .before .before .before .before .before .before .before .before .before .before .before .before .before .before .before .before .before .before .before .before .before .before .before .before .before .before .before .before .before .before .before .before .before .before .before .before .before .args .constants) m (membersIn (c .before .before .before .before .before .before .before .before .before .before .before .before .before .before .before .before .before .before .before .before .before .before .before .before .before .before .before .before .before .before .before .before .before .before .before .before .before .before .args .words .now) (c .before .before .before .before .before .before .before .before .before .before .before .before .before .before .before .before .before .before .before .before .before .before .before .before .before .before .before .before .before .before .before .before .before .before .before .before .before .before .args .bank-of .now) (c .before .before .before .before .before .before .before .before .before .before .before .before .before .before .before .before .before .before .before .before .before .before .before .before .before .before .before .before .before .before .before .before .before .before .before .before .before .before .args .scan)) (leader-is (c .before .before .before .before .before .before .before .before .before .before .before .before .before .before .before .before .before .before .before .before .before .before .before .before .before .before .before .before .before .before .before .before .before .before .before .before .before .before .args .words .now) (c .before .before .before .before .before .before .before .before .before .before .before .before .before .before .before .before .before .before .before .before .before .before .before .before .before .before .before .before .before .before .before .before .before .before .before .before .before .before .args .bank-of .now) (c .before .before .before .before .before .before .before .before .before .before .before .before .before .before .before .before .before .before .before .before .before .before .before .before .before .before .before .before .before .before .before .before .before .before .before .before .before .before .args .scan) (c .before .before .before .before .before .before .before .before .before .before .before .before .before .before .before .before .before .before .before .before .before .before .before .before .before .before .before .before .before .before .first-member .ensures) q) (c .before .before .before .before .before .before .before .before .before .before .before .before .before .before .before .before .before .before .before .before .before .before .before .before .before .before .field .ensures) (sym (c .before .before .before .before .before .before .before .before .before .before .before .before .before .before .before .before .before .before .before .before .before .before .before .before .before .wire-ref .ensures) ∙ ap foundOf (c .before .before .before .before .before .before .before .before .before .before .before .before .before .before .before .before .before .before .before .before .before .before .before .target .given .1)) (c .before .before .before .before .before .before .before .before .before .before .async-reset .ensures)) (then-done (c .before .before .before .before .before .before .before .before .before .before .before .before .before .before .before .before .before .before .next-value .ensures s _) _ (ap emitted (c .before .before .before .before .before .before .before .before .before .before .before .before .r .given .1)) (then-changed dropped (c .before .before .before .before .before .before .before .bank-reset .ensures s _) _ (ap resetting (c .before .enum-told3 .given .1)) (c .not-reset .ensures))) }
 
 -- src/register.rt:195:5
 clock-bank-requires : tie.Need-clock-bank-requires
@@ -125,7 +140,7 @@ clock-bank-requires c κs = search needs
 
 -- src/register.rt:139:1
 same-length-5 : tie.Need-same-length-5
-same-length-5 c = ?
+same-length-5 c = c .before .before .before .before .before .before .before .before .before .before .before .bank-reset .kept .0 ∙ c .before .before .before .before .before .before .before .before .before .before .before .before .before .before .before .before .before .before .before .before .before .before .next-value .kept .0
 
 -- src/register.rt:139:1
 same-length-6 : tie.Need-same-length-6
@@ -133,11 +148,11 @@ same-length-6 c = search needs
 
 -- src/register.rt:139:1
 same-length-7 : tie.Need-same-length-7
-same-length-7 c = ?
+same-length-7 c = c .before .before .before .before .before .before .before .before .before .before .before .bank-reset .kept .1 .0 ∙ c .before .before .before .before .before .before .before .before .before .before .before .before .before .before .before .before .before .before .before .before .before .before .next-value .kept .1 .0
 
 -- src/register.rt:139:1
 returns-5 : tie.Need-returns-5
-returns-5 c = ?
+returns-5 c = record { so = λ m more q s. wrote-as (roomy-yes (length (membersIn (c .before .before .before .before .before .before .before .before .before .before .before .before .before .before .before .before .before .before .before .before .before .before .before .before .before .before .before .before .before .before .before .before .before .before .before .before .before .before .before .before .before .before .args .words .now) (c .before .before .before .before .before .before .before .before .before .before .before .before .before .before .before .before .before .before .before .before .before .before .before .before .before .before .before .before .before .before .before .before .before .before .before .before .before .before .before .before .before .before .args .bank-of .now) (c .before .before .before .before .before .before .before .before .before .before .before .before .before .before .before .before .before .before .before .before .before .before .before .before .before .before .before .before .before .before .before .before .before .before .before .before .before .before .before .before .before .before .args .scan))) (c .before .before .before .before .before .before .before .before .before .before .before .before .before .before .before .before .before .before .before .before .before .before .before .before .before .before .before .before .before .before .before .before .before .before .before .before .before .before .before .before .before .before .args .parts .now) _ (omega (arith, c .before .before .before .before .before .before .before .before .before .before .before .before .before .before .before .before .before .before .before .before .before .before .before .before .before .before .before .before .before .before .before .before .before .count-members .ensures, c .before .before .before .before .before .before .before .before .before .before .before .before .before .before .before .before .before .before .before .before .before .before .before .before .before .before .before .before .before .before .before .before .wide .ensures, c .before .before .before .before .before .before .before .before .before .before .before .before .before .before .before .before .before .before .before .before .before .before .before .before .before .before .before .before .before .before .before .if1 .left)) ∙ bank-writes (wiresOf (c .before .before .before .before .before .before .before .before .before .before .before .before .before .before .before .before .before .before .before .before .before .before .before .before .before .before .before .before .before .before .before .before .before .before .before .before .before .before .before .before .before .before .args .signals .now) (c .before .before .before .before .before .before .before .before .before .before .before .before .before .before .before .before .before .before .before .before .before .before .before .before .before .before .before .before .before .before .before .before .before .before .before .before .before .before .before .before .before .before .args .places .now)) (c .before .before .before .before .before .before .before .before .before .before .before .before .before .before .before .before .before .before .before .before .before .before .before .before .before .before .before .before .before .before .before .before .before .before .before .before .before .before .before .before .before .before .args .constants) m (membersIn (c .before .before .before .before .before .before .before .before .before .before .before .before .before .before .before .before .before .before .before .before .before .before .before .before .before .before .before .before .before .before .before .before .before .before .before .before .before .before .before .before .before .before .args .words .now) (c .before .before .before .before .before .before .before .before .before .before .before .before .before .before .before .before .before .before .before .before .before .before .before .before .before .before .before .before .before .before .before .before .before .before .before .before .before .before .before .before .before .before .args .bank-of .now) (c .before .before .before .before .before .before .before .before .before .before .before .before .before .before .before .before .before .before .before .before .before .before .before .before .before .before .before .before .before .before .before .before .before .before .before .before .before .before .before .before .before .before .args .scan)) (leader-is (c .before .before .before .before .before .before .before .before .before .before .before .before .before .before .before .before .before .before .before .before .before .before .before .before .before .before .before .before .before .before .before .before .before .before .before .before .before .before .before .before .before .before .args .words .now) (c .before .before .before .before .before .before .before .before .before .before .before .before .before .before .before .before .before .before .before .before .before .before .before .before .before .before .before .before .before .before .before .before .before .before .before .before .before .before .before .before .before .before .args .bank-of .now) (c .before .before .before .before .before .before .before .before .before .before .before .before .before .before .before .before .before .before .before .before .before .before .before .before .before .before .before .before .before .before .before .before .before .before .before .before .before .before .before .before .before .before .args .scan) (c .before .before .before .before .before .before .before .before .before .before .before .before .before .before .before .before .before .before .before .before .before .before .before .before .before .before .before .before .before .before .before .before .before .before .first-member .ensures) q) (c .before .before .before .before .before .before .before .before .before .before .before .before .before .before .before .before .before .before .before .before .before .before .before .before .before .before .before .before .before .before .field .ensures) (sym (c .before .before .before .before .before .before .before .before .before .before .before .before .before .before .before .before .before .before .before .before .before .before .before .before .before .before .before .before .before .wire-ref .ensures) ∙ ap foundOf (c .before .before .before .before .before .before .before .before .before .before .before .before .before .before .before .before .before .before .before .before .before .before .before .before .before .before .before .target .given .1)) (c .before .before .before .before .before .before .before .before .before .before .before .before .before .before .async-reset .ensures)) (then-done (c .before .before .before .before .before .before .before .before .before .before .before .before .before .before .before .before .before .before .before .before .before .before .next-value .ensures s _) _ (ap emitted (c .before .before .before .before .before .before .before .before .before .before .before .before .before .before .before .before .r .given .1)) (then-done (c .before .before .before .before .before .before .before .before .before .before .before .bank-reset .ensures s _) _ (ap resetting (c .before .before .before .before .before .r2 .given .1)) (c .before .before .clock-bank .ensures s _))) }
 
 pub emit-flip-flop-bank-spec : {M : Type 1} → statement M
 emit-flip-flop-bank-spec =
