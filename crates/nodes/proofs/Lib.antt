@@ -1,0 +1,3 @@
+-- What the proofs of nodes share.
+pub mod Laws
+pub mod Copied
