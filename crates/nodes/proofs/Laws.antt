@@ -1,13 +1,16 @@
--- How many nodes are copied, the bytes of an element, and tests.
+-- How many nodes are copied, the first ones of a list, the bytes of an element, and tests.
 use mathlib.Core.Path.{_≡_, refl, sym, _∙_, ap, subst}
 use Prim.Native.Nat.{ℕ, zero, suc, _+_, _*_, _≤_, _<_, _^_}
-use native.Mathlib.Nat.{le-antisymm}
+use native.Mathlib.Nat.{le-antisymm, not-suc-le-zero, le-of-suc-le-suc}
 use native.Mathlib.Omega.{arith}
 use mathlib.Core.Bool.{Bool, true, false, not}
+use mathlib.Core.List.{List, [], _∷_}
+use lib.ListN.{length, take}
 use lib.Dec.{ltb, leb, ltb→lt, nltb→le, T as Holds}
 use borrow.Author.Tests.{le-leb, lt-leb}
 use Rattle.bits.specs.Bits.{pick}
-use Rattle.nodes.specs.Nodes.{toCopy}
+use Rattle.recorder.specs.Writer.{Count, Out, Writer, refuse}
+use Rattle.nodes.specs.Nodes.{toCopy, atMost}
 
 -- ---- how many are copied
 
@@ -63,3 +66,20 @@ word-fits i n l g = omega (arith, l, g)
 
 pub one-more : (i : ℕ) → i + 1 ≡ suc i
 one-more i = omega arith
+
+-- ---- the first ones
+
+pub length-first : {X : Type 0} (k : ℕ) (xs : List X) → k ≤ length xs → length (take k xs) ≡ k
+length-first zero xs l = refl
+length-first (suc k) [] l = absurd (not-suc-le-zero l)
+length-first (suc k) (x ∷ xs) l = ap suc (length-first k xs (le-of-suc-le-suc l))
+
+-- ---- an array of candidates
+
+pub at-most-yes : {A : Type 0} (most n : ℕ) (w : Writer A) → n ≤ most → atMost most n w ≡ w
+unfolding atMost
+at-most-yes most n w h = rw (le-leb n most h)
+
+pub at-most-no : {A : Type 0} (most n : ℕ) (w : Writer A) → most < n → atMost most n w ≡ refuse 1 n
+unfolding atMost
+at-most-no most n w h = rw (lt-leb n most h)

@@ -1,3 +1,4 @@
 -- What the proofs of nodes share.
 pub mod Laws
 pub mod Copied
+pub mod Part
