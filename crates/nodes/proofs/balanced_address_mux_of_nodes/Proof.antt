@@ -33,7 +33,7 @@ use denote.Laws.{Is, shows}
 use denote.Memory.{pointee, shares}
 use denote.Shadow.{pureI}
 use denote.Lend.{Held}
-use denote.Plain.{uint-vals, uint-tells, uint-makes, uint-lawful, uint-copy}
+use denote.Plain.{uint-vals, uint-tells, uint-makes, uint-lawful}
 use denote.Builtin.{u32, usize}
 use denote.Ref.{RefT}
 use denote.Slice.{sliceTy, sliceVal, at-slice, MutSlice, ShrSlice, Room, slice-vals, mut-slice-tells, shr-slice-tells, shr-slice-copy, codedHoleys, heres, finally}
@@ -72,6 +72,7 @@ use Rattle.memories.proofs.address_mux.balanced_address_mux.Symbol as numbers-d
 use Rattle.memories.proofs.address_mux.balanced_address_mux.Symbol.{name as #memories·address-mux·balanced-address-mux}
 use Rattle.memories.proofs.address_mux.balanced_address_mux.Met as numbers-thm
 use Rattle.nodes.specs.Nodes.{muxOfNodes, toCopy}
+use Rattle.nodes.proofs.Rest.{Rest, rest-twice}
 use Rattle.nodes.proofs.Laws.{copy-fits, byte-fits, word-fits, one-more, by-test, less-of, end-of}
 use Rattle.nodes.proofs.Copied.{zeroNode, nodeOn, matchedOf, valueOf, putUpto, length-put, copied-mux}
 use Rattle.nodes.proofs.to_copy as count
@@ -200,16 +201,8 @@ module _ {M : Type 1} (𝓤 : URA M) (H : Heap 𝓤) (A : Atoms 𝓤) (W : Given
   OwnN = ShrSlice (named 1) κ₂ R .own xn (sn ∷ [])
 
   -- t, width and zero, which are passed on and still owned at the end
-  abbrev Rest : Fml
-  Rest = fsep (P.the-row .own t (tv ∷ [])) (fsep (u32 .own width (vint w32 width ∷ [])) (fsep (Z.the-row .own e₀ (zv ∷ [])) ftrue))
-
-  rest-twice : ent 𝓤 (sem 𝓤 H A Rest) (sep 𝓤 (sem 𝓤 H A Rest) (sem 𝓤 H A Rest))
-  rest-twice =
-      qed W (‵ Rest ∷ []) ∵ fsplit ! $ use1 W (‵ (P.the-row .own t (tv ∷ [])) ⊛ ‵ (P.the-row .own t (tv ∷ []))) (LL.copy P.the-type P′.the-copy 𝓤 H A W .twice t (tv ∷ [])) $ split ! $
-      move ! (2 ∷ []) $ fsplit ! $ use1 W (‵ (u32 .own width (vint w32 width ∷ [])) ⊛ ‵ (u32 .own width (vint w32 width ∷ []))) (uint-copy 𝓤 H A W w32 .twice width (vint w32 width ∷ [])) $ split ! $
-      move ! (2 ∷ []) $ fsplit ! $ use1 W (‵ (Z.the-row .own e₀ (zv ∷ [])) ⊛ ‵ (Z.the-row .own e₀ (zv ∷ []))) (LL.copy Z.the-type Z′.the-copy 𝓤 H A W .twice e₀ (zv ∷ [])) $ split ! $
-      -- [zero; zero; true; width; width; t; t]
-      nothing ! $ move ! (1 ∷ 0 ∷ []) $ fjoin ! $ move ! (3 ∷ 0 ∷ []) $ fjoin ! $ move ! (4 ∷ 0 ∷ []) $ fjoin ! $ move ! (1 ∷ 2 ∷ []) $ fjoin ! $ move ! (2 ∷ 0 ∷ []) $ fjoin ! $ move ! (2 ∷ 0 ∷ []) $ fjoin ! $ frame ! $ done !
+  abbrev Kept : Fml
+  Kept = Rest t width e₀
 
   -- ---- the count
   abbrev counts : ℕ × (ℕ × (ℕ × Unit {0}))
@@ -260,9 +253,9 @@ module _ {M : Type 1} (𝓤 : URA M) (H : Heap 𝓤) (A : Atoms 𝓤) (W : Given
   says-mux r us = subst (λ (w : Writer ℕ). WroteExprs es t w (emitted r) us) (copied-mux ns xs zs width (e₀ .0))
 
   exits : (r : Emitted) (w : Val) (us ts ws : List ℕ) → Said r us → length us ≡ length es → length ts ≡ length (ms m) → length ws ≡ length (vs m)
-      → ent 𝓤 (⋆ 𝓤 H A (‵ (flft κ₂ q₂) ∷ Tok ∷ ‵ (finally u32 γ₁ us) ∷ ‵ (finally u32 γ₃ ts) ∷ ‵ (finally u32 γ₄ ws) ∷ ‵ OwnN ∷ ‵ Rest ∷ ‵ (S.the-row .own r (w ∷ [])) ∷ [])) (Post w)
+      → ent 𝓤 (⋆ 𝓤 H A (‵ (flft κ₂ q₂) ∷ Tok ∷ ‵ (finally u32 γ₁ us) ∷ ‵ (finally u32 γ₃ ts) ∷ ‵ (finally u32 γ₄ ws) ∷ ‵ OwnN ∷ ‵ Kept ∷ ‵ (S.the-row .own r (w ∷ [])) ∷ [])) (Post w)
   exits r w us ts ws e la lb lc =
-      qed W (‵ (flft κ₂ q₂) ∷ Tok ∷ ‵ (finally u32 γ₁ us) ∷ ‵ (finally u32 γ₃ ts) ∷ ‵ (finally u32 γ₄ ws) ∷ ‵ OwnN ∷ ‵ Rest ∷ ‵ (S.the-row .own r (w ∷ [])) ∷ []) ∵
+      qed W (‵ (flft κ₂ q₂) ∷ Tok ∷ ‵ (finally u32 γ₁ us) ∷ ‵ (finally u32 γ₃ ts) ∷ ‵ (finally u32 γ₄ ws) ∷ ‵ OwnN ∷ ‵ Kept ∷ ‵ (S.the-row .own r (w ∷ [])) ∷ []) ∵
       suffices ! _ (ends-at 𝓤 H A mux.ended stayed (mux.clauses 𝓤 H A mem run) W (((κ₁, (κ₂, (κ₃, (κ₄, tt)))), (q₁, (q₂, (q₃, (q₄, tt)))), tt, x, at), tt) w r (us, (tt, (ts, (ws, (tt, (tt, (tt, tt))))))) (la, (tt, (lb ∙ len-m m, (lc ∙ len-v m, (tt, (tt, (tt, tt)))))))) $ says ! (says-mux r us e) $
       move ! (1 ∷ []) $ split ! $ move ! (2 ∷ 1 ∷ []) $ join ! $ move ! (1 ∷ 0 ∷ []) $ join ! $ frame ! $
       -- [exprs' last; matched's; value's; nodes; t, width and zero; the result]
@@ -293,7 +286,7 @@ module _ {M : Type 1} (𝓤 : URA M) (H : Heap 𝓤) (A : Atoms 𝓤) (W : Given
     At i = ‵ (row R q′ ns b₂ o₂) ∷ ‵ (fobor κ₂ q₂ (arr-parts (shares R) n .part q′ ns b₂ o₂)) ∷ ‵ (fshr-bor κ₂ (λ s. arr-parts (shares R) n .part s ns b₂ o₂)) ∷ ‵ (fres γ₂ (codedHoleys R .code (heres R ns))) ∷ ‵ OwnN
         ∷ ‵ (row u32 fullShare (ms (i .0)) b₃ o₃) ∷ ‵ (fobor κ₃ q₃ (Held u32 (length xs) b₃ o₃ γ₃)) ∷ ‵ (fobs γ₃ (codedHoleys u32 .code (heres u32 xs))) ∷ ‵ (fauth γ₃ (codedHoleys u32 .code (heres u32 xs)))
         ∷ ‵ (row u32 fullShare (vs (i .0)) b₄ o₄) ∷ ‵ (fobor κ₄ q₄ (Held u32 (length zs) b₄ o₄ γ₄)) ∷ ‵ (fobs γ₄ (codedHoleys u32 .code (heres u32 zs))) ∷ ‵ (fauth γ₄ (codedHoleys u32 .code (heres u32 zs)))
-        ∷ ‵ Rest ∷ ‵ ftrue ∷ ‵ (flft κ₁ q₁) ∷ ‵ OwnE
+        ∷ ‵ Kept ∷ ‵ ftrue ∷ ‵ (flft κ₁ q₁) ∷ ‵ OwnE
         ∷ ‵ (froom lent-ty l₂₅ 0) ∷ ‵ (fdies lent-ty l₂₅) ∷ ‵ (froom ref-ty l₂₄ 0) ∷ ‵ (fdies ref-ty l₂₄) ∷ ‵ (froom lent-ty l₂₃ 0) ∷ ‵ (fdies lent-ty l₂₃)
         ∷ ‵ (froom ref-ty l₂₂ 0) ∷ ‵ (fdies ref-ty l₂₂) ∷ ‵ (froom lent-ty l₂₁ 0) ∷ ‵ (fdies lent-ty l₂₁) ∷ ‵ (froom ref-ty l₂₀ 0) ∷ ‵ (fdies ref-ty l₂₀)
         ∷ ‵ (froom tyPtr l₁₉ 0) ∷ ‵ (fdies tyPtr l₁₉) ∷ ‵ (froom tyPtr l₁₈ 0) ∷ ‵ (fdies tyPtr l₁₈) ∷ ‵ (froom T′.mir l₁₇ 0) ∷ ‵ (fdies T′.mir l₁₇)
@@ -371,7 +364,7 @@ module _ {M : Type 1} (𝓤 : URA M) (H : Heap 𝓤) (A : Atoms 𝓤) (W : Given
         assigns ! (agg ! (and-then ! (load ! (from ! (stop !)) (look ! 16 refl)) (and-then ! (load ! (from ! (fld ! refl (stop !))) (look-in ! 54 (sub ! 1 refl (whole !)))) (no-more !)))) (from ! (stop !)) (init ! 14 refl (tt, (tt, (record { fits = gm .0 }, tt)))) $
         assigns ! (addr ! (from ! (fld ! refl (hop ! (look-in ! 52 (sub ! 0 refl (whole !))) (stop !))))) (from ! (stop !)) (init ! 12 refl (tt, tt)) $
         assigns ! (agg ! (and-then ! (load ! (from ! (stop !)) (look ! 12 refl)) (and-then ! (load ! (from ! (fld ! refl (stop !))) (look-in ! 52 (sub ! 1 refl (whole !)))) (no-more !)))) (from ! (stop !)) (init ! 10 refl (tt, (tt, (record { fits = gv .0 }, tt)))) $
-        move ! (6 ∷ []) $ use1 W (‵ Rest ⊛ ‵ Rest) rest-twice $ split ! $ fsplit ! $ owned ! usize (Is usize) (uint-makes 𝓤 H A W w64) n _ (refl, gn .0) $ move ! (0 ∷ 2 ∷ []) $ fjoin ! $ move ! (1 ∷ 0 ∷ []) $ fjoin ! $
+        move ! (6 ∷ []) $ use1 W (‵ Kept ⊛ ‵ Kept) (rest-twice t width e₀ 𝓤 H A W) $ split ! $ fsplit ! $ owned ! usize (Is usize) (uint-makes 𝓤 H A W w64) n _ (refl, gn .0) $ move ! (0 ∷ 2 ∷ []) $ fjoin ! $ move ! (1 ∷ 0 ∷ []) $ fjoin ! $
         move ! (3 ∷ 0 ∷ []) $ fjoin ! $ move ! (2 ∷ 0 ∷ []) $ fjoin ! $ move ! (8 ∷ 0 ∷ []) $ fjoin ! $ move ! (2 ∷ 6 ∷ []) $ join ! $ move ! (3 ∷ 0 ∷ []) $ join ! $ move ! (5 ∷ 0 ∷ []) $ join ! $
         -- [the callee's tokens; what it is passed; t, width and zero; κ₂; nodes; _25; …]
         use2 W (raw (Numbers 𝓤 H A mem run .pre bound-call)) goes-call $

@@ -27,13 +27,13 @@ use sound.WpLaws.{FmC, fmOf, WpFn-mono}
 use denote.RattleType.{RattleType, owns}
 use denote.Laws.{Is, shows}
 use denote.Memory.{lone, pointee}
-use denote.Plain.{uint-vals, uint-tells, uint-copy}
+use denote.Plain.{uint-vals, uint-tells}
 use denote.Array.{Array, arrayVal, array-vals, array-tells, array-typed, array-copy}
 use denote.Builtin.{u32, usize}
 use denote.Ref.{RefT}
 use denote.Slice.{sliceTy, sliceVal, MutSlice, ShrSlice, Room, slice-vals, mut-slice-tells, finally}
 use denote.Signature.{plain}
-use denote.Steps.{only, nothing, peeks, heard}
+use denote.Steps.{only, peeks, heard}
 use denote.Enum.Laws as EL
 use denote.Struct.Laws as LL
 use denote.Triple.Statement.{Contract, Triple}
@@ -58,6 +58,7 @@ use Rattle.memories.specs.declared.AddressMuxNode.{AddressMuxNode}
 use Rattle.memories.proofs.AddressMuxNode as T
 use Rattle.memories.proofs.AddressMuxNode.Laws as T′
 use Rattle.nodes.specs.Nodes.{muxOfNodes}
+use Rattle.nodes.proofs.Rest.{Rest, rest-twice}
 use Rattle.nodes.proofs.Laws.{length-first}
 use Rattle.nodes.proofs.Part.{LentPart, lends-part, part-back}
 use Rattle.nodes.proofs.balanced_address_mux_of_nodes as over
@@ -182,16 +183,8 @@ module _ {M : Type 1} (𝓤 : URA M) (H : Heap 𝓤) (A : Atoms 𝓤) (W : Given
   Own = B .own ns (mach ∷ [])
 
   -- t, width and zero, which are passed on and still owned at the end
-  abbrev Rest : Fml
-  Rest = fsep (P.the-row .own t (tv ∷ [])) (fsep (u32 .own width (vint w32 width ∷ [])) (fsep (Z.the-row .own e₀ (zv ∷ [])) ftrue))
-
-  rest-twice : ent 𝓤 (sem 𝓤 H A Rest) (sep 𝓤 (sem 𝓤 H A Rest) (sem 𝓤 H A Rest))
-  rest-twice =
-      qed W (‵ Rest ∷ []) ∵ fsplit ! $ use1 W (‵ (P.the-row .own t (tv ∷ [])) ⊛ ‵ (P.the-row .own t (tv ∷ []))) (LL.copy P.the-type P′.the-copy 𝓤 H A W .twice t (tv ∷ [])) $ split ! $
-      move ! (2 ∷ []) $ fsplit ! $ use1 W (‵ (u32 .own width (vint w32 width ∷ [])) ⊛ ‵ (u32 .own width (vint w32 width ∷ []))) (uint-copy 𝓤 H A W w32 .twice width (vint w32 width ∷ [])) $ split ! $
-      move ! (2 ∷ []) $ fsplit ! $ use1 W (‵ (Z.the-row .own e₀ (zv ∷ [])) ⊛ ‵ (Z.the-row .own e₀ (zv ∷ []))) (LL.copy Z.the-type Z′.the-copy 𝓤 H A W .twice e₀ (zv ∷ [])) $ split ! $
-      -- [zero; zero; true; width; width; t; t]
-      nothing ! $ move ! (1 ∷ 0 ∷ []) $ fjoin ! $ move ! (3 ∷ 0 ∷ []) $ fjoin ! $ move ! (4 ∷ 0 ∷ []) $ fjoin ! $ move ! (1 ∷ 2 ∷ []) $ fjoin ! $ move ! (2 ∷ 0 ∷ []) $ fjoin ! $ move ! (2 ∷ 0 ∷ []) $ fjoin ! $ frame ! $ done !
+  abbrev Kept : Fml
+  Kept = Rest t width e₀
 
   -- the part of the array in block l, under the name γ
   abbrev xn : ℕ → GName → RefT (List AddressMuxNode)
@@ -225,9 +218,9 @@ module _ {M : Type 1} (𝓤 : URA M) (H : Heap 𝓤) (A : Atoms 𝓤) (W : Given
   Said r us = WroteExprs es t (muxOfNodes xs zs width first (e₀ .0)) (emitted r) us
 
   exits : (r : Emitted) (w : Val) (us ts ws : List ℕ) → Said r us → length us ≡ length es → length ts ≡ length xs → length ws ≡ length zs
-      → ent 𝓤 (⋆ 𝓤 H A (‵ (flft κ₁ q₁) ∷ Tok₂ ∷ ‵ (finally u32 γ₁ us) ∷ ‵ Own ∷ ‵ (usize .own n (vint w64 n ∷ [])) ∷ ‵ (finally u32 γ₂ ts) ∷ ‵ (finally u32 γ₃ ws) ∷ ‵ Rest ∷ ‵ (S.the-row .own r (w ∷ [])) ∷ [])) (Post w)
+      → ent 𝓤 (⋆ 𝓤 H A (‵ (flft κ₁ q₁) ∷ Tok₂ ∷ ‵ (finally u32 γ₁ us) ∷ ‵ Own ∷ ‵ (usize .own n (vint w64 n ∷ [])) ∷ ‵ (finally u32 γ₂ ts) ∷ ‵ (finally u32 γ₃ ws) ∷ ‵ Kept ∷ ‵ (S.the-row .own r (w ∷ [])) ∷ [])) (Post w)
   exits r w us ts ws e la lb lc =
-      qed W (‵ (flft κ₁ q₁) ∷ Tok₂ ∷ ‵ (finally u32 γ₁ us) ∷ ‵ Own ∷ ‵ (usize .own n (vint w64 n ∷ [])) ∷ ‵ (finally u32 γ₂ ts) ∷ ‵ (finally u32 γ₃ ws) ∷ ‵ Rest ∷ ‵ (S.the-row .own r (w ∷ [])) ∷ []) ∵
+      qed W (‵ (flft κ₁ q₁) ∷ Tok₂ ∷ ‵ (finally u32 γ₁ us) ∷ ‵ Own ∷ ‵ (usize .own n (vint w64 n ∷ [])) ∷ ‵ (finally u32 γ₂ ts) ∷ ‵ (finally u32 γ₃ ws) ∷ ‵ Kept ∷ ‵ (S.the-row .own r (w ∷ [])) ∷ []) ∵
       suffices ! _ (ends-at 𝓤 H A lend.ended stayed (lend.clauses 𝓤 H A mem run) W (((κ₁, (κ₂, (κ₃, tt))), (q₁, (q₂, (q₃, tt))), tt, x, at), tt) w r (us, (tt, (tt, (ts, (ws, (tt, (tt, (tt, tt)))))))) (la, (tt, (tt, (lb, (lc, (tt, (tt, (tt, tt))))))))) $ says ! e $
       join ! $ frame ! $ move ! (4 ∷ 5 ∷ []) $ fjoin ! $ move ! (4 ∷ 0 ∷ []) $ fjoin ! $ move ! (3 ∷ 0 ∷ []) $ fjoin ! $ move ! (2 ∷ 0 ∷ []) $ fjoin ! $ move ! (1 ∷ 0 ∷ []) $ fjoin ! $ done !
 
@@ -249,7 +242,7 @@ module _ {M : Type 1} (𝓤 : URA M) (H : Heap 𝓤) (A : Atoms 𝓤) (W : Given
         assigns ! (agg ! (and-then ! (load ! (from ! (stop !)) (look ! 2 refl)) (and-then ! (load ! (from ! (fld ! refl (stop !))) (look-in ! 24 (sub ! 1 refl (whole !)))) (no-more !)))) (from ! (stop !)) (init ! 0 refl (tt, (tt, (record { fits = gv .0 }, tt)))) $
         move ! (37 ∷ []) $ fsplit ! $ move ! (38 ∷ []) $ split ! $ move ! (1 ∷ []) $ split ! $ move ! (1 ∷ []) $ split ! $ move ! (5 ∷ []) $ fsplit ! $ move ! (1 ∷ []) $ fsplit ! $ move ! (1 ∷ []) $ fsplit ! $ move ! (1 ∷ []) $ fsplit ! $
         -- [value; t, width and zero; matched; n's; the array's; κ₃; true; κ₂; κ₁; exprs; _17; …]: what the array owns is had twice, and with one copy and the cell of _9 the first n are lent
-        move ! (1 ∷ []) $ use1 W (‵ Rest ⊛ ‵ Rest) rest-twice $ split ! $ move ! (5 ∷ []) $ use1 W (‵ Own ⊛ ‵ Own) (array-copy 𝓤 H A W R (LL.copy T.the-type T′.the-copy 𝓤 H A W) 16384 .twice ns (mach ∷ [])) $ split ! $
+        move ! (1 ∷ []) $ use1 W (‵ Kept ⊛ ‵ Kept) (rest-twice t width e₀ 𝓤 H A W) $ split ! $ move ! (5 ∷ []) $ use1 W (‵ Own ⊛ ‵ Own) (array-copy 𝓤 H A W R (LL.copy T.the-type T′.the-copy 𝓤 H A W) 16384 .twice ns (mach ∷ [])) $ split ! $
         move ! (28 ∷ []) $ lft-new ! tt (λ ν. move ! (1 ∷ 2 ∷ []) $
         use2 W (later (some (λ (γ : GName). ‵ (ShrSlice (named 1) (ν ∷ []) R .own (xn l₉ γ) (sliceVal (l₉, 0) (length first) ∷ [])) ⊛ ‵ (LentPart R tt 16384 (ν ∷ []) l₉ ns n))))
         (lends-part R tt 16384 (ν ∷ []) l₉ ns n 𝓤 H A W (named 1) mach (subst (Room R) (sym len) gn)) $ await ! tt $ pick ! (λ γ. split ! $
