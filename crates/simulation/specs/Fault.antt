@@ -10,6 +10,7 @@ use Rattle.bits.specs.Bits.{pick}
 use Rattle.recorder.specs.Read.{readSignal, readExpr, readStmt}
 use Rattle.simulation.specs.declared.Fault.{Fault}
 use Rattle.simulation.specs.declared.Fault.the-variants.{Fine, At}
+use Rattle.simulation.specs.Index.{recordsIn, widthsIn, Listed}
 use Rattle.simulation.specs.Wellformed.{widths, countOf, drives, wide, inRange, earlier, widthSum, broad, suits, fits, firstFailing, signalFits, exprFits, stmtFits}
 
 -- the first faulty record
@@ -62,6 +63,13 @@ eqTest ew n r = eqb (length r) 4 && (eqb (getD r 1 0) 1 && (ltb (getD r 2 0) n &
 
 abbrev pub exprFaultOf : ℕ → List (List ℕ) → List (List ℕ) → Option ℕ
 exprFaultOf widest ss es = firstFailing (exprTest widest (widths ss) (widths es)) 0 es
+
+-- tables of widths and the numbers of signals and of expressions, as the code hands them on
+pub record Widths (signals signalTable : List ℕ) (count : ℕ) (exprs exprTable : List ℕ) (n : ℕ) : Type 0 where
+  pub signals-listed : Listed (widthsIn signals) signalTable
+  pub signals-counted : count ≡ length (recordsIn signals)
+  pub exprs-listed : Listed (widthsIn exprs) exprTable
+  pub exprs-counted : n ≡ length (recordsIn exprs)
 
 -- the test of a statement, and the same for each kind
 abbrev pub stmtTest : List ℕ → List ℕ → List ℕ → Bool
