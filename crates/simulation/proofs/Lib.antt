@@ -12,5 +12,6 @@ pub mod Tally
 pub mod Found
 pub mod Driving
 pub mod Faults
+pub mod Firsts
 pub mod Exprs
 pub mod Stmts

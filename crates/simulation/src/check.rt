@@ -2,19 +2,20 @@
 use crate::Fault;
 use crate::index::count;
 use crate::index::field;
+use crate::index::fill;
 use crate::index::size;
 use crate::index::wide;
 use crate::index::width;
 ghost use mathlib.Core.Path.{_≡_};
 ghost use mathlib.Core.Bool.{Bool, true, false, _&&_};
-ghost use mathlib.Core.Option.{none};
-ghost use Prim.Native.Nat.{_+_, _≤_, _<_, _^_, min};
+ghost use mathlib.Core.Option.{none, some};
+ghost use Prim.Native.Nat.{ℕ, _+_, _≤_, _<_, _^_, min};
 ghost use lib.Dec.{leb, ltb, eqb};
 ghost use lib.ListN.{length, getD, set, drop};
 ghost use Rattle.bits.specs.Bits.{pick};
 ghost use Rattle.recorder.specs.Lists.{lists};
 ghost use Rattle.recorder.specs.Read.{readSignal, readExpr, readStmt};
-ghost use Rattle.simulation.specs.Wellformed.{drives, countOf, fits, signalFits, unsplitAll, inRange, earlier, widthSum, wide as wider, broad, suits};
+ghost use Rattle.simulation.specs.Wellformed.{drives, countOf, fits, signalFits, unsplitAll, inRange, earlier, widthSum, wide as wider, broad, suits, orElse, behind, malformed as malformedBy};
 ghost use Rattle.simulation.specs.Index.{fieldsAt, recordsIn, widthsIn, Listed};
 ghost use Rattle.simulation.specs.Fault.{faultOf, stands, Tallied, signalFaultOf, allWide, constTest, readTest, concatTest, fixedTest, muxTest, eqTest, exprTest, exprFaultOf, Widths, headTest, resetTest, enableTest, regTest, stmtTest, stmtFaultOf};
 ghost use Rattle.simulation.specs.Run.{zeroed};
@@ -727,4 +728,71 @@ pub fn stmt_fault(
         k += 1;
     }
     Fault::Fine
+}
+
+// The first fault, or else the second, behind k records.
+fn first(a: Fault, k: usize, b: Fault) -> Fault
+    requires { ⌜ ((n : ℕ) → faultOf b ≡ some n → k + n < 18446744073709551616) ⌝ }
+    ensures { λ r. ⌜ faultOf r ≡ orElse (faultOf a) (behind k (faultOf b)) ⌝ }
+{
+    match a {
+        Fault::At(n) => Fault::At(n),
+        Fault::Fine => match b {
+            Fault::At(n) => Fault::At(k + n),
+            Fault::Fine => Fault::Fine,
+        },
+    }
+}
+
+// The first faulty record of three lists, with tables of the signals' and the expressions' widths and of the statements on each signal.
+fn first_fault(
+    signals: &[u32],
+    signal_table: &[u32],
+    exprs: &[u32],
+    expr_table: &[u32],
+    stmts: &[u32],
+    bytes: &[u8],
+    widest: u32,
+) -> Fault
+    requires { ⌜ Listed (widthsIn (now signals)) (now «signal_table») × Listed (widthsIn (now exprs)) (now «expr_table») × Tallied (recordsIn (now stmts)) (now bytes) ⌝ }
+    ensures { λ r. ⌜ faultOf r ≡ malformedBy widest (lists (now (signals .entry)) (now (exprs .entry)) (now (stmts .entry))) ⌝ }
+{
+    let signals_counted = count(signals);
+    let s = signals_counted.count;
+    let exprs_counted = count(exprs);
+    let e = exprs_counted.count;
+    let cut = unsplit(signals, exprs, stmts);
+    let a = signal_fault(signals, stmts, bytes, widest);
+    let b = expr_fault(exprs, expr_table, signals, signal_table, s, widest);
+    let c = stmt_fault(stmts, signals, signal_table, s, exprs, expr_table, e);
+    first(cut, 0, first(a, s, first(b, e, c)))
+}
+
+// Refusal 12: the first faulty record. Fills the tables of widths; the bytes count the statements on each signal. The longer the tables, the
+// fewer lists are walked.
+pub fn malformed(
+    signals: &[u32],
+    signal_table: &mut [u32],
+    exprs: &[u32],
+    expr_table: &mut [u32],
+    stmts: &[u32],
+    bytes: &mut [u8],
+    widest: u32,
+) -> Fault
+    ensures fault { λ r. ⌜ faultOf r ≡ malformedBy widest (lists (now (signals .entry)) (now (exprs .entry)) (now (stmts .entry))) ⌝ }
+    ensures signals { λ r. ⌜ Listed (widthsIn (now (signals .entry))) (now («signal_table» .exit)) ⌝ }
+    ensures exprs { λ r. ⌜ Listed (widthsIn (now (exprs .entry))) (now («expr_table» .exit)) ⌝ }
+{
+    fill(signals, signal_table);
+    fill(exprs, expr_table);
+    tally(stmts, bytes);
+    first_fault(
+        signals,
+        signal_table,
+        exprs,
+        expr_table,
+        stmts,
+        bytes,
+        widest,
+    )
 }
