@@ -1,9 +1,9 @@
 -- The rule of an expression's record, by its kind and from its fields. Assumes nothing.
-use Prim.Native.Nat.{ℕ, zero, suc, _+_, _-_, _*_, _/_, _^_, _≤_, _<_}
-use mathlib.Core.Path.{_≡_, refl, sym, _∙_, ap, subst}
+use Prim.Native.Nat.{ℕ, zero, suc, _+_, _*_, _/_, _^_, _≤_, _<_}
+use mathlib.Core.Path.{_≡_, refl, sym, _∙_, ap}
 use mathlib.Core.Bool.{Bool, true, false, _&&_}
 use mathlib.Core.List.{List, [], _∷_}
-use mathlib.Core.Option.{Option, none, some}
+use mathlib.Core.Option.{none, some}
 use native.Mathlib.Omega.{arith}
 use native.Mathlib.Numerals.{add-one}
 use lib.Dec.{eqb, leb, ltb}
@@ -12,9 +12,9 @@ use native.Mathlib.Decide.{decLt}
 use lib.Pow.{pow-pos, pow-mono}
 use lib.ListN.{length, getD, drop}
 use lib.Seq.{drop-cons}
-use borrow.Author.Tests.{le-leb, lt-leb, eq-eqb, ne-eqb, lt-ltb, le-ltb, eqb-true, eqb-false}
+use borrow.Author.Tests.{le-leb, lt-leb, eq-eqb, ne-eqb, lt-ltb, le-ltb}
 use Rattle.recorder.specs.Record.{Expr}
-use Rattle.recorder.specs.Read.{only, two, readExpr}
+use Rattle.recorder.specs.Read.{only, two}
 use Rattle.simulation.specs.Wellformed.{inRange, wide, earlier, widthSum, exprFits, fits}
 use Rattle.simulation.proofs.Ands.{and-true, and-false, long}
 use Rattle.simulation.specs.Fault.{allWide, exprTest, fixedTest, constTest, readTest, concatTest, muxTest, eqTest}

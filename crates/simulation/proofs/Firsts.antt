@@ -1,5 +1,5 @@
 -- The first fault of three lists, from those of each. Assumes nothing.
-use Prim.Native.Nat.{ℕ, zero, suc, _+_, _≤_, _<_}
+use Prim.Native.Nat.{ℕ, suc, _+_, _<_}
 use mathlib.Core.Path.{_≡_, refl, sym, _∙_, ap, ap₂}
 use mathlib.Core.Bool.{Bool, true, false}
 use mathlib.Core.List.{List, [], _∷_}
@@ -8,7 +8,6 @@ use native.Mathlib.Omega.{arith}
 use lib.ListN.{length}
 use Rattle.bits.specs.Bits.{pick}
 use Rattle.recorder.specs.Lists.{Lists}
-use Rattle.recorder.specs.Words.{rawOf}
 use Rattle.simulation.specs.Wellformed.{firstFailing, orElse, behind, firstFault, unsplitAll, malformed}
 use Rattle.simulation.specs.Index.{recordsIn}
 use Rattle.simulation.specs.Fault.{signalFaultOf, exprFaultOf, stmtFaultOf}

@@ -13,5 +13,6 @@ pub mod Found
 pub mod Driving
 pub mod Faults
 pub mod Firsts
+pub mod Calls
 pub mod Exprs
 pub mod Stmts

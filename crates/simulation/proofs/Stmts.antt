@@ -1,18 +1,18 @@
 -- The rule of a statement's record, by its kind and from its fields. Assumes nothing.
 use Prim.Native.Nat.{ℕ, zero, suc, _+_, _-_, _≤_, _<_}
-use mathlib.Core.Path.{_≡_, refl, sym, _∙_, ap, subst}
+use mathlib.Core.Path.{_≡_, refl, sym, _∙_, ap}
 use mathlib.Core.Bool.{Bool, true, false, _&&_}
 use mathlib.Core.List.{List, [], _∷_}
 use mathlib.Core.Option.{Option, none, some}
 use native.Mathlib.Omega.{arith}
-use lib.Dec.{eqb, leb, ltb}
+use lib.Dec.{eqb, leb}
 use lib.ListN.{length, getD, drop, length-drop, drop-of-length-le}
 use lib.Seq.{getD-drop}
 use borrow.Author.Tests.{le-leb, lt-leb, eq-eqb, ne-eqb, lt-ltb, le-ltb}
 use Rattle.bits.specs.Bits.{pick}
-use Rattle.recorder.specs.Record.{Stmt, assign, reg, RegReset, RegEnable}
-use Rattle.recorder.specs.Read.{withReset, withEnable, readStmt}
-use Rattle.simulation.specs.Wellformed.{suits, broad, wide, resetFits, enableFits, stmtFits, fits}
+use Rattle.recorder.specs.Record.{reg, RegReset}
+use Rattle.recorder.specs.Read.{withEnable}
+use Rattle.simulation.specs.Wellformed.{suits, broad, wide, resetFits, stmtFits, fits}
 use Rattle.simulation.specs.Fault.{stmtTest, assignTest, headTest, resetTest, enableTest, regTest}
 use Rattle.simulation.proofs.Ands.{and-true, long, and-stop, and-go}
 

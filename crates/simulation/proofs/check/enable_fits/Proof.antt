@@ -1,15 +1,12 @@
 use Rattle.simulation.proofs.Stmts.{enable-short, enable-none, enable-odd, enable-long, enable-control, enable-so}
-use Rattle.simulation.proofs.Steps.{length-widths}
 use Rattle.simulation.proofs.Offsets.{fields-count}
-use Rattle.simulation.proofs.Ands.{and-stop, and-go, and-second, and3-first, and3-second, and3-third}
-use Rattle.simulation.specs.Index.{fieldsAt, recordsIn, widthsIn}
-use Rattle.simulation.specs.Wellformed.{broad, suits}
-use borrow.Author.Tests.{not-true, not-false, eq-eqb, ne-eqb, le-leb, lt-leb}
-use lib.ListN.{length, getD, drop}
-use lib.Dec.{eqb, leb}
-use Prim.Native.Nat.{ℕ, _+_, _-_, _≤_, _<_}
-use mathlib.Core.Bool.{Bool, true, false}
-use mathlib.Core.Path.{_≡_, refl, sym, ap, ap₂, subst, _∙_}
+use Rattle.simulation.specs.Index.{fieldsAt, widthsIn}
+use Rattle.simulation.specs.Wellformed.{broad}
+use borrow.Author.Tests.{not-true, not-false}
+use lib.ListN.{length, getD}
+use lib.Dec.{leb}
+use Prim.Native.Nat.{ℕ, _-_}
+use mathlib.Core.Path.{refl, sym, ap, _∙_}
 use native.Mathlib.Omega.{arith}
 use borrow.Author.Needs.{needs}
 use Rattle.simulation.proofs.check.enable_fits.Statement.{statement}

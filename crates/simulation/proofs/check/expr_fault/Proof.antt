@@ -1,14 +1,12 @@
 use Rattle.simulation.proofs.Steps.{Walked, walked-start, walked-next, walked-within, leftFrom, left-next, left-out, left-end}
 use Rattle.simulation.proofs.Faults.{Seeking, seeking-start, seeking-next, seeking-here, seeking-none}
-use Rattle.simulation.specs.Fault.{exprTest, stmtTest}
+use Rattle.simulation.specs.Fault.{exprTest}
 use Rattle.simulation.specs.Index.{fieldsAt, recordsIn, widthsIn}
 use borrow.Author.Tests.{not-true, not-false}
 use borrow.Author.Needs.{needs}
-use lib.ListN.{length, getD}
-use Prim.Native.Nat.{ℕ, _+_, _-_, _≤_, _<_}
-use mathlib.Core.Bool.{Bool, true, false}
-use mathlib.Core.List.{List}
-use mathlib.Core.Path.{_≡_, refl, sym, ap, ap₂, subst, _∙_}
+use lib.ListN.{length}
+use Prim.Native.Nat.{_-_}
+use mathlib.Core.Path.{sym, _∙_}
 use native.Mathlib.Omega.{arith}
 use Rattle.simulation.proofs.check.expr_fault.Statement.{statement}
 use Rattle.simulation.proofs.check.expr_fault.Tie as tie

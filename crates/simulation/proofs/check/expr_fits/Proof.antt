@@ -1,8 +1,7 @@
 use Rattle.simulation.proofs.Exprs.{const-kind, read-kind, concat-kind, not-kind, and-kind, or-kind, xor-kind, mux-kind, eq-kind, mul-kind, no-kind}
 use Rattle.simulation.specs.Index.{fieldsAt, widthsIn}
-use mathlib.Core.Path.{_≡_, sym, _∙_}
+use mathlib.Core.Path.{sym, _∙_}
 use borrow.Author.Needs.{needs}
-use native.Mathlib.Omega.{arith}
 use Rattle.simulation.proofs.check.expr_fits.Statement.{statement}
 use Rattle.simulation.proofs.check.expr_fits.Tie as tie
 use Rattle.simulation.proofs.check.expr_fits.Reads as reads

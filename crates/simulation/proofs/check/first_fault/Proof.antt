@@ -4,10 +4,7 @@ use Rattle.simulation.specs.Fault.{signalTest, exprTest, stmtTest}
 use Rattle.simulation.specs.Index.{recordsIn, widthsIn}
 use Rattle.recorder.specs.Lists.{lists}
 use lib.ListN.{length}
-use Prim.Native.Nat.{ℕ, _+_, _-_, _≤_, _<_}
-use mathlib.Core.Option.{Option, none, some}
-use mathlib.Core.List.{List}
-use mathlib.Core.Path.{_≡_, refl, sym, ap, ap₂, subst, _∙_}
+use Prim.Native.Nat.{ℕ, _+_}
 use native.Mathlib.Omega.{arith}
 use borrow.Author.Needs.{needs}
 use Rattle.simulation.proofs.check.first_fault.Statement.{statement}

@@ -1,9 +1,3 @@
-use lib.ListN.{length}
-use Prim.Native.Nat.{ℕ, _+_, _-_, _≤_, _<_}
-use mathlib.Core.Option.{Option, none, some}
-use mathlib.Core.List.{List}
-use mathlib.Core.Path.{_≡_, refl, sym, ap, ap₂, subst, _∙_}
-use native.Mathlib.Omega.{arith}
 use borrow.Author.Needs.{needs}
 use Rattle.simulation.proofs.check.malformed.Statement.{statement}
 use Rattle.simulation.proofs.check.malformed.Tie as tie

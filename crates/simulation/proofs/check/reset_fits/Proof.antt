@@ -1,14 +1,10 @@
-use Rattle.simulation.proofs.Steps.{length-widths}
-use Rattle.simulation.proofs.Offsets.{fields-count}
-use Rattle.simulation.proofs.Ands.{and-stop, and-go, and-second, and3-first, and3-second, and3-third}
-use Rattle.simulation.specs.Index.{fieldsAt, recordsIn, widthsIn}
+use Rattle.simulation.proofs.Ands.{and3-first, and3-second, and3-third}
+use Rattle.simulation.specs.Index.{fieldsAt, widthsIn}
 use Rattle.simulation.specs.Wellformed.{broad, suits}
-use borrow.Author.Tests.{not-true, not-false, eq-eqb, ne-eqb, le-leb, lt-leb}
-use lib.ListN.{length, getD, drop}
-use lib.Dec.{eqb, leb}
-use Prim.Native.Nat.{ℕ, _+_, _-_, _≤_, _<_}
-use mathlib.Core.Bool.{Bool, true, false}
-use mathlib.Core.Path.{_≡_, refl, sym, ap, ap₂, subst, _∙_}
+use borrow.Author.Tests.{not-true, not-false, le-leb, lt-leb}
+use lib.ListN.{getD}
+use Prim.Native.Nat.{ℕ}
+use mathlib.Core.Path.{sym, ap, ap₂, _∙_}
 use native.Mathlib.Omega.{arith}
 use borrow.Author.Needs.{needs}
 use Rattle.simulation.proofs.check.reset_fits.Statement.{statement}
