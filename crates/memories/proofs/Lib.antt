@@ -4,3 +4,4 @@ pub mod Levels
 pub mod Addresses
 pub mod Ended
 pub mod RamLaws
+pub mod PortLaws
