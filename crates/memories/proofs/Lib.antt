@@ -5,3 +5,4 @@ pub mod Addresses
 pub mod Ended
 pub mod RamLaws
 pub mod PortLaws
+pub mod ReadLaws
