@@ -6,3 +6,4 @@ pub mod Ended
 pub mod RamLaws
 pub mod PortLaws
 pub mod ReadLaws
+pub mod DramLaws
