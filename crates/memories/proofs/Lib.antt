@@ -7,3 +7,4 @@ pub mod RamLaws
 pub mod PortLaws
 pub mod ReadLaws
 pub mod DramLaws
+pub mod BlockLaws

@@ -1,6 +1,7 @@
 // Memories: the balanced address mux, block RAM, distributed RAM. (lib.rs of the Rust: emit_block_ram to emit_distributed_ram.)
 pub mod address;
 pub mod address_mux;
+pub mod block_ram;
 pub mod distributed_ram;
 pub mod ports;
 pub mod ram_words;
