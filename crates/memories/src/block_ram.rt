@@ -5,7 +5,7 @@ use crate::RamShape;
 use crate::Second;
 use crate::Seconded;
 use crate::Words;
-use crate::address::address_shift;
+use crate::address::shift_in;
 use crate::ports::first_port;
 use crate::ports::second_port;
 use crate::ram_words::ram_words;
@@ -200,7 +200,7 @@ fn with_work(
     ensures { λ r. ⌜ Wrote (lists (now (sigs .entry)) (now (exprs .entry)) (now (stmts .entry))) t (emitBlockRam (wiresOf (now (signals .entry)) (now (places .entry))) constants owner (ramAt (now (words .entry)) at)) (stated r) (lists (now (sigs .exit)) (now (exprs .exit)) (now (stmts .exit))) ⌝ }
 {
     let address = address_width(field(words, at, 1));
-    let shift = address_shift(field(words, at, 3));
+    let shift = shift_in(field(words, at, 3));
     match first_port(
         exprs,
         matched,
