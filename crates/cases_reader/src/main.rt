@@ -3,10 +3,10 @@
 ghost use Prim.Native.Nat.{_+_, _<_};
 ghost use Rattle.io.specs.Counts.{Counts};
 use libc::STDOUT_FILENO;
-use netlist::Checked;
 use netlist::Limits;
 use netlist::fields::wide;
 use netlist::fields::word;
+use reader::Checked;
 
 fn le_word(a: u8, b: u8, c: u8, d: u8) -> u32 {
     (a as u32) + 256 * (b as u32) + 65536 * (c as u32) + 16777216 * (d as u32)
@@ -78,7 +78,7 @@ fn read_words(bytes: &mut [u8], out: &mut [u32], n: usize) -> usize
 }
 
 fn judge(case: usize, number: usize, place: usize, words: &[u32]) {
-    let answer = netlist::check(Limits::base(), words);
+    let answer = reader::check(Limits::base(), words);
     if number_of(answer) != number {
         print_wrong(case, number, place, answer);
     } else if place_of(answer) != place {

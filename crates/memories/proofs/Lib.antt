@@ -4,3 +4,7 @@ pub mod Levels
 pub mod Addresses
 pub mod Ended
 pub mod RamLaws
+pub mod PortLaws
+pub mod ReadLaws
+pub mod DramLaws
+pub mod BlockLaws

@@ -7,13 +7,14 @@ use native.Mathlib.Nat.{add-zero, zero-add}
 use native.Mathlib.Numerals.{add-one}
 use native.Mathlib.Omega.{arith}
 use lib.ListN.{length, getD, set, length-set}
+use Rattle.refusal.specs.declared.Refusal.{Refusal}
 use Rattle.recorder.specs.declared.Tapes.{Tapes}
 use Rattle.recorder.specs.declared.Stated.{Stated}
 use Rattle.recorder.specs.declared.Stated.the-variants as S
 use Rattle.recorder.specs.Record.{Expr.const, Expr.and, Expr.mux, Expr.eq, Stmt.reg}
 use Rattle.recorder.specs.Writer.{Event, Count, Out, End, End.ok, Writer, pure, emit, state, further, _>>=_}
-use Rattle.recorder.specs.Lists.{Lists, lists, countOf, Wrote, WroteExprs, WroteStmts, Answer, Answer.Done, Answer.Failed}
-use Rattle.recorder.proofs.Wrote.{wrote-as, wrote-pure, Going, going-start, going-step, going-stop, going-same, going-end}
+use Rattle.recorder.specs.Lists.{Lists, lists, countOf, Wrote, WroteExprs, WroteStmts, Answer, Answer.Done, Answer.Failed, stated}
+use Rattle.recorder.proofs.Wrote.{wrote-as, wrote-pure, then-stop, Going, going-start, going-step, going-stop, going-same, going-end}
 use Rattle.recorder.proofs.Events.{bind-assoc}
 use Rattle.memories.specs.declared.Port.{Port}
 use Rattle.memories.specs.declared.Second.{Second}
@@ -22,7 +23,7 @@ use Rattle.memories.specs.declared.Words.{Words}
 use Rattle.memories.specs.AddressMux.{Node}
 use Rattle.memories.specs.Candidates.{nodesFrom}
 use Rattle.memories.specs.Memories.{Word, PortExprs, writeWord, writeSecond, ramWord, ramWords, candidatesFrom, updateWords}
-use Rattle.memories.specs.Rams.{WroteWords, secondWriting, lastOf, matchAddress, wordsFrom, reach, wordsOf, Small, Spaced}
+use Rattle.memories.specs.Rams.{WroteWords, secondWriting, lastOf, matchAddress, wordsFrom, reach, wordsOf, Small, Spaced, filled}
 use Rattle.memories.proofs.Ended.{ended-value, ended-played, ended-count, small-word}
 use Rattle.memories.proofs.Levels.{nodes-put}
 
@@ -188,6 +189,11 @@ module _ {a : PortExprs} {b : Second} {owner width aw depth : ℕ} {s₀ e₀ : 
         let x = doing .signals in
         let y : t .exprs .count ≡ reach (t₀ .exprs .count) (lastOf b) depth = doing .exprs ∙ ap (λ (k : ℕ). reach (t₀ .exprs .count) (lastOf b) k) z in
         (omega arith, omega arith)
+
+-- the words were refused, and that is the answer
+pub filled-stop : {l l′ : Lists} {t : Tapes} {w : Writer (List Word)} {r : Stated} (last depth : ℕ) → Wrote l t w (filled t last depth r) l′ → (k : List Word → Writer (Unit {0})) {x : Refusal} → r ≡ S.Refused x
+    → Wrote l t (w >>= k) (stated r) l′
+filled-stop {l} {l′} {t} {w} last depth h k e = subst (λ (q : Stated). Wrote l t (w >>= k) (stated q) l′) (sym e) (then-stop h k (ap (λ (q : Stated). filled t last depth q) e))
 
 -- CANDIDATES
 

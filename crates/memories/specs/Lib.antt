@@ -3,3 +3,4 @@ pub mod AddressMux
 pub mod Candidates
 pub mod Memories
 pub mod Rams
+pub mod Steps

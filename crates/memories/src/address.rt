@@ -1,6 +1,8 @@
 // The expression of an address, and its match with an index.
 use netlist::Bit;
 use netlist::fields::wide;
+use netlist::ram::Shift;
+use netlist::ram::address_shift;
 use recorder::Emitted;
 use recorder::ExprId;
 use recorder::Tapes;
@@ -9,38 +11,20 @@ use refusal::Refusal;
 use wires::expressions::bit_expression;
 use wires::expressions::concat_parts;
 ghost use mathlib.Core.Path.{_≡_};
-ghost use Rattle.netlist.specs.Reader.{addressWidth, shiftOf};
+ghost use Rattle.netlist.specs.Reader.{shiftOf};
 ghost use Rattle.behaviour.specs.Behaviour.{shiftIn};
 ghost use Rattle.recorder.specs.Lists.{WroteExprs, emitted};
 ghost use Rattle.wires.specs.Wires.{wiresOf};
 ghost use Rattle.wires.specs.Expressions.{vectorBit, vectorExpression, roomy};
 ghost use Rattle.memories.specs.Rams.{matchAddress};
 
-// The bit length of depth - 1, at least 1.
-pub fn address_width(depth: u32) -> u32
-    ensures { λ r. ⌜ r ≡ addressWidth depth ⌝ }
-{
-    let end = wide(depth);
-    let mut width = 1;
-    let mut top: usize = 2;
-    while top < end {
-        width += 1;
-        top += top;
-    }
-    width
-}
-
-// The first bit of an address that counts, by physical width.
-pub fn address_shift(physical: u32) -> u32
+// The first bit of an address that counts, by physical width; 0 where that width is not allowed.
+pub fn shift_in(physical: u32) -> u32
     ensures { λ r. ⌜ r ≡ shiftIn (shiftOf physical) ⌝ }
 {
-    match physical {
-        1 => 0,
-        2 => 1,
-        4 => 2,
-        9 => 3,
-        18 => 4,
-        _ => 0,
+    match address_shift(physical) {
+        Shift::By(n) => n,
+        Shift::NotAllowed => 0,
     }
 }
 

@@ -1,7 +1,11 @@
 // Memories: the balanced address mux, block RAM, distributed RAM. (lib.rs of the Rust: emit_block_ram to emit_distributed_ram.)
 pub mod address;
 pub mod address_mux;
+pub mod block_ram;
+pub mod distributed_ram;
+pub mod ports;
 pub mod ram_words;
+pub mod read_port;
 
 use recorder::ExprId;
 use recorder::SignalId;
@@ -61,4 +65,12 @@ pub struct Words {
     pub current: ExprId,
     pub last: u32,
     pub depth: u32,
+}
+
+// A RAM's sizes and clock: the words' width, the address's, the clock's signal and its edge.
+pub struct RamShape {
+    pub width: u32,
+    pub address: u32,
+    pub clock: SignalId,
+    pub edge: u32,
 }

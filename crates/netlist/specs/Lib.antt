@@ -8,7 +8,5 @@ pub mod Shape
 pub mod ReaderFits
 pub mod ReaderLaws
 pub mod ReaderChecks
-pub mod Walk
-pub mod Checks
 pub mod Records
 pub mod Cases

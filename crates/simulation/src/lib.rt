@@ -1,6 +1,7 @@
 // The run of a model: one call is one tick.
+mod call;
 mod check;
-mod index;
+pub mod index;
 
 use recorder::SignalId;
 use refusal::Refusal;
@@ -21,4 +22,10 @@ pub enum Ran {
 pub enum Fault {
     Fine,
     At(usize),
+}
+
+// What is assigned to a signal: nothing, or an expression.
+pub enum Driver {
+    None,
+    By(u32),
 }

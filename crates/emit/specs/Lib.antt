@@ -1,0 +1,2 @@
+-- The specs of emit.
+pub mod Emits

@@ -1,0 +1,120 @@
+-- Laws of a read port.
+use mathlib.Core.Path.{_≡_, refl, ap, ap₂, sym, _∙_, fun-ext}
+use mathlib.Core.List.{List, [], _∷_}
+use mathlib.Core.Option.{Option, none, some}
+use Prim.Native.Nat.{ℕ, _+_, _≤_, _<_}
+use native.Mathlib.Nat.{add-zero}
+use native.Mathlib.Omega.{arith}
+use lib.ListN.{length, getD}
+use Rattle.refusal.specs.Refusal.{numberOf, placeOf}
+use Rattle.netlist.specs.declared.Control.{Control}
+use Rattle.netlist.specs.declared.fields.OptionalControl as oc
+use Rattle.netlist.specs.FieldForms.{presence}
+use Rattle.netlist.specs.Fields.{recordsAt, wordAt, wiresAt}
+use Rattle.netlist.proofs.RecordLaws.{wires-get}
+use Rattle.recorder.specs.declared.Tapes.{Tapes}
+use Rattle.recorder.specs.Record.{RegEnable, Stmt.reg}
+use Rattle.recorder.specs.Writer.{Count, Out, Writer, pure, refuse, state, _>>=_}
+use Rattle.recorder.specs.Lists.{WroteExprs, Answer}
+use Rattle.recorder.proofs.Wrote.{wrote-as}
+use Rattle.recorder.proofs.Events.{bind-pure, bind-refuse, bind-assoc}
+use Rattle.wires.specs.declared.Constants.{Constants}
+use Rattle.wires.specs.declared.Controlled.{Controlled}
+use Rattle.wires.specs.declared.Controlled.the-variants.{Signal, Refused}
+use Rattle.wires.specs.Wires.{WireRef, Wires}
+use Rattle.wires.specs.Expressions.{wireRef, bitSignal, roomy, controlled, Reads}
+use Rattle.wires.proofs.Laws.{ref-held, ref-missing, roomy-yes}
+use Rattle.memories.specs.declared.Port.{Port}
+use Rattle.memories.specs.declared.Second.{Second}
+use Rattle.memories.specs.declared.Second.the-variants as B
+use Rattle.memories.specs.AddressMux.{Node, balancedAddressMux}
+use Rattle.memories.specs.Candidates.{nodesFrom}
+use Rattle.memories.specs.Memories.{Word, PortExprs, candidatesFrom, enableOf, emitBlockRamReadPort, emitSecondReadPort}
+use Rattle.memories.specs.Rams.{portOf, secondOf, reading, selectWord, readRegister}
+use Rattle.memories.specs.Steps.{enabledRegister}
+use Rattle.memories.proofs.Binds.{bind-cong, bind-one}
+
+-- THE WORD
+
+-- both work slices have room
+pub mux-as : {e : List ℕ} {t : Tapes} {r : Answer ℕ} {e′ : List ℕ} (ms vs : List ℕ) {n depth : ℕ} (width z : ℕ) → n ≡ depth → depth ≤ length ms → depth ≤ length vs
+    → WroteExprs e t (roomy n ms (roomy n vs (balancedAddressMux width (nodesFrom ms vs 0 n) z))) r e′ → WroteExprs e t (balancedAddressMux width (nodesFrom ms vs 0 depth) z) r e′
+mux-as ms vs {n} {depth} width z here p q h x y = wrote-as
+    (ap (λ (k : ℕ). balancedAddressMux width (nodesFrom ms vs 0 k) z) (sym here)
+    ∙ sym (roomy-yes n ms (roomy n vs (balancedAddressMux width (nodesFrom ms vs 0 n) z)) (omega arith) ∙ roomy-yes n vs (balancedAddressMux width (nodesFrom ms vs 0 n) z) (omega arith)))
+    (h x y)
+
+-- A CONTROL'S SIGNAL
+
+module _ {B : Type 0} {w : Writer ℕ} {q : Controlled} (h : Reads w q) (k : ℕ → Writer B) where
+  abbrev answered : Controlled → Writer ℕ
+  answered c n = record { events = []; end = controlled c }
+
+  same : w ≡ answered q
+  same = fun-ext (λ n. h .reads n)
+
+  pub signal-known : {s : _} → q ≡ Signal s → (w >>= k) ≡ k (s .0)
+  signal-known {s} e = ap (λ (x : Writer ℕ). x >>= k) (same ∙ ap answered e) ∙ bind-pure (s .0) k
+
+  pub signal-refused : {x : _} → q ≡ Refused x → (w >>= k) ≡ refuse (numberOf x) (placeOf x)
+  signal-refused {x} e = ap (λ (x : Writer ℕ). x >>= k) (same ∙ ap answered e) ∙ bind-refuse (numberOf x) (placeOf x) k
+
+-- THE REGISTER
+
+module _ (m : Wires) (z : Constants) (output v clock edge : ℕ) where
+  abbrev loads : ℕ → Option RegEnable → Writer (Unit {0})
+  loads s en = state (reg s v clock edge none en)
+
+  read-held : (enable : Option Control) {r : WireRef} → m output ≡ some r → readRegister m z output enable v clock edge ≡ (enableOf m z enable >>= loads (r .signal))
+  unfolding readRegister
+  read-held enable {r} h = ap (λ (x : Writer WireRef). x >>= λ r. enableOf m z enable >>= loads (r .signal)) (ref-held m h) ∙ bind-pure r (λ r. enableOf m z enable >>= loads (r .signal))
+
+  pub read-missing : (enable : Option Control) → m output ≡ none → readRegister m z output enable v clock edge ≡ refuse 8 output
+  unfolding readRegister
+  read-missing enable h = ap (λ (x : Writer WireRef). x >>= λ r. enableOf m z enable >>= loads (r .signal)) (ref-missing m h) ∙ bind-refuse 8 output (λ r. enableOf m z enable >>= loads (r .signal))
+
+  pub read-always : {enable : oc.OptionalControl} {r : WireRef} → m output ≡ some r → enable ≡ oc.the-variants.Absent → readRegister m z output (presence enable) v clock edge ≡ state (reg (r .signal) v clock edge none none)
+  read-always {enable} {r} h e = read-held (presence enable) h ∙ ap (λ (o : oc.OptionalControl). enableOf m z (presence o) >>= loads (r .signal)) e ∙ bind-pure none (loads (r .signal))
+
+  pub read-enabled : {enable : oc.OptionalControl} {c : Control} {r : WireRef} → m output ≡ some r → enable ≡ oc.the-variants.Present c
+      → readRegister m z output (presence enable) v clock edge ≡ enabledRegister m z (r .signal) c v clock edge
+  unfolding enabledRegister
+  read-enabled {enable} {c} {r} h e =
+      read-held (presence enable) h ∙ ap (λ (o : oc.OptionalControl). enableOf m z (presence o) >>= loads (r .signal)) e
+      ∙ bind-one (bitSignal m z (c .signal)) (λ s. some (record { signal = s; active = c .active })) (loads (r .signal))
+
+-- THE PORT
+
+module _ (m : Wires) (z : Constants) (words : List Word) (width aw clock edge : ℕ) where
+  pub read-port : (p : PortExprs)
+      → emitBlockRamReadPort m z p words width aw clock edge ≡ (selectWord (p .readAddress) words width aw >>= λ v. readRegister m z (getD (p .readData) 0 0) (p .readEnable) v clock edge)
+  unfolding emitBlockRamReadPort selectWord readRegister
+  read-port p = sym (bind-assoc _ _ _ ∙ bind-cong _ (λ e. bind-assoc (candidatesFrom (p .readAddress) aw 0 words []) (λ nodes. balancedAddressMux width nodes e) _))
+
+  -- only its reading counts
+  pub reading-as : (out : List ℕ) (en : Option Control) (p : Port) → emitBlockRamReadPort m z (portOf out en p) words width aw clock edge ≡ emitBlockRamReadPort m z (reading (p .reads .0) (getD out 0 0) en) words width aw clock edge
+  unfolding emitBlockRamReadPort
+  reading-as out en p = refl
+
+  pub reading-same : (address : ℕ) {output output′ : ℕ} {en en′ : Option Control} → output ≡ output′ → en ≡ en′
+      → emitBlockRamReadPort m z (reading address output′ en′) words width aw clock edge ≡ emitBlockRamReadPort m z (reading address output en) words width aw clock edge
+  reading-same address p q = ap₂ (λ (o : ℕ) (x : Option Control). emitBlockRamReadPort m z (reading address o x) words width aw clock edge) (sym p) (sym q)
+
+  pub second-absent : (out : List ℕ) (en : Option Control) {b : Second} → b ≡ B.Absent → emitSecondReadPort m z (secondOf out en b) words width aw clock edge ≡ pure tt
+  second-absent out en e = ap (λ (b : Second). emitSecondReadPort m z (secondOf out en b) words width aw clock edge) e
+
+  pub second-present : (out : List ℕ) (en : Option Control) {b : Second} {p : Port} → b ≡ B.Present p
+      → emitSecondReadPort m z (secondOf out en b) words width aw clock edge ≡ emitBlockRamReadPort m z (reading (p .reads .0) (getD out 0 0) en) words width aw clock edge
+  second-present out en {b} {p} e = ap (λ (b : Second). emitSecondReadPort m z (secondOf out en b) words width aw clock edge) e ∙ reading-as out en p
+
+-- THE WIRE
+
+pub no-wire : (words : List ℕ) (i : ℕ) {n : ℕ} → n ≡ 0 → 0 ≡ getD (wiresAt words i n) 0 0
+unfolding recordsAt
+no-wire words i e = sym (ap (λ (k : ℕ). getD (wiresAt words i k) 0 0) e)
+
+pub some-wire : (words : List ℕ) (i n : ℕ) → (n ≡ 0 → ⊥) → wordAt words i ≡ getD (wiresAt words i n) 0 0
+some-wire words i n h = sym (wires-get words i n 0 0 (omega (arith, h)) ∙ ap (λ (k : ℕ). wordAt words k) (add-zero i))
+
+pub wire-as : (words : List ℕ) {i i′ n n′ : ℕ} → i ≡ i′ → n ≡ n′ → getD (wiresAt words i n) 0 0 ≡ getD (wiresAt words i′ n′) 0 0
+wire-as words p q = ap₂ (λ (i n : ℕ). getD (wiresAt words i n) 0 0) p q

@@ -1,0 +1,305 @@
+// A block RAM.
+use crate::Port;
+use crate::Ported;
+use crate::RamShape;
+use crate::Second;
+use crate::Seconded;
+use crate::Words;
+use crate::address::shift_in;
+use crate::ports::first_port;
+use crate::ports::second_port;
+use crate::ram_words::ram_words;
+use crate::ram_words::update_words;
+use crate::read_port::first_read_port;
+use crate::read_port::second_read_port;
+use netlist::fields::bit_at;
+use netlist::fields::field;
+use netlist::fields::wide;
+use netlist::ram::address_width;
+use recorder::ExprId;
+use recorder::SignalId;
+use recorder::Stated;
+use recorder::Tapes;
+use refusal::Refusal;
+use wires::Constants;
+use wires::Controlled;
+use wires::expressions::bit_signal;
+ghost use mathlib.Core.Path.{_≡_};
+ghost use Prim.Native.Nat.{_+_, _≤_, max};
+ghost use lib.ListN.{length};
+ghost use Rattle.netlist.specs.Fields.{wordAt};
+ghost use Rattle.recorder.specs.Lists.{lists, Wrote, stated};
+ghost use Rattle.wires.specs.Wires.{wiresOf};
+ghost use Rattle.memories.specs.Memories.{emitBlockRam};
+ghost use Rattle.memories.specs.Rams.{WrotePort, portOf, secondOf, lastOf, wordsOf, Spaced, workOf, blockRamIn, ramAt};
+ghost use Rattle.memories.specs.Steps.{secondAt, ramReads, ramBody};
+
+// Both ports read the words, which then take their next values.
+fn reads_and_updates(
+    exprs: &mut [u32],
+    stmts: &mut [u32],
+    matched: &mut [u32],
+    value: &mut [u32],
+    signals: &[u32],
+    places: &[u32],
+    t: Tapes,
+    constants: Constants,
+    made: Words,
+    shape: RamShape,
+    first: Port,
+    second: Second,
+    words: &[u32],
+    at: usize,
+) -> Stated
+    requires { ⌜ (made .depth ≤ length (now matched)) × (made .depth ≤ length (now value)) × Spaced made ⌝ }
+    ensures { λ r. ⌜ WrotePort (now (exprs .entry)) (now (stmts .entry)) t (ramReads (wiresOf (now (signals .entry)) (now (places .entry))) constants (portOf (ramAt (now (words .entry)) at .output) (ramAt (now (words .entry)) at .readEnable) first) (secondOf (secondAt (now (words .entry)) at .output) (secondAt (now (words .entry)) at .readEnable) second) (shape .width) (shape .address) (shape .clock .0) (shape .edge) (wordsOf made)) (stated r) (now (exprs .exit)) (now (stmts .exit)) ⌝ }
+{
+    let reads = first.reads;
+    let clock = shape.clock;
+    let a = first_read_port(
+        exprs,
+        stmts,
+        matched,
+        value,
+        signals,
+        places,
+        t,
+        constants,
+        made,
+        shape,
+        reads,
+        words,
+        at,
+    );
+    let Stated::Done(t2) = a else {
+        return a;
+    };
+    let b = second_read_port(
+        exprs,
+        stmts,
+        matched,
+        value,
+        signals,
+        places,
+        t2,
+        constants,
+        made,
+        shape,
+        second,
+        words,
+        at,
+    );
+    let Stated::Done(t3) = b else {
+        return b;
+    };
+    update_words(stmts, t3, made, clock, shape.edge)
+}
+
+// How far a word's next value stands behind its read.
+fn last_of(second: Second) -> u32
+    ensures { λ r. ⌜ r ≡ lastOf second ⌝ }
+{
+    match second {
+        Second::Absent => 4,
+        Second::Present(_) => 8,
+    }
+}
+
+// The words, what is read of them, and their registers, given the ports' expressions.
+fn ram_body(
+    sigs: &mut [u32],
+    exprs: &mut [u32],
+    stmts: &mut [u32],
+    matched: &mut [u32],
+    value: &mut [u32],
+    signals: &[u32],
+    places: &[u32],
+    t: Tapes,
+    constants: Constants,
+    owner: u32,
+    shape: RamShape,
+    first: Port,
+    second: Second,
+    words: &[u32],
+    at: usize,
+) -> Stated
+    requires { ⌜ (wordAt (now words) (at + 1) ≤ length (now matched)) × (wordAt (now words) (at + 1) ≤ length (now value)) ⌝ }
+    ensures { λ r. ⌜ Wrote (lists (now (sigs .entry)) (now (exprs .entry)) (now (stmts .entry))) t (ramBody (wiresOf (now (signals .entry)) (now (places .entry))) constants owner (portOf (ramAt (now (words .entry)) at .output) (ramAt (now (words .entry)) at .readEnable) first) (secondOf (secondAt (now (words .entry)) at .output) (secondAt (now (words .entry)) at .readEnable) second) (shape .width) (shape .address) (wordAt (now (words .entry)) (at + 1)) (shape .clock .0) (shape .edge)) (stated r) (lists (now (sigs .exit)) (now (exprs .exit)) (now (stmts .exit))) ⌝ }
+{
+    let depth = field(words, at, 1);
+    let r = ram_words(
+        sigs,
+        exprs,
+        t,
+        first,
+        second,
+        owner,
+        shape.width,
+        shape.address,
+        depth,
+    );
+    let Stated::Done(t2) = r else {
+        return r;
+    };
+    let last = last_of(second);
+    let made = Words {
+        signal: SignalId(t.signals.count),
+        current: ExprId(t.exprs.count),
+        last,
+        depth,
+    };
+    reads_and_updates(
+        exprs,
+        stmts,
+        matched,
+        value,
+        signals,
+        places,
+        t2,
+        constants,
+        made,
+        shape,
+        first,
+        second,
+        words,
+        at,
+    )
+}
+
+fn larger(a: usize, b: usize) -> usize
+    ensures { λ r. ⌜ r ≡ max a b ⌝ }
+{
+    if a < b { b } else { a }
+}
+
+// The words of work that the block RAM at an index takes.
+fn work_of(words: &[u32], at: usize) -> usize
+    ensures { λ r. ⌜ r ≡ workOf (ramAt (now (words .entry)) at) ⌝ }
+{
+    let depth = wide(field(words, at, 1));
+    let width = wide(field(words, at, 2));
+    larger(16384, larger(depth, width))
+}
+
+// With enough work.
+fn with_work(
+    sigs: &mut [u32],
+    exprs: &mut [u32],
+    stmts: &mut [u32],
+    matched: &mut [u32],
+    value: &mut [u32],
+    signals: &[u32],
+    places: &[u32],
+    t: Tapes,
+    constants: Constants,
+    owner: u32,
+    words: &[u32],
+    at: usize,
+) -> Stated
+    requires { ⌜ (workOf (ramAt (now words) at) ≤ length (now matched)) × (workOf (ramAt (now words) at) ≤ length (now value)) ⌝ }
+    ensures { λ r. ⌜ Wrote (lists (now (sigs .entry)) (now (exprs .entry)) (now (stmts .entry))) t (emitBlockRam (wiresOf (now (signals .entry)) (now (places .entry))) constants owner (ramAt (now (words .entry)) at)) (stated r) (lists (now (sigs .exit)) (now (exprs .exit)) (now (stmts .exit))) ⌝ }
+{
+    let address = address_width(field(words, at, 1));
+    let shift = shift_in(field(words, at, 3));
+    match first_port(
+        exprs,
+        matched,
+        signals,
+        places,
+        t,
+        words,
+        at,
+        shift,
+        address,
+    ) {
+        Ported::Done(first, t2) => {
+            match second_port(
+                exprs,
+                matched,
+                signals,
+                places,
+                t2,
+                words,
+                at,
+                shift,
+                address,
+            ) {
+                Seconded::Done(second, t3) => {
+                    let bit = bit_at(words, at, 40);
+                    match bit_signal(signals, places, constants, bit) {
+                        Controlled::Signal(clock) => {
+                            let width = field(words, at, 2);
+                            let edge = field(words, at, 41);
+                            let shape = RamShape {
+                                width,
+                                address,
+                                clock,
+                                edge,
+                            };
+                            ram_body(
+                                sigs,
+                                exprs,
+                                stmts,
+                                matched,
+                                value,
+                                signals,
+                                places,
+                                t3,
+                                constants,
+                                owner,
+                                shape,
+                                first,
+                                second,
+                                words,
+                                at,
+                            )
+                        }
+                        Controlled::Refused(x) => Stated::Refused(x),
+                    }
+                }
+                Seconded::Refused(x) => Stated::Refused(x),
+            }
+        }
+        Ported::Refused(x) => Stated::Refused(x),
+    }
+}
+
+// The block RAM at an index, cell number `owner`. Both work slices are checked first.
+pub fn emit_block_ram(
+    sigs: &mut [u32],
+    exprs: &mut [u32],
+    stmts: &mut [u32],
+    matched: &mut [u32],
+    value: &mut [u32],
+    signals: &[u32],
+    places: &[u32],
+    t: Tapes,
+    constants: Constants,
+    owner: u32,
+    words: &[u32],
+    at: usize,
+) -> Stated
+    ensures { λ r. ⌜ Wrote (lists (now (sigs .entry)) (now (exprs .entry)) (now (stmts .entry))) t (blockRamIn (now (matched .entry)) (now (value .entry)) (wiresOf (now (signals .entry)) (now (places .entry))) constants owner (ramAt (now (words .entry)) at)) (stated r) (lists (now (sigs .exit)) (now (exprs .exit)) (now (stmts .exit))) ⌝ }
+{
+    let work = work_of(words, at);
+    if matched.len() < work {
+        return Stated::Refused(Refusal::BufferTooShort(work));
+    }
+    if value.len() < work {
+        return Stated::Refused(Refusal::BufferTooShort(work));
+    }
+    with_work(
+        sigs,
+        exprs,
+        stmts,
+        matched,
+        value,
+        signals,
+        places,
+        t,
+        constants,
+        owner,
+        words,
+        at,
+    )
+}

@@ -1,0 +1,262 @@
+// The expressions of a RAM's ports.
+use crate::Port;
+use crate::Ported;
+use crate::Second;
+use crate::Seconded;
+use crate::address::address_expression;
+use netlist::fields;
+use netlist::fields::ahead;
+use netlist::fields::control;
+use netlist::fields::field;
+use netlist::fields::wide;
+use recorder::Emitted;
+use recorder::Tapes;
+use wires::expressions::asserted_expression;
+use wires::expressions::bits_expression;
+ghost use mathlib.Core.Path.{_≡_};
+ghost use mathlib.Core.Option.{none};
+ghost use Prim.Native.Nat.{_+_, _≤_};
+ghost use lib.ListN.{length};
+ghost use Rattle.netlist.specs.Fields.{wordAt, bitsAt, controlAt, firstSize};
+ghost use Rattle.recorder.specs.Lists.{WroteExprs, emitted};
+ghost use Rattle.wires.specs.Wires.{wiresOf};
+ghost use Rattle.wires.specs.Expressions.{assertedExpression, vectorExpression, bitsExpression};
+ghost use Rattle.memories.specs.Memories.{secondExprs};
+ghost use Rattle.memories.specs.Rams.{ported, seconded, firstExprs, dramExprs, ramAt, dramAt};
+ghost use Rattle.memories.specs.Steps.{secondAt};
+
+// The n bits at an offset of a record.
+fn data_expression(
+    exprs: &mut [u32],
+    parts: &mut [u32],
+    signals: &[u32],
+    places: &[u32],
+    t: Tapes,
+    words: &[u32],
+    at: usize,
+    offset: usize,
+    n: u32,
+) -> Emitted
+    requires { ⌜ n ≤ length (now parts) ⌝ }
+    ensures { λ r. ⌜ WroteExprs (now (exprs .entry)) t (bitsExpression (wiresOf (now (signals .entry)) (now (places .entry))) (bitsAt (now (words .entry)) (at + offset) n)) (emitted r) (now (exprs .exit)) ⌝ }
+{
+    let i = ahead(words, at, offset);
+    let end = wide(n);
+    bits_expression(exprs, parts, signals, places, t, words, i, end, n)
+}
+
+// So many of the 14 bits at an offset of a record, from the shift on.
+fn address_at(
+    exprs: &mut [u32],
+    parts: &mut [u32],
+    signals: &[u32],
+    places: &[u32],
+    t: Tapes,
+    words: &[u32],
+    at: usize,
+    offset: usize,
+    shift: u32,
+    width: u32,
+) -> Emitted
+    requires { ⌜ width ≤ length (now parts) ⌝ }
+    ensures { λ r. ⌜ WroteExprs (now (exprs .entry)) t (vectorExpression (wiresOf (now (signals .entry)) (now (places .entry))) (bitsAt (now (words .entry)) (at + offset) 14) shift width) (emitted r) (now (exprs .exit)) ⌝ }
+{
+    let bits = fields::address(words, at, offset);
+    address_expression(exprs, parts, signals, places, t, bits, shift, width)
+}
+
+// Whether the control at an offset of a record is asserted.
+fn asserted_at(
+    exprs: &mut [u32],
+    signals: &[u32],
+    places: &[u32],
+    t: Tapes,
+    words: &[u32],
+    at: usize,
+    offset: usize,
+) -> Emitted
+    ensures { λ r. ⌜ WroteExprs (now (exprs .entry)) t (assertedExpression (wiresOf (now (signals .entry)) (now (places .entry))) (controlAt (now (words .entry)) (at + offset))) (emitted r) (now (exprs .exit)) ⌝ }
+{
+    let write = control(words, at, offset);
+    asserted_expression(exprs, signals, places, t, write)
+}
+
+// The first port of the block RAM at an index, whose address has so many bits from the shift on.
+pub fn first_port(
+    exprs: &mut [u32],
+    parts: &mut [u32],
+    signals: &[u32],
+    places: &[u32],
+    t: Tapes,
+    words: &[u32],
+    at: usize,
+    shift: u32,
+    address: u32,
+) -> Ported
+    requires { ⌜ (address ≤ length (now parts)) × (wordAt (now words) (at + 2) ≤ length (now parts)) ⌝ }
+    ensures { λ r. ⌜ WroteExprs (now (exprs .entry)) t (firstExprs (wiresOf (now (signals .entry)) (now (places .entry))) shift address (ramAt (now (words .entry)) at)) (ported (ramAt (now (words .entry)) at .output) (ramAt (now (words .entry)) at .readEnable) r) (now (exprs .exit)) ⌝ }
+{
+    let width = field(words, at, 2);
+    match address_at(
+        exprs,
+        parts,
+        signals,
+        places,
+        t,
+        words,
+        at,
+        4,
+        shift,
+        address,
+    ) {
+        Emitted::Done(writes, t2) => match address_at(
+            exprs,
+            parts,
+            signals,
+            places,
+            t2,
+            words,
+            at,
+            20,
+            shift,
+            address,
+        ) {
+            Emitted::Done(reads, t3) => {
+                match data_expression(exprs, parts, signals, places, t3, words, at, 43, width) {
+                    Emitted::Done(input, t4) => {
+                        match asserted_at(exprs, signals, places, t4, words, at, 18) {
+                            Emitted::Done(asserted, t5) => Ported::Done(
+                                Port {
+                                    writes,
+                                    data: input,
+                                    asserted,
+                                    reads,
+                                },
+                                t5,
+                            ),
+                            Emitted::Refused(x) => Ported::Refused(x),
+                        }
+                    }
+                    Emitted::Refused(x) => Ported::Refused(x),
+                }
+            }
+            Emitted::Refused(x) => Ported::Refused(x),
+        },
+        Emitted::Refused(x) => Ported::Refused(x),
+    }
+}
+
+// How many words the first port of the block RAM at an index has.
+pub fn first_size(words: &[u32], at: usize) -> usize
+    ensures { λ r. ⌜ r ≡ firstSize (now (words .entry)) (wordAt (now (words .entry)) (at + 2)) ⌝ }
+{
+    let width = wide(field(words, at, 2));
+    43 + width + width
+}
+
+// The second port of the block RAM at an index; its one address serves both.
+pub fn second_port(
+    exprs: &mut [u32],
+    parts: &mut [u32],
+    signals: &[u32],
+    places: &[u32],
+    t: Tapes,
+    words: &[u32],
+    at: usize,
+    shift: u32,
+    address: u32,
+) -> Seconded
+    requires { ⌜ (address ≤ length (now parts)) × (wordAt (now words) (at + 2) ≤ length (now parts)) ⌝ }
+    ensures { λ r. ⌜ WroteExprs (now (exprs .entry)) t (secondExprs (wiresOf (now (signals .entry)) (now (places .entry))) shift address (ramAt (now (words .entry)) at .second)) (seconded (secondAt (now (words .entry)) at .output) (secondAt (now (words .entry)) at .readEnable) r) (now (exprs .exit)) ⌝ }
+{
+    if field(words, at, 42) == 0 {
+        return Seconded::Done(Second::Absent, t);
+    }
+    let start = first_size(words, at);
+    let width = field(words, at, 2);
+    match address_at(
+        exprs,
+        parts,
+        signals,
+        places,
+        t,
+        words,
+        at,
+        start,
+        shift,
+        address,
+    ) {
+        Emitted::Done(a, t2) => {
+            match data_expression(
+                exprs,
+                parts,
+                signals,
+                places,
+                t2,
+                words,
+                at,
+                start + 24,
+                width,
+            ) {
+                Emitted::Done(input, t3) => {
+                    match asserted_at(exprs, signals, places, t3, words, at, start + 14) {
+                        Emitted::Done(asserted, t4) => Seconded::Done(
+                            Second::Present(Port {
+                                writes: a,
+                                data: input,
+                                asserted,
+                                reads: a,
+                            }),
+                            t4,
+                        ),
+                        Emitted::Refused(x) => Seconded::Refused(x),
+                    }
+                }
+                Emitted::Refused(x) => Seconded::Refused(x),
+            }
+        }
+        Emitted::Refused(x) => Seconded::Refused(x),
+    }
+}
+
+// The port of the distributed RAM at an index.
+pub fn dram_port(
+    exprs: &mut [u32],
+    parts: &mut [u32],
+    signals: &[u32],
+    places: &[u32],
+    t: Tapes,
+    words: &[u32],
+    at: usize,
+) -> Ported
+    requires { ⌜ 4 ≤ length (now parts) ⌝ }
+    ensures { λ r. ⌜ WroteExprs (now (exprs .entry)) t (dramExprs (wiresOf (now (signals .entry)) (now (places .entry))) (dramAt (now (words .entry)) at)) (ported (dramAt (now (words .entry)) at .output) none r) (now (exprs .exit)) ⌝ }
+{
+    match data_expression(exprs, parts, signals, places, t, words, at, 1, 4) {
+        Emitted::Done(writes, t2) => {
+            match data_expression(exprs, parts, signals, places, t2, words, at, 11, 4) {
+                Emitted::Done(reads, t3) => {
+                    match data_expression(exprs, parts, signals, places, t3, words, at, 5, 4) {
+                        Emitted::Done(input, t4) => {
+                            match asserted_at(exprs, signals, places, t4, words, at, 9) {
+                                Emitted::Done(asserted, t5) => Ported::Done(
+                                    Port {
+                                        writes,
+                                        data: input,
+                                        asserted,
+                                        reads,
+                                    },
+                                    t5,
+                                ),
+                                Emitted::Refused(x) => Ported::Refused(x),
+                            }
+                        }
+                        Emitted::Refused(x) => Ported::Refused(x),
+                    }
+                }
+                Emitted::Refused(x) => Ported::Refused(x),
+            }
+        }
+        Emitted::Refused(x) => Ported::Refused(x),
+    }
+}

@@ -1,0 +1,4 @@
+-- The laws of reader.
+pub mod WalkLaws
+pub mod CellLaws
+pub mod SectionLaws

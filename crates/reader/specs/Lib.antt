@@ -1,0 +1,3 @@
+-- The specs of reader.
+pub mod Walk
+pub mod Checks
