@@ -1,0 +1,3 @@
+-- The laws of conflict.
+pub mod Counts
+pub mod Marked

@@ -1,0 +1,3 @@
+-- The specs of conflict.
+pub mod Conflicts
+pub mod Counting

@@ -1,0 +1,4 @@
+-- The laws of converter.
+pub mod Blank
+pub mod Calls
+pub mod Whole

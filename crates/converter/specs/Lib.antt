@@ -1,0 +1,2 @@
+-- The specs of converter.
+pub mod Entry

@@ -1,0 +1,2 @@
+-- The laws of steps.
+pub mod Sequence

@@ -1,0 +1,2 @@
+-- The specs of steps.
+pub mod Steps
