@@ -1,0 +1,4 @@
+-- The specs of listing.
+pub mod Ascii
+pub mod Names
+pub mod Listing

@@ -1,0 +1,3 @@
+// The text of a model in a lent buffer.
+pub mod fields;
+pub mod names;
