@@ -22,13 +22,13 @@ use Rattle.listing.specs.Listing.{field, fieldsText}
 -- NAMES
 
 module _ (names : List (List ℕ)) {k : ℕ} {out : List ℕ} {at : ℕ} {r : Place} {out′ : List ℕ} where
-  pub name-put : (j : ℕ) → k ≡ j → Appended out at (named names j) r out′ → Appended out at (named names k) r out′
-  name-put j e a = appended-as (ap (named names) (sym e)) a
+  pub name-put : (j : ℕ) → k ≡ j → Appended out at (32 ∷ named names j) r out′ → Appended out at (32 ∷ named names k) r out′
+  name-put j e a = appended-as (ap (λ (x : ℕ). 32 ∷ named names x) (sym e)) a
 
   -- past the names
-  pub number-put : length names ≤ k → Appended out at (decimal k) r out′ → Appended out at (named names k) r out′
+  pub number-put : length names ≤ k → Appended out at (32 ∷ decimal k) r out′ → Appended out at (32 ∷ named names k) r out′
   unfolding named
-  number-put h a = appended-as (sym (List·getD-eq-default names (decimal k) h)) a
+  number-put h a = appended-as (sym (ap (λ (l : List ℕ). 32 ∷ l) (List·getD-eq-default names (decimal k) h))) a
 
 -- a number that is none of those below n is not below n
 abbrev pub NoneBelow : ℕ → ℕ → Type 0

@@ -1,7 +1,6 @@
 -- The text of a model's records, one line each, without the line's end.
 -- A line is the record's letter and number, the name of its first field, then its other fields as they stand, each behind a
 -- space and its mark. Every record has a text: what is missing prints nothing, and a field past the marks has the last one.
-use mathlib.Core.Bool.{Bool, _||_}
 use mathlib.Core.List.{List, [], _∷_, _++_}
 use Prim.Native.Nat.{ℕ, zero, suc}
 use lib.Dec.{eqb, ltb}
@@ -24,33 +23,36 @@ fieldsText marks last [] = []
 fieldsText [] last (n ∷ f) = field last n ++ fieldsText [] last f
 fieldsText (m ∷ marks) last (n ∷ f) = field m n ++ fieldsText marks last f
 
--- letter and number, the first field by its name, the text of the others
-abbrev pub line : ℕ → ℕ → List (List ℕ) → ℕ → List ℕ → List ℕ
-line letter n names first rest = (letter ∷ decimal n) ++ (space ∷ named names first) ++ rest
+-- letter and number, the first field by its name, the others as rest writes them
+unfoldable pub recordText : ℕ → List (List ℕ) → (ℕ → List ℕ → List ℕ) → ℕ → List ℕ → List ℕ
+recordText letter names rest n [] = letter ∷ decimal n
+recordText letter names rest n (k ∷ f) = (letter ∷ decimal n) ++ (space ∷ named names k) ++ rest k f
 
 -- RECORDS
 
 -- the owner's letter: the port of an input or output, the bank of a flip-flop, else the cell
-abbrev pub ownerMark : ℕ → ℕ
+unfoldable pub ownerMark : ℕ → ℕ
 ownerMark label = pick (ltb label 2) p (pick (eqb label 7) b c)
 
 -- zero and one belong to nothing, so that only their width is written
 abbrev pub owned : ℕ → List ℕ → List ℕ
-owned label f = pick (eqb label 14 || eqb label 15) (take 1 f) f
+owned label f = pick (eqb label 14) (take 1 f) (pick (eqb label 15) (take 1 f) f)
 
-unfoldable pub signalText : ℕ → List ℕ → List ℕ
-signalText n [] = s ∷ decimal n
-signalText n (label ∷ f) = line s n labels label (fieldsText (dash ∷ ownerMark label ∷ []) dash (owned label f))
+-- width and owner
+unfoldable pub signalFields : ℕ → List ℕ → List ℕ
+signalFields label f = fieldsText (dash ∷ ownerMark label ∷ []) dash (owned label f)
+
+abbrev pub signalText : ℕ → List ℕ → List ℕ
+signalText = recordText s labels signalFields
 
 -- the width; then a const's value, a read's signal and lowest bit, or operands
-abbrev pub exprFields : ℕ → List ℕ → List ℕ
+unfoldable pub exprFields : ℕ → List ℕ → List ℕ
 exprFields zero f = fieldsText [] dash f
 exprFields (suc zero) f = fieldsText (dash ∷ s ∷ []) dash f
 exprFields (suc (suc k)) f = fieldsText (dash ∷ []) e f
 
-unfoldable pub exprText : ℕ → List ℕ → List ℕ
-exprText n [] = e ∷ decimal n
-exprText n (kind ∷ f) = line e n kinds kind (exprFields kind f)
+abbrev pub exprText : ℕ → List ℕ → List ℕ
+exprText = recordText e kinds exprFields
 
 -- a flag, and behind a flag of 1 the marks of what it announces
 abbrev pub optional : ℕ → List ℕ → List ℕ
@@ -64,13 +66,12 @@ regMarks f =
     ++ optional (getD f (pick (eqb (getD f 4 0) 1) 8 5) 0) (s ∷ dash ∷ [])
 
 -- an assignment's target and value; any other statement is written as a register
-abbrev pub stmtFields : ℕ → List ℕ → List ℕ
+unfoldable pub stmtFields : ℕ → List ℕ → List ℕ
 stmtFields zero f = fieldsText (s ∷ e ∷ []) dash f
 stmtFields (suc k) f = fieldsText (regMarks f) dash f
 
-unfoldable pub stmtText : ℕ → List ℕ → List ℕ
-stmtText n [] = t ∷ decimal n
-stmtText n (kind ∷ f) = line t n statements kind (stmtFields kind f)
+abbrev pub stmtText : ℕ → List ℕ → List ℕ
+stmtText = recordText t statements stmtFields
 
 -- THE FIRST LINE, OR THE ONLY ONE
 
@@ -78,7 +79,7 @@ unfoldable pub countsText : ℕ → ℕ → ℕ → List ℕ
 countsText signals exprs stmts = model ++ fieldsText [] dash (signals ∷ exprs ∷ stmts ∷ [])
 
 unfoldable pub refusedText : ℕ → ℕ → List ℕ
-refusedText number place = refused ++ fieldsText [] dash (number ∷ place ∷ [])
+refusedText number place = refused ++ field dash number ++ field dash place
 
 -- WHOLE LISTS
 

@@ -10,14 +10,14 @@ ghost use Rattle.text.specs.Decimal.{decimal};
 ghost use Rattle.listing.specs.Listing.{field, fieldsText};
 
 // A number behind a few bytes.
-pub fn put_number(out: &mut [u8], at: usize, lead: &[u8], n: u32) -> Place
+pub fn put_number(out: &mut [u8], at: usize, lead: &[u8], n: u64) -> Place
     ensures { λ r. ⌜ Appended (now (out .entry)) at (now (lead .entry) ++ decimal n) r (now (out .exit)) ⌝ }
 {
     let r = put_text(out, at, lead);
     let Place::At(a) = r else {
         return r;
     };
-    put_decimal(out, a, n as u64)
+    put_decimal(out, a, n)
 }
 
 fn mark_at(marks: &[u8], last: u8, i: usize) -> u8
@@ -30,10 +30,10 @@ fn put_field(out: &mut [u8], at: usize, mark: u8, n: u32) -> Place
     ensures { λ r. ⌜ Appended (now (out .entry)) at (field mark n) r (now (out .exit)) ⌝ }
 {
     if mark == b'-' {
-        return put_number(out, at, b" ", n);
+        return put_number(out, at, b" ", n as u64);
     }
     let lead = [b' ', mark];
-    put_number(out, at, &lead, n)
+    put_number(out, at, &lead, n as u64)
 }
 
 // Fields with their marks; those past the marks have the last.
