@@ -1,2 +1,3 @@
 -- The laws of listing.
+pub mod Lines
 pub mod Marked

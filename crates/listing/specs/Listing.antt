@@ -26,7 +26,7 @@ fieldsText (m ∷ marks) last (n ∷ f) = field m n ++ fieldsText marks last f
 -- letter and number, the first field by its name, the others as rest writes them
 unfoldable pub recordText : ℕ → List (List ℕ) → (ℕ → List ℕ → List ℕ) → ℕ → List ℕ → List ℕ
 recordText letter names rest n [] = letter ∷ decimal n
-recordText letter names rest n (k ∷ f) = (letter ∷ decimal n) ++ (space ∷ named names k) ++ rest k f
+recordText letter names rest n (k ∷ f) = (letter ∷ decimal n) ++ ((space ∷ named names k) ++ rest k f)
 
 -- RECORDS
 

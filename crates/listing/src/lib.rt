@@ -1,3 +1,4 @@
 // The text of a model in a lent buffer.
 pub mod fields;
 pub mod names;
+pub mod records;
