@@ -2,3 +2,4 @@
 pub mod Ascii
 pub mod Names
 pub mod Listing
+pub mod Standing

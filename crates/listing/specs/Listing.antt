@@ -83,11 +83,20 @@ refusedText number place = refused ++ field dash number ++ field dash place
 
 -- WHOLE LISTS
 
+abbrev pub lineText : (ℕ → List ℕ → List ℕ) → ℕ → List ℕ → List ℕ
+lineText text n r = text n r ++ (newline ∷ [])
+
 -- a line for each record, numbered from n
 abbrev pub linesFrom : (ℕ → List ℕ → List ℕ) → ℕ → List (List ℕ) → List ℕ
 linesFrom text n [] = []
-linesFrom text n (r ∷ rs) = text n r ++ (newline ∷ linesFrom text (suc n) rs)
+linesFrom text n (r ∷ rs) = lineText text n r ++ linesFrom text (suc n) rs
 
 -- the records of a list of words, as far as they stand whole
 unfoldable pub linesOf : (ℕ → List ℕ → List ℕ) → List ℕ → List ℕ
 linesOf text ws = linesFrom text 0 (split ws .records)
+
+-- the listing of a model: the three counts, then its three lists
+unfoldable pub modelText : ℕ → ℕ → ℕ → List ℕ → List ℕ → List ℕ → List ℕ
+modelText a b c signals exprs stmts =
+    (countsText a b c ++ (newline ∷ []))
+    ++ (linesOf signalText signals ++ (linesOf exprText exprs ++ linesOf stmtText stmts))

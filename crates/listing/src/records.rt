@@ -40,10 +40,10 @@ fn put_owned(out: &mut [u8], at: usize, label: u32, f: &[u32]) -> Place
     put_fields(out, at, &marks, b'-', f)
 }
 
-pub fn put_signal(out: &mut [u8], at: usize, number: u32, fields: &[u32]) -> Place
+pub fn put_signal(out: &mut [u8], at: usize, number: u64, fields: &[u32]) -> Place
     ensures { λ r. ⌜ Appended (now (out .entry)) at (signalText number (now (fields .entry))) r (now (out .exit)) ⌝ }
 {
-    let r = put_number(out, at, b"s", number as u64);
+    let r = put_number(out, at, b"s", number);
     let Place::At(a) = r else {
         return r;
     };
@@ -71,10 +71,10 @@ fn put_operands(out: &mut [u8], at: usize, kind: u32, f: &[u32]) -> Place
     put_fields(out, at, b"-", b'e', f)
 }
 
-pub fn put_expression(out: &mut [u8], at: usize, number: u32, fields: &[u32]) -> Place
+pub fn put_expression(out: &mut [u8], at: usize, number: u64, fields: &[u32]) -> Place
     ensures { λ r. ⌜ Appended (now (out .entry)) at (exprText number (now (fields .entry))) r (now (out .exit)) ⌝ }
 {
-    let r = put_number(out, at, b"e", number as u64);
+    let r = put_number(out, at, b"e", number);
     let Place::At(a) = r else {
         return r;
     };
@@ -108,10 +108,10 @@ fn put_driven(out: &mut [u8], at: usize, kind: u32, f: &[u32]) -> Place
     put_fields(out, at, b"ses---", b'-', f)
 }
 
-pub fn put_statement(out: &mut [u8], at: usize, number: u32, fields: &[u32]) -> Place
+pub fn put_statement(out: &mut [u8], at: usize, number: u64, fields: &[u32]) -> Place
     ensures { λ r. ⌜ Appended (now (out .entry)) at (stmtText number (now (fields .entry))) r (now (out .exit)) ⌝ }
 {
-    let r = put_number(out, at, b"t", number as u64);
+    let r = put_number(out, at, b"t", number);
     let Place::At(a) = r else {
         return r;
     };
