@@ -1,37 +1,11 @@
 // Replays a stored test set against the check of netlist words: number of cases; per case the number and place of the refusal
 // (0 and 0 where the words are read), a count of words, and the words. Little-endian 32-bit words on standard input.
-ghost use Prim.Native.Nat.{_+_, _<_};
-ghost use Rattle.io.specs.Counts.{Counts};
 use libc::STDOUT_FILENO;
 use netlist::Limits;
 use netlist::fields::wide;
 use netlist::fields::word;
 use reader::Checked;
-
-fn le_word(a: u8, b: u8, c: u8, d: u8) -> u32 {
-    (a as u32) + 256 * (b as u32) + 65536 * (c as u32) + 16777216 * (d as u32)
-}
-
-// The words of the bytes, laid at the start of out, and how many there are.
-fn words_of(bytes: &[u8], out: &mut [u32]) -> usize
-    ensures { λ r. ⌜ Counts r (now (out .exit)) ⌝ }
-{
-    let n = bytes.len() / 4;
-    let mut k: usize = 0;
-    while k < n {
-        if out.len() <= k {
-            return k;
-        }
-        out[k] = le_word(
-            bytes[4 * k],
-            bytes[4 * k + 1],
-            bytes[4 * k + 2],
-            bytes[4 * k + 3],
-        );
-        k += 1;
-    }
-    k
-}
+use words::read_words;
 
 fn number_of(answer: Checked) -> usize {
     match answer {
@@ -61,20 +35,6 @@ fn print_wrong(case: usize, number: usize, place: usize, got: Checked) {
     io::write_all(STDOUT_FILENO, b" got ");
     print_pair(number_of(got), place_of(got));
     io::write_all(STDOUT_FILENO, b"\n");
-}
-
-// The next n words of standard input, laid at the start of out, and how many there were.
-fn read_words(bytes: &mut [u8], out: &mut [u32], n: usize) -> usize
-    ensures { λ r. ⌜ Counts r (now (out .exit)) ⌝ }
-{
-    if bytes.len() / 4 < n {
-        return 0;
-    }
-    let got = io::read_full(0, &mut bytes[..4 * n]);
-    if 4 * n < got {
-        return 0;
-    }
-    words_of(&bytes[..got], out)
 }
 
 fn judge(case: usize, number: usize, place: usize, words: &[u32]) {

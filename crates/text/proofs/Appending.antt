@@ -27,7 +27,7 @@ place-same : (len a m b n : ℕ) → a + m ≡ b + n → placeOf len a m ≡ pla
 unfolding placeOf
 place-same len a m b n e = ap (λ (k : ℕ). cond (leb k len) (At k) Full) e
 
-at-place : (len at n : ℕ) {m : ℕ} → At m ≡ placeOf len at n → (m ≡ at + n) × (at + n ≤ len)
+pub at-place : (len at n : ℕ) {m : ℕ} → At m ≡ placeOf len at n → (m ≡ at + n) × (at + n ≤ len)
 unfolding placeOf
 at-place len at n {m} q = go (leb (at + n) len) refl q
   where
@@ -35,7 +35,7 @@ at-place len at n {m} q = go (leb (at + n) len) refl q
     go true e q = (cc, leb-true (at + n) len e)
     go false e q = let z : _≡_ {A = ℕ} 0 1 = cc in absurd (omega arith)
 
-full-place : (len at n : ℕ) → Full ≡ placeOf len at n → len < at + n
+pub full-place : (len at n : ℕ) → Full ≡ placeOf len at n → len < at + n
 unfolding placeOf
 full-place len at n q = go (leb (at + n) len) refl q
   where
@@ -87,6 +87,9 @@ module _ {out : List ℕ} {at : ℕ} {bs : List ℕ} {r : Place} {out₁ : List 
         said = place-full (length out) at (length (bs ++ cs)) (omega (arith, length-append bs cs));
         held = first .held ∙ sym (text-past cs (textIn out at bs) (at + length bs) (omega (arith, length-text bs out at))) ∙ text-append bs cs out at;
       }
+
+  pub then-full : (cs : List ℕ) → r ≡ Full → Appended out at (bs ++ cs) r out₁
+  then-full cs q = subst (λ (x : Place). Appended out at (bs ++ cs) x out₁) (sym q) (then-none cs q)
 
 -- another name for the text
 pub appended-as : {out : List ℕ} {at : ℕ} {bs cs : List ℕ} {r : Place} {out′ : List ℕ} → bs ≡ cs → Appended out at bs r out′ → Appended out at cs r out′

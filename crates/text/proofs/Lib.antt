@@ -1,3 +1,4 @@
--- Appending and Figures are for crates above.
+-- Appending, Going and Figures are for crates above.
 pub mod Appending
 pub mod Figures
+pub mod Going

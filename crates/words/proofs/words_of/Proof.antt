@@ -3,8 +3,8 @@ use borrow.Author.Needs.{needs}
 use mathlib.Core.Path.{_≡_, refl}
 use lib.ListN.{length, length-take, length-set}
 use Prim.Native.Nat.{_≤_, _-_}
-use Rattle.cases_reader.proofs.words_of.Statement.{statement}
-use Rattle.cases_reader.proofs.words_of.Tie as tie
+use Rattle.words.proofs.words_of.Statement.{statement}
+use Rattle.words.proofs.words_of.Tie as tie
 
 abbrev Inv-loop : tie.InvT-loop
 Inv-loop bytes out₀ n k₀ out k = (k ≤ n) × (k ≤ length out) × (length out ≡ length out₀)
@@ -12,91 +12,91 @@ Inv-loop bytes out₀ n k₀ out k = (k ≤ n) × (k ≤ length out) × (length 
 abbrev μ-loop : tie.MeasureT-loop
 μ-loop bytes out₀ n k₀ out k = n - k
 
--- src/main.rt:23:5
+-- src/lib.rt:23:5
 loop-holds : tie.Need-loop-holds Inv-loop μ-loop
 loop-holds c = (omega arith, omega arith, refl)
 
--- src/main.rt:25:13
+-- src/lib.rt:25:13
 same-length : tie.Need-same-length Inv-loop μ-loop
 same-length c = search needs
 
--- src/main.rt:25:13
+-- src/lib.rt:25:13
 returns : tie.Need-returns Inv-loop μ-loop
 returns c = (omega arith, simp length-take (omega arith))
 
--- src/main.rt:28:19
+-- src/lib.rt:28:19
 mul-le-word : tie.Need-mul-le-word Inv-loop μ-loop
 mul-le-word c = omega arith
 
--- src/main.rt:28:13
+-- src/lib.rt:28:13
 shared-slice-read-le-word : tie.Need-shared-slice-read-le-word Inv-loop μ-loop
 shared-slice-read-le-word c = omega arith
 
--- src/main.rt:29:19
+-- src/lib.rt:29:19
 mul-le-word-2 : tie.Need-mul-le-word-2 Inv-loop μ-loop
 mul-le-word-2 c = omega arith
 
--- src/main.rt:29:19
+-- src/lib.rt:29:19
 add-le-word : tie.Need-add-le-word Inv-loop μ-loop
 add-le-word c = omega arith
 
--- src/main.rt:29:13
+-- src/lib.rt:29:13
 shared-slice-read-le-word-2 : tie.Need-shared-slice-read-le-word-2 Inv-loop μ-loop
 shared-slice-read-le-word-2 c = omega arith
 
--- src/main.rt:30:19
+-- src/lib.rt:30:19
 mul-le-word-3 : tie.Need-mul-le-word-3 Inv-loop μ-loop
 mul-le-word-3 c = omega arith
 
--- src/main.rt:30:19
+-- src/lib.rt:30:19
 add-le-word-2 : tie.Need-add-le-word-2 Inv-loop μ-loop
 add-le-word-2 c = omega arith
 
--- src/main.rt:30:13
+-- src/lib.rt:30:13
 shared-slice-read-le-word-3 : tie.Need-shared-slice-read-le-word-3 Inv-loop μ-loop
 shared-slice-read-le-word-3 c = omega arith
 
--- src/main.rt:31:19
+-- src/lib.rt:31:19
 mul-le-word-4 : tie.Need-mul-le-word-4 Inv-loop μ-loop
 mul-le-word-4 c = omega arith
 
--- src/main.rt:31:19
+-- src/lib.rt:31:19
 add-le-word-3 : tie.Need-add-le-word-3 Inv-loop μ-loop
 add-le-word-3 c = omega arith
 
--- src/main.rt:31:13
+-- src/lib.rt:31:13
 shared-slice-read-le-word-4 : tie.Need-shared-slice-read-le-word-4 Inv-loop μ-loop
 shared-slice-read-le-word-4 c = omega arith
 
--- src/main.rt:27:18
+-- src/lib.rt:27:18
 le-word-requires : tie.Need-le-word-requires Inv-loop μ-loop
 le-word-requires c κs = search needs
 
--- src/main.rt:27:9
+-- src/lib.rt:27:9
 mul-out : tie.Need-mul-out Inv-loop μ-loop
 mul-out c = search needs
 
--- src/main.rt:27:9
+-- src/lib.rt:27:9
 slice-write-out : tie.Need-slice-write-out Inv-loop μ-loop
 slice-write-out c = omega arith
 
--- src/main.rt:33:9
+-- src/lib.rt:33:9
 add-k : tie.Need-add-k Inv-loop μ-loop
 add-k c = omega arith
 
--- src/main.rt:23:5
+-- src/lib.rt:23:5
 loop-less : tie.Need-loop-less Inv-loop μ-loop
 loop-less c = omega arith
 
--- src/main.rt:23:5
+-- src/lib.rt:23:5
 loop-again : tie.Need-loop-again Inv-loop μ-loop
 loop-again c = (omega arith, simp length-set (omega arith), simp length-set (omega arith))
 
--- src/main.rt:18:1
+-- src/lib.rt:18:1
 same-length-2 : tie.Need-same-length-2 Inv-loop μ-loop
 same-length-2 c = search needs
 
--- src/main.rt:18:1
+-- src/lib.rt:18:1
 returns-2 : tie.Need-returns-2 Inv-loop μ-loop
 returns-2 c = (omega arith, simp length-take (omega arith))
 

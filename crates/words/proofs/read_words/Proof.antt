@@ -4,65 +4,65 @@ use Prim.Native.Nat.{ℕ, _≤_}
 use native.Mathlib.Omega.{arith}
 use lib.ListN.{length, take, length-take}
 use borrow.Author.Needs.{needs}
-use Rattle.cases_reader.proofs.read_words.Statement.{statement}
-use Rattle.cases_reader.proofs.read_words.Tie as tie
+use Rattle.words.proofs.read_words.Statement.{statement}
+use Rattle.words.proofs.read_words.Tie as tie
 
 take-long : (n : ℕ) (l : List ℕ) → n ≤ length l → n ≡ length (take n l)
 take-long n l h = simp length-take (omega arith)
 
--- src/main.rt:73:9
+-- src/lib.rt:73:9
 returns : tie.Need-returns
 returns c = search needs
 
--- src/main.rt:75:45
+-- src/lib.rt:75:45
 mul-read-full : tie.Need-mul-read-full
 mul-read-full c = search needs
 
--- src/main.rt:75:32
+-- src/lib.rt:75:32
 slice-relend-prefix-read-full : tie.Need-slice-relend-prefix-read-full
 slice-relend-prefix-read-full c = search needs
 
--- src/main.rt:75:32
+-- src/lib.rt:75:32
 slice-aggregate-read-full : tie.Need-slice-aggregate-read-full
 slice-aggregate-read-full c = simp length-take (omega arith)
 
--- src/main.rt:75:9
+-- src/lib.rt:75:9
 read-full-requires : tie.Need-read-full-requires
 read-full-requires c κs = search needs
 
--- src/main.rt:76:8
+-- src/lib.rt:76:8
 mul-if2 : tie.Need-mul-if2
 mul-if2 c = search needs
 
--- src/main.rt:77:9
+-- src/lib.rt:77:9
 same-length : tie.Need-same-length
 same-length c = search needs
 
--- src/main.rt:77:9
+-- src/lib.rt:77:9
 returns-2 : tie.Need-returns-2
 returns-2 c = search needs
 
--- src/main.rt:79:14
+-- src/lib.rt:79:14
 slice-reshare-prefix-words-of : tie.Need-slice-reshare-prefix-words-of
 slice-reshare-prefix-words-of c = search needs
 
--- src/main.rt:79:14
+-- src/lib.rt:79:14
 slice-aggregate-words-of : tie.Need-slice-aggregate-words-of
 slice-aggregate-words-of c = take-long _ _ (omega (arith, c .before .if2 .left, c .before .before .before .bytes .given .1, c .before .before .before .before .before .before .if1 .left))
 
--- src/main.rt:79:5
+-- src/lib.rt:79:5
 words-of-requires : tie.Need-words-of-requires
 words-of-requires c κs = search needs
 
--- src/main.rt:69:1
+-- src/lib.rt:69:1
 same-length-2 : tie.Need-same-length-2
 same-length-2 c = search needs
 
--- src/main.rt:69:1
+-- src/lib.rt:69:1
 same-length-3 : tie.Need-same-length-3
 same-length-3 c = search needs
 
--- src/main.rt:69:1
+-- src/lib.rt:69:1
 returns-3 : tie.Need-returns-3
 returns-3 c = search needs
 

@@ -1,0 +1,4 @@
+-- The laws of listing.
+pub mod Lines
+pub mod Marked
+pub mod Reached
