@@ -21,7 +21,7 @@ ghost use Rattle.simulation.specs.Fault.{faultOf, stands, Tallied, signa
 ghost use Rattle.simulation.specs.Run.{zeroed};
 
 // The first record that does not stand whole.
-pub fn unsplit(signals: &[u32], exprs: &[u32], stmts: &[u32]) -> Fault
+fn unsplit(signals: &[u32], exprs: &[u32], stmts: &[u32]) -> Fault
     ensures { λ r. ⌜ faultOf r ≡ unsplitAll (lists (now (signals .entry)) (now (exprs .entry)) (now (stmts .entry))) ⌝ }
 {
     let s = count(signals);
@@ -76,7 +76,7 @@ fn zero_bytes(table: &mut [u8])
 }
 
 // How many statements stand on each signal, as far as the table goes.
-pub fn tally(stmts: &[u32], table: &mut [u8])
+fn tally(stmts: &[u32], table: &mut [u8])
     ensures { λ _. ⌜ Tallied (recordsIn (now (stmts .entry))) (now (table .exit)) ⌝ }
 {
     zero_bytes(table);
@@ -165,7 +165,7 @@ fn signal_fits(list: &[u32], at: usize, size: usize, k: u8, widest: u32) -> bool
 }
 
 // The first faulty signal.
-pub fn signal_fault(signals: &[u32], stmts: &[u32], table: &[u8], widest: u32) -> Fault
+fn signal_fault(signals: &[u32], stmts: &[u32], table: &[u8], widest: u32) -> Fault
     requires { ⌜ Tallied (recordsIn (now stmts)) (now table) ⌝ }
     ensures { λ r. ⌜ faultOf r ≡ signalFaultOf widest (recordsIn (now (signals .entry))) (recordsIn (now (stmts .entry))) ⌝ }
 {
@@ -413,7 +413,7 @@ fn expr_fits(
 }
 
 // The first faulty expression.
-pub fn expr_fault(
+fn expr_fault(
     exprs: &[u32],
     table: &[u32],
     signals: &[u32],
@@ -692,7 +692,7 @@ fn stmt_fits(
 }
 
 // The first faulty statement.
-pub fn stmt_fault(
+fn stmt_fault(
     stmts: &[u32],
     signals: &[u32],
     signal_table: &[u32],
