@@ -1,0 +1,1 @@
+// The values of a model's expressions, and what a tick stores.
