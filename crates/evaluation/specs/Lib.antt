@@ -1,1 +1,2 @@
 pub mod Consistent
+pub mod Bytes
