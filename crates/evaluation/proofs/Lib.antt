@@ -1,2 +1,3 @@
 pub mod Consistent
 pub mod InBytes
+pub mod Held
