@@ -1,3 +1,4 @@
 pub mod Consistent
 pub mod InBytes
 pub mod Held
+pub mod ByKind
