@@ -2,3 +2,4 @@ pub mod Consistent
 pub mod InBytes
 pub mod Held
 pub mod ByKind
+pub mod Evaluating
