@@ -197,7 +197,10 @@ module _ (widest : ℕ) (sw ew : List ℕ) (e : ℕ) where
   is-read (eq a b) h k = absurd (omega arith)
   is-read (mul a b) h k = absurd (omega arith)
 
--- a record has so many words, and no other kind than these
+-- how many words a record of a kind has, a concat's at least
+abbrev pub wordsFor : ℕ → ℕ
+wordsFor k = getD (4 ∷ 5 ∷ 3 ∷ 4 ∷ 5 ∷ 5 ∷ 5 ∷ 6 ∷ 5 ∷ 5 ∷ []) k 0
+
 pub words-enough : (x : Expr) → 3 ≤ length (exprWords x)
 words-enough (const w v) = omega arith
 words-enough (read w s l) = omega arith
@@ -209,3 +212,62 @@ words-enough (xor a b) = omega arith
 words-enough (mux w s t f) = omega arith
 words-enough (eq a b) = omega arith
 words-enough (mul a b) = omega arith
+
+pub words-count : (x : Expr) → wordsFor (getD (exprWords x) 1 0) ≤ length (exprWords x)
+words-count (const w v) = omega arith
+words-count (read w s l) = omega arith
+words-count (concat w ps) = omega arith
+words-count (not a) = omega arith
+words-count (and a b) = omega arith
+words-count (or a b) = omega arith
+words-count (xor a b) = omega arith
+words-count (mux w s t f) = omega arith
+words-count (eq a b) = omega arith
+words-count (mul a b) = omega arith
+
+-- the first word counts them
+pub words-first : (x : Expr) → getD (exprWords x) 0 0 ≡ length (exprWords x)
+words-first (const w v) = refl
+words-first (read w s l) = refl
+words-first (concat w ps) = omega arith
+words-first (not a) = refl
+words-first (and a b) = refl
+words-first (or a b) = refl
+words-first (xor a b) = refl
+words-first (mux w s t f) = refl
+words-first (eq a b) = refl
+words-first (mul a b) = refl
+
+pub words-width : (x : Expr) → getD (exprWords x) 2 0 ≡ exprWidth x
+words-width (const w v) = refl
+words-width (read w s l) = refl
+words-width (concat w ps) = refl
+words-width (not a) = refl
+words-width (and a b) = refl
+words-width (or a b) = refl
+words-width (xor a b) = refl
+words-width (mux w s t f) = refl
+words-width (eq a b) = refl
+words-width (mul a b) = refl
+
+pub no-other : (x : Expr) → getD (exprWords x) 1 0 ≤ 9
+no-other (const w v) = omega arith
+no-other (read w s l) = omega arith
+no-other (concat w ps) = omega arith
+no-other (not a) = omega arith
+no-other (and a b) = omega arith
+no-other (or a b) = omega arith
+no-other (xor a b) = omega arith
+no-other (mux w s t f) = omega arith
+no-other (eq a b) = omega arith
+no-other (mul a b) = omega arith
+
+pub gate-words : (k : ℕ) → 4 ≤ k → k ≤ 6 → wordsFor k ≡ 5
+gate-words zero lo hi = absurd (omega arith)
+gate-words (suc zero) lo hi = absurd (omega arith)
+gate-words (suc (suc zero)) lo hi = absurd (omega arith)
+gate-words (suc (suc (suc zero))) lo hi = absurd (omega arith)
+gate-words (suc (suc (suc (suc zero)))) lo hi = refl
+gate-words (suc (suc (suc (suc (suc zero))))) lo hi = refl
+gate-words (suc (suc (suc (suc (suc (suc zero)))))) lo hi = refl
+gate-words (suc (suc (suc (suc (suc (suc (suc k))))))) lo hi = absurd (omega arith)

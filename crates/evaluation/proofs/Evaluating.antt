@@ -27,7 +27,10 @@ use Rattle.evaluation.specs.Ready.{exprIn, Ready, Evaluated}
 use Rattle.evaluation.proofs.Consistent.{same-value, operands-under}
 use Rattle.evaluation.proofs.InBytes.{part-at, part-length, bits-back, bytes-same}
 use Rattle.evaluation.proofs.Held.{holds-length, holds-width, holds-part, holds-bit, holds-set}
-use Rattle.evaluation.proofs.ByKind.{Operand, Gate, Mux, Const, Equal, Product, Concat, is-gate, is-not, is-mux, is-const, is-equal, is-product, is-concat, words-enough}
+use Rattle.evaluation.proofs.ByKind.{Operand, Gate, Mux, Const, Equal, Product, Concat, is-gate, is-not, is-mux, is-const, is-equal, is-product, is-concat, wordsFor, words-enough, words-count, words-first, words-width, no-other, gate-words}
+
+subst3 : (P : ℕ → ℕ → ℕ → Type 0) {a b c a′ b′ c′ : ℕ} → a ≡ a′ → b ≡ b′ → c ≡ c′ → P a′ b′ c′ → P a b c
+subst3 P {a} {b} {c} {a′} {b′} {c′} p q r t = subst (λ (i : ℕ). P i b c) (sym p) (subst (λ (i : ℕ). P a′ i c) (sym q) (subst (λ (i : ℕ). P a′ b′ i) (sym r) t))
 
 -- WHERE VALUES STAND
 
@@ -61,6 +64,19 @@ module _ {exprs table values : List ℕ} {at e : ℕ} (h : Ready exprs table val
   pub the-word : (j : ℕ) → j < 3 → getD exprs (at + j) 0 ≡ getD (exprWords (exprIn exprs e)) j 0
   the-word j q = h .words j (omega (arith, words-enough x))
 
+  pub word-inside : (j : ℕ) → j < length (exprWords (exprIn exprs e)) → at + j < length exprs
+  word-inside j q = omega (arith, h .inside)
+
+  pub kind-is : {k : ℕ} → k ≡ getD exprs (at + 1) 0 → k ≡ getD (exprWords (exprIn exprs e)) 1 0
+  kind-is q = q ∙ the-word 1 (omega arith)
+
+  pub count-is : {k : ℕ} → k ≡ getD exprs (at + 1) 0 → wordsFor k ≤ length (exprWords (exprIn exprs e))
+  count-is {k} q = subst (λ (n : ℕ). wordsFor n ≤ length (exprWords x)) (sym (kind-is q)) (words-count x)
+
+  -- the sum of all widths fits a word of 64 bits, as the values' length does
+  pub sum-fits : length values < 18446744073709551616 → offset (widthsIn exprs) (length (recordsIn exprs)) ≤ 18446744073709551615
+  sum-fits q = omega (arith, h .room)
+
   -- the value is as wide as the expression
   pub value-wide : (σ : Signals) (vs : List Bits) (rest : List ℕ) → Holds (widthsIn exprs) vs rest values → length (evalExpr σ vs (exprIn exprs e)) ≡ getD (widthsIn exprs) e 0
   value-wide σ vs rest v =
@@ -86,6 +102,40 @@ module _ {exprs table values : List ℕ} {at e : ℕ} (h : Ready exprs table val
   operand-part {a} o v = ap (λ (n : ℕ). part values (offset (widthsIn exprs) a) n) (sym (o .as-wide)) ∙ holds-part v a (operand-there o)
 
   -- BY KIND
+
+  abbrev word : ℕ → ℕ
+  word j = getD exprs (at + j) 0
+
+  pub gate-ready : {kind : ℕ} → kind ≡ getD exprs (at + 1) 0 → 4 ≤ kind → kind ≤ 6 → Gate (widthsIn exprs) e kind (getD exprs (at + 3) 0) (getD exprs (at + 4) 0) (exprIn exprs e) × (5 ≤ length (exprWords (exprIn exprs e)))
+  gate-ready {kind} k lo hi =
+      let n : 5 ≤ length (exprWords x) = (let c = count-is k in let g = gate-words kind lo hi in omega arith) in
+      let i = kind-is k in
+      (subst3 (λ q a b. Gate ew e q a b x) i (h .words 3 (omega arith)) (h .words 4 (omega arith)) (is-gate (h .widest) (h .signal-widths) ew e x (h .fits) (omega arith) (omega arith)), n)
+
+  pub not-ready : getD exprs (at + 1) 0 ≡ 3 → Gate (widthsIn exprs) e 3 (getD exprs (at + 3) 0) (getD exprs (at + 3) 0) (exprIn exprs e) × (4 ≤ length (exprWords (exprIn exprs e)))
+  not-ready k =
+      let n : 4 ≤ length (exprWords x) = count-is (sym k) in
+      (subst (λ (a : ℕ). Gate ew e 3 a a x) (sym (h .words 3 (omega arith))) (is-not (h .widest) (h .signal-widths) ew e x (h .fits) (sym (kind-is (sym k)))), n)
+
+  pub mux-ready : getD exprs (at + 1) 0 ≡ 7 → Mux (widthsIn exprs) e (getD exprs (at + 2) 0) (getD exprs (at + 3) 0) (getD exprs (at + 4) 0) (getD exprs (at + 5) 0) (exprIn exprs e) × (6 ≤ length (exprWords (exprIn exprs e)))
+  mux-ready k =
+      let n : 6 ≤ length (exprWords x) = count-is (sym k) in
+      (subst3 (λ a b c. Mux ew e (word 2) a b c x) (h .words 3 (omega arith)) (h .words 4 (omega arith)) (h .words 5 (omega arith)) (subst (λ (w : ℕ). Mux ew e w (getD (exprWords x) 3 0) (getD (exprWords x) 4 0) (getD (exprWords x) 5 0) x) (sym (h .words 2 (omega arith))) (is-mux (h .widest) (h .signal-widths) ew e x (h .fits) (sym (kind-is (sym k))))), n)
+
+  pub const-ready : getD exprs (at + 1) 0 ≡ 0 → Const (getD exprs (at + 2) 0) (getD exprs (at + 3) 0) (exprIn exprs e) × (4 ≤ length (exprWords (exprIn exprs e)))
+  const-ready k =
+      let n : 4 ≤ length (exprWords x) = count-is (sym k) in
+      (subst (λ (w : ℕ). Const w (word 3) x) (sym (h .words 2 (omega arith))) (subst (λ (v : ℕ). Const (getD (exprWords x) 2 0) v x) (sym (h .words 3 (omega arith))) (is-const (h .widest) (h .signal-widths) ew e x (h .fits) (sym (kind-is (sym k))))), n)
+
+  pub equal-ready : getD exprs (at + 1) 0 ≡ 8 → Equal (widthsIn exprs) e (getD exprs (at + 3) 0) (getD exprs (at + 4) 0) (exprIn exprs e) × (5 ≤ length (exprWords (exprIn exprs e)))
+  equal-ready k =
+      let n : 5 ≤ length (exprWords x) = count-is (sym k) in
+      (subst (λ (a : ℕ). Equal ew e a (word 4) x) (sym (h .words 3 (omega arith))) (subst (λ (b : ℕ). Equal ew e (getD (exprWords x) 3 0) b x) (sym (h .words 4 (omega arith))) (is-equal (h .widest) (h .signal-widths) ew e x (h .fits) (sym (kind-is (sym k))))), n)
+
+  pub product-ready : getD exprs (at + 1) 0 ≡ 9 → Product (widthsIn exprs) e (getD exprs (at + 3) 0) (getD exprs (at + 4) 0) (exprIn exprs e) × (5 ≤ length (exprWords (exprIn exprs e)))
+  product-ready k =
+      let n : 5 ≤ length (exprWords x) = count-is (sym k) in
+      (subst (λ (a : ℕ). Product ew e a (word 4) x) (sym (h .words 3 (omega arith))) (subst (λ (b : ℕ). Product ew e (getD (exprWords x) 3 0) b x) (sym (h .words 4 (omega arith))) (is-product (h .widest) (h .signal-widths) ew e x (h .fits) (sym (kind-is (sym k))))), n)
 
   module _ {values′ : List ℕ} where
     pub gate-written : {kind a b : ℕ} → Gate (widthsIn exprs) e kind a b (exprIn exprs e) → ((p q : Bool) → getD values (offset (widthsIn exprs) a) 0 ≡ digit p → getD values (offset (widthsIn exprs) b) 0 ≡ digit q → values′ ≡ set values (offset (widthsIn exprs) e) (digit (gateOf kind p q))) → Evaluated exprs e values values′
