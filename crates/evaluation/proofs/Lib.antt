@@ -3,3 +3,4 @@ pub mod InBytes
 pub mod Held
 pub mod ByKind
 pub mod Evaluating
+pub mod Answers
