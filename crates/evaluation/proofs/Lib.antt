@@ -4,3 +4,4 @@ pub mod Held
 pub mod ByKind
 pub mod Evaluating
 pub mod Answers
+pub mod Joining

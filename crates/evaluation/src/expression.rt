@@ -110,3 +110,37 @@ fn eval_product(exprs: &[u32], table: &[u32], at: usize, e: usize, values: &mut 
     let q = number(values, b);
     put_number(values, to, 36, product(p, q));
 }
+
+// The parts come highest first, and are laid from the highest bits down.
+fn eval_concat(exprs: &[u32], table: &[u32], at: usize, e: usize, values: &mut [u8])
+    requires { ⌜ Ready (now exprs) (now table) (now values) at e × (getD (now exprs) (at + 1) 0 ≡ 2) ⌝ }
+    ensures { λ _. ⌜ Evaluated (now (exprs .entry)) e (now (values .entry)) (now (values .exit)) ⌝ }
+{
+    let size = wide(exprs[at]);
+    let mut pos = offset(exprs, table, e) + wide(exprs[at + 2]);
+    let mut i: usize = 3;
+    while i < size {
+        let p = wide(exprs[at + i]);
+        let from = offset(exprs, table, p);
+        let n = offset(exprs, table, p + 1) - from;
+        pos -= n;
+        copy_within(values, pos, from, n);
+        i += 1;
+    }
+}
+
+// Every kind but a read.
+fn eval_operands(exprs: &[u32], table: &[u32], at: usize, e: usize, kind: u32, values: &mut [u8])
+    requires { ⌜ Ready (now exprs) (now table) (now values) at e × (kind ≡ getD (now exprs) (at + 1) 0) × (kind ≡ 1 → ⊥) ⌝ }
+    ensures { λ _. ⌜ Evaluated (now (exprs .entry)) e (now (values .entry)) (now (values .exit)) ⌝ }
+{
+    match kind {
+        4 | 5 | 6 => eval_gate(exprs, table, at, e, kind, values),
+        7 => eval_mux(exprs, table, at, e, values),
+        3 => eval_not(exprs, table, at, e, values),
+        0 => eval_const(exprs, table, at, e, values),
+        8 => eval_equal(exprs, table, at, e, values),
+        2 => eval_concat(exprs, table, at, e, values),
+        _ => eval_product(exprs, table, at, e, values),
+    }
+}
