@@ -271,3 +271,9 @@ gate-words (suc (suc (suc (suc zero)))) lo hi = refl
 gate-words (suc (suc (suc (suc (suc zero))))) lo hi = refl
 gate-words (suc (suc (suc (suc (suc (suc zero)))))) lo hi = refl
 gate-words (suc (suc (suc (suc (suc (suc (suc k))))))) lo hi = absurd (omega arith)
+
+pub low-kind : (k : ℕ) → (k ≡ 0 → ⊥) → (k ≡ 1 → ⊥) → (k ≡ 2 → ⊥) → (k ≡ 3 → ⊥) → k < 4 → ⊥
+low-kind k a b c d h = omega arith
+
+pub high-kind : (k : ℕ) → 6 < k → k ≤ 9 → (k ≡ 7 → ⊥) → (k ≡ 8 → ⊥) → k ≡ 9
+high-kind k h i a b = omega arith

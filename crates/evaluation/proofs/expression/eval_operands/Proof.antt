@@ -1,5 +1,9 @@
+use Rattle.evaluation.proofs.Evaluating.{kind-is}
+use Rattle.evaluation.proofs.ByKind.{no-other, low-kind, high-kind}
+use Rattle.evaluation.specs.Ready.{exprIn}
+use mathlib.Core.Logic.{⊎-elim}
 use mathlib.Core.Path.{_≡_, sym, _∙_}
-use Prim.Native.Nat.{_≤_}
+use Prim.Native.Nat.{_≤_, _<_}
 use native.Mathlib.Omega.{arith}
 use borrow.Author.Needs.{needs}
 use Rattle.evaluation.proofs.expression.eval_operands.Statement.{statement}
@@ -40,7 +44,13 @@ eval-gate-requires c κs = search needs
 
 -- src/expression.rt:144:14
 eval-product-requires : tie.Need-eval-product-requires
-eval-product-requires c κs = ?
+eval-product-requires c κs = let s = c .before .before .before .before .before .before in
+    let b = no-other (exprIn (s .args .exprs .now) (s .args .e)) in
+    let i = kind-is (s .pre .0) (s .pre .1) in
+    let r = c .before .before .match .rest in
+    let m : s .args .kind ≤ 9 = omega arith in
+    let z : s .args .kind ≡ 9 = ⊎-elim (λ w. let q : s .args .kind < 4 = omega arith in absurd (low-kind (s .args .kind) (r .0 .0 .1) (s .pre .2) (r .1) (r .0 .0 .0 .1) q)) (λ w. let q : 6 < s .args .kind = omega (arith, w .1) in high-kind (s .args .kind) q m (r .0 .0 .0 .0 .1) (r .0 .1)) (c .before .if1 .came) in
+    (s .pre .0, sym (s .pre .1) ∙ z)
 
 -- src/expression.rt:133:1
 same-length : tie.Need-same-length
