@@ -5,3 +5,4 @@ pub mod ByKind
 pub mod Evaluating
 pub mod Answers
 pub mod Joining
+pub mod Whole
