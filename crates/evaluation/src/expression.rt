@@ -1,20 +1,24 @@
 // The value of one expression, from its operands' values. `table` holds the first expressions' offsets among the values; the record of
 // expression e begins at word `at`: its length, kind, width, operands.
+use crate::bytes::copy;
 use crate::bytes::copy_within;
 use crate::bytes::equal;
 use crate::bytes::gate;
 use crate::bytes::number;
 use crate::bytes::product;
 use crate::bytes::put_number;
+use simulation::Driver;
+use simulation::index::driver;
 use simulation::index::offset;
+use simulation::index::start;
 use simulation::index::wide;
 ghost use mathlib.Core.Path.{_≡_};
 ghost use mathlib.Core.Bool.{Bool};
 ghost use Prim.Native.Nat.{ℕ, _+_, _≤_, _<_};
 ghost use lib.ListN.{length, getD, set};
 ghost use Rattle.bits.specs.Bits.{digit};
-ghost use Rattle.simulation.specs.Index.{recordsIn, widthsIn, offset as sumTo, Indexed};
-ghost use Rattle.evaluation.specs.Ready.{Ready, Evaluated};
+ghost use Rattle.simulation.specs.Index.{recordsIn, widthsIn, offset as sumTo, startOf, Indexed, Starts};
+ghost use Rattle.evaluation.specs.Ready.{Ready, Evaluated, Prepared, Room, Computed};
 
 // Where the value of an operand begins, whose number is word i.
 fn operand(exprs: &[u32], table: &[u32], i: usize) -> usize
@@ -142,5 +146,73 @@ fn eval_operands(exprs: &[u32], table: &[u32], at: usize, e: usize, kind: u32, v
         8 => eval_equal(exprs, table, at, e, values),
         2 => eval_concat(exprs, table, at, e, values),
         _ => eval_product(exprs, table, at, e, values),
+    }
+}
+
+// A read takes the bits of an assigned signal from its expression's value, those of any other from the signal's bytes.
+fn eval_read(
+    signals: &[u32],
+    exprs: &[u32],
+    stmts: &[u32],
+    expr_table: &[u32],
+    signal_table: &[u32],
+    driver_table: &[u32],
+    bytes: &[u8],
+    at: usize,
+    e: usize,
+    values: &mut [u8],
+)
+    requires { ⌜ Prepared (now signals) (now exprs) (now stmts) (now «expr_table») (now «signal_table») (now «driver_table») × Room (now signals) (now exprs) (now bytes) (now values) × (e < length (recordsIn (now exprs))) × (at ≡ startOf (now exprs) e) × (getD (now exprs) (at + 1) 0 ≡ 1) ⌝ }
+    ensures { λ _. ⌜ Computed (now (signals .entry)) (now (exprs .entry)) (now (stmts .entry)) (now (bytes .entry)) e (now (values .entry)) (now (values .exit)) ⌝ }
+{
+    let to = offset(exprs, expr_table, e);
+    let w = wide(exprs[at + 2]);
+    let s = wide(exprs[at + 3]);
+    let l = wide(exprs[at + 4]);
+    match driver(stmts, driver_table, s) {
+        Driver::By(d) => {
+            let from = offset(exprs, expr_table, wide(d));
+            copy_within(values, to, from + l, w);
+        }
+        Driver::None => {
+            let from = offset(signals, signal_table, s);
+            copy(values, to, bytes, from + l, w);
+        }
+    }
+}
+
+// The value of expression e, from the values of what it needs.
+pub fn eval_expr(
+    signals: &[u32],
+    exprs: &[u32],
+    stmts: &[u32],
+    starts: &[u32],
+    expr_table: &[u32],
+    signal_table: &[u32],
+    driver_table: &[u32],
+    bytes: &[u8],
+    e: usize,
+    values: &mut [u8],
+)
+    requires { ⌜ Prepared (now signals) (now exprs) (now stmts) (now «expr_table») (now «signal_table») (now «driver_table») × Starts (now exprs) (now starts) × Room (now signals) (now exprs) (now bytes) (now values) × (e < length (recordsIn (now exprs))) ⌝ }
+    ensures { λ _. ⌜ Computed (now (signals .entry)) (now (exprs .entry)) (now (stmts .entry)) (now (bytes .entry)) e (now (values .entry)) (now (values .exit)) ⌝ }
+{
+    let at = start(exprs, starts, e);
+    let kind = exprs[at + 1];
+    if kind == 1 {
+        eval_read(
+            signals,
+            exprs,
+            stmts,
+            expr_table,
+            signal_table,
+            driver_table,
+            bytes,
+            at,
+            e,
+            values,
+        );
+    } else {
+        eval_operands(exprs, expr_table, at, e, kind, values);
     }
 }
