@@ -41,7 +41,7 @@ fits-at (s ∷ ss) [] h i q = absurd h
 fits-at (s ∷ ss) (v ∷ t) h zero q = h .0
 fits-at (s ∷ ss) (v ∷ t) h (suc i) q = fits-at ss t (h .1) i (omega arith)
 
-fits-length : (ss : List Signal) (t : List Bits) → Fits ss t → length t ≡ length ss
+pub fits-length : (ss : List Signal) (t : List Bits) → Fits ss t → length t ≡ length ss
 fits-length [] [] h = refl
 fits-length [] (v ∷ t) h = absurd h
 fits-length (s ∷ ss) [] h = absurd h
@@ -77,10 +77,10 @@ fits-inputs (s ∷ ss) bs (v ∷ t) q h =
 
 -- what a statement gives its target is as wide as that
 module _ (sw ew : List ℕ) where
-  abbrev Gives : (Stmt → Option ℕ) → Type 0
+  abbrev pub Gives : (Stmt → Option ℕ) → Type 0
   Gives rule = (t : Stmt) → stmtFits sw ew t ≡ true → (e : ℕ) → rule t ≡ some e → suits sw ew (target t) e ≡ true
 
-  assigns-gives : Gives assigns
+  pub assigns-gives : Gives assigns
   assigns-gives (assign t x) h e q = subst (λ (k : ℕ). suits sw ew t k ≡ true) (Option·some-injective x e q) h
   assigns-gives (reg t n c d r x) h e q = absurd (Option·none-ne-some e q)
 
@@ -93,7 +93,7 @@ module _ (sw ew : List ℕ) where
         go true k = subst (λ (x : ℕ). suits sw ew t x ≡ true) (Option·some-injective (r .value) e k) (and-right (broad sw (r .signal) 1 && leb (r .active) 1) (suits sw ew t (r .value)) h)
         go false k = absurd (Option·none-ne-some e k)
 
-    loads-gives : (f : Firing) → Gives (loads f v)
+    pub loads-gives : (f : Firing) → Gives (loads f v)
     loads-gives f (assign t x) h e q = absurd (Option·none-ne-some e q)
     loads-gives f (reg t n c d r x) h e q = go (resetLoads v r) (f c d && enabled v x) (reset-gives t r hr e) q
       where
@@ -111,7 +111,7 @@ module _ (sw ew : List ℕ) where
         go none true ih k = subst (λ (y : ℕ). suits sw ew t y ≡ true) (Option·some-injective n e k) hn
         go none false ih k = absurd (Option·none-ne-some e k)
 
-  given-suits : (rule : Stmt → Option ℕ) → Gives rule → (k : ℕ) (ts : List Stmt) → AllFrom (λ (n : ℕ). stmtFits sw ew) k ts → (s e : ℕ) → given rule ts s ≡ some e → suits sw ew s e ≡ true
+  pub given-suits : (rule : Stmt → Option ℕ) → Gives rule → (k : ℕ) (ts : List Stmt) → AllFrom (λ (n : ℕ). stmtFits sw ew) k ts → (s e : ℕ) → given rule ts s ≡ some e → suits sw ew s e ≡ true
   given-suits rule g k [] h s e q = absurd (Option·none-ne-some e q)
   given-suits rule g k (t ∷ ts) h s e q = go (eqb (target t) s) refl (given-suits rule g (suc k) ts (h .1) s e) q
     where
@@ -124,7 +124,7 @@ module _ (sw ew : List ℕ) where
       go false z ih k = ih k
 
 module _ (widest : ℕ) (m : Model) (h : Sound widest m) where
-  abbrev Suited : (ℕ → Option ℕ) → Type 0
+  abbrev pub Suited : (ℕ → Option ℕ) → Type 0
   Suited choice = (s e : ℕ) → choice s ≡ some e → suits (signalWidths m) (exprWidths m) s e ≡ true
 
   fits-set : (choice : ℕ → Option ℕ) → Suited choice → (old now : List Bits) → Fits (m .signals) old → Fits (m .signals) now → Fits (m .signals) (setBy m choice old now)
@@ -144,7 +144,7 @@ module _ (widest : ℕ) (m : Model) (h : Sound widest m) where
           values-width widest m h (at [] now) e (omega (arith, there, length-map (m .exprs) exprWidth))
           ∙ eqb-true (getD (exprWidths m) e 0) (getD (signalWidths m) i 0) (and-right (ltb e (length (exprWidths m))) (eqb (getD (exprWidths m) e 0) (getD (signalWidths m) i 0)) w)
 
-  assigned-suits : Suited (given assigns (m .stmts))
+  pub assigned-suits : Suited (given assigns (m .stmts))
   assigned-suits = given-suits (signalWidths m) (exprWidths m) assigns (assigns-gives (signalWidths m) (exprWidths m)) 0 (m .stmts) (h .stmts-fit)
 
   fits-iterate : (k : ℕ) (t : List Bits) → Fits (m .signals) t → Fits (m .signals) (iterate k (sweep m t) t)

@@ -1,0 +1,3 @@
+pub mod Consistent
+pub mod Bytes
+pub mod Ready
