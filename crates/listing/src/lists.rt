@@ -56,7 +56,8 @@ fn put_statement_line(out: &mut [u8], at: usize, number: u64, fields: &[u32]) ->
     put_byte(out, a, b'\n')
 }
 
-fn put_first_line(out: &mut [u8], at: usize, signals: u32, exprs: u32, stmts: u32) -> Place
+// The counts of signals, expressions and statements, with the line's end.
+pub fn put_first_line(out: &mut [u8], at: usize, signals: u32, exprs: u32, stmts: u32) -> Place
     ensures { λ r. ⌜ Appended (now (out .entry)) at (countsText signals exprs stmts ++ (newline ∷ [])) r (now (out .exit)) ⌝ }
 {
     let r = put_counts(out, at, signals, exprs, stmts);
