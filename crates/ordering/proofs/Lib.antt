@@ -1,0 +1,2 @@
+-- The laws of ordering.
+pub mod Grounds

@@ -1,0 +1,2 @@
+-- The specs of ordering.
+pub mod Order

@@ -1,0 +1,40 @@
+-- What an expression needs first, and an order of all expressions in which it comes first.
+use Prim.Native.Nat.{ℕ, zero, suc, _+_, _<_}
+use mathlib.Core.Path.{_≡_}
+use mathlib.Core.List.{List, [], _∷_, _++_, List·Memᴰ as Mem}
+use mathlib.Core.Option.{Option, none, some}
+use lib.ListN.{length, getD, take}
+use Rattle.recorder.specs.Record.{Expr, Model}
+use Rattle.recorder.specs.Record.{const, read, concat, not, and, or, xor, mux, eq, mul}
+use Rattle.settle.specs.Loop.{Reads}
+use Rattle.simulation.specs.Tick.{given, assigns}
+
+abbrev pub listed : Option ℕ → List ℕ
+listed none = []
+listed (some e) = e ∷ []
+
+-- its operands; a read of an assigned signal needs that signal's expression
+abbrev pub needsOf : Model → Expr → List ℕ
+needsOf m (const w v) = []
+needsOf m (read w s l) = listed (given assigns (m .stmts) s)
+needsOf m (concat w ps) = ps
+needsOf m (not a) = a ∷ []
+needsOf m (and a b) = a ∷ b ∷ []
+needsOf m (or a b) = a ∷ b ∷ []
+needsOf m (xor a b) = a ∷ b ∷ []
+needsOf m (mux w s t f) = s ∷ t ∷ f ∷ []
+needsOf m (eq a b) = a ∷ b ∷ []
+needsOf m (mul a b) = a ∷ b ∷ []
+
+-- expression number e; one that is not there needs nothing
+abbrev pub needs : Model → ℕ → List ℕ
+needs m e = needsOf m (getD (m .exprs) e (const 0 0))
+
+abbrev pub Needs : Model → ℕ → ℕ → Type 0
+Needs m = Reads (needs m)
+
+-- each expression stands in the order once, behind all that it needs
+pub record Ordered (m : Model) (order : List ℕ) : Type 0 where
+  pub count : length order ≡ length (m .exprs)
+  pub each : (e : ℕ) → e < length (m .exprs) → Mem e order
+  pub behind : (k : ℕ) → k < length order → (d : ℕ) → Mem d (needs m (getD order k 0)) → Mem d (take k order)

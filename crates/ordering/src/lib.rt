@@ -1,0 +1,1 @@
+// The order in which a model's expressions can be evaluated, and refusal 13.
