@@ -1,2 +1,3 @@
 -- The laws of ordering.
 pub mod Grounds
+pub mod Marking

@@ -1,2 +1,3 @@
 -- The specs of ordering.
 pub mod Order
+pub mod Marks
