@@ -10,7 +10,7 @@ use native.Mathlib.Nat.{not-suc-le-zero}
 use native.Mathlib.Decide.{decLt, ℕ-discrete}
 use lib.Dec.{eqb, leb, ltb}
 use lib.ListN.{length, getD, length-append, List·getD-eq-default}
-use borrow.Author.Tests.{ltb-true}
+use borrow.Author.Tests.{ltb-true, eq-eqb}
 use Rattle.recorder.specs.Record.{Expr, Model}
 use Rattle.recorder.specs.Record.{const, read, concat, not, and, or, xor, mux, eq, mul}
 use Rattle.settle.specs.Walk.{Way}
@@ -24,6 +24,7 @@ use Rattle.simulation.specs.Sound.{AllFrom, Sound, signalWidths, exprWidths}
 use Rattle.simulation.proofs.Settles.{length-reads}
 use Rattle.simulation.proofs.Bounds.{reads-there, reads-under}
 use Rattle.ordering.specs.Order.{listed, needsOf, needs, Needs}
+use Rattle.ordering.specs.Marks.{readsIt}
 
 -- OPERANDS COME EARLIER
 
@@ -232,6 +233,19 @@ module _ (rs : List (List ℕ)) (y : ℕ) where
   operand-reads (mux w s i j) a k q = three-has s i j a k q
   operand-reads (eq i j) a k q = two-has i j a k q
   operand-reads (mul i j) a k q = two-has i j a k q
+
+  -- a signal is read by the expression itself, or through an operand
+  pub through-kind : (x : Expr) → Mem y (readsExpr rs x) → (readsIt y x ≡ true) ⊎ ((a : ℕ) × Mem a (operands x) × Mem y (getD rs a []))
+  through-kind (const w v) k = absurd (not-nil k)
+  through-kind (read w s l) k = inl (eq-eqb s y (sym (singleton k)))
+  through-kind (concat w ps) k = inr (through-joined ps k)
+  through-kind (not i) k = inr (i, here refl, k)
+  through-kind (and i j) k = inr (through-two i j k)
+  through-kind (or i j) k = inr (through-two i j k)
+  through-kind (xor i j) k = inr (through-two i j k)
+  through-kind (mux w s i j) k = inr (through-three s i j k)
+  through-kind (eq i j) k = inr (through-two i j k)
+  through-kind (mul i j) k = inr (through-two i j k)
 
   -- what goes for the signals of what x needs goes for those that x reads
   pub by-needs : (m : Model) (G : ℕ → Type 0) (x : Expr) → ((d : ℕ) → Mem d (needsOf m x) → Mem y (getD rs d []) → G y) → ((s : ℕ) → y ≡ s → ((d : ℕ) → Mem d (listed (given assigns (m .stmts) s)) → Mem d (needsOf m x)) → G y) → Mem y (readsExpr rs x) → G y

@@ -1,3 +1,4 @@
 -- The laws of ordering.
 pub mod Grounds
 pub mod Marking
+pub mod Looping

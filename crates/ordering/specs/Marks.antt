@@ -1,13 +1,18 @@
 -- Marks: a byte for each expression, not zero once all that it needs is marked.
 use Prim.Native.Nat.{ℕ, zero, suc, _+_, _<_}
 use mathlib.Core.Path.{_≡_}
-use mathlib.Core.Bool.{Bool, true, false}
-use mathlib.Core.List.{List, [], _∷_}
-use lib.Dec.{leb}
+use mathlib.Core.Bool.{Bool, true, false, _||_}
+use mathlib.Core.Logic.{_⊎_}
+use mathlib.Core.List.{List, [], _∷_, List·Memᴰ as Mem}
+use lib.Dec.{eqb, leb}
 use lib.ListN.{length, getD}
-use Rattle.recorder.specs.Record.{Model}
+use Rattle.recorder.specs.Record.{Expr, Model}
+use Rattle.recorder.specs.Record.{const, read, concat, not, and, or, xor, mux, eq, mul}
 use Rattle.settle.specs.Ground.{Grounded}
-use Rattle.settle.specs.Tests.{all}
+use Rattle.settle.specs.Walk.{Way}
+use Rattle.settle.specs.Loop.{Reads}
+use Rattle.settle.specs.Tests.{all, any}
+use Rattle.simulation.specs.Tick.{readsAll, depends}
 use Rattle.ordering.specs.Order.{needs, Needs}
 
 abbrev pub marked : List ℕ → ℕ → Bool
@@ -24,3 +29,31 @@ pub record Reached (m : Model) (marks : List ℕ) : Type 0 where
 -- nothing can be added
 pub record Stuck (m : Model) (marks : List ℕ) : Type 0 where
   pub none-ready : (e : ℕ) → e < length (m .exprs) → marked marks e ≡ false → ready m marks e ≡ false
+
+-- WAYS TO A SIGNAL. Here an expression is marked once signal s is found behind it.
+
+abbrev pub readsIt : ℕ → Expr → Bool
+readsIt s (const w v) = false
+readsIt s (read w y l) = eqb y s
+readsIt s (concat w ps) = false
+readsIt s (not a) = false
+readsIt s (and a b) = false
+readsIt s (or a b) = false
+readsIt s (xor a b) = false
+readsIt s (mux w a b c) = false
+readsIt s (eq a b) = false
+readsIt s (mul a b) = false
+
+-- it reads s, or needs a marked one
+abbrev pub touched : Model → List ℕ → ℕ → ℕ → Bool
+touched m marks s e = readsIt s (getD (m .exprs) e (const 0 0)) || any (marked marks) (needs m e)
+
+-- signal s is behind expression e
+abbrev pub Leads : Model → ℕ → ℕ → Type 0
+Leads m s e = Mem s (getD (readsAll [] (m .exprs)) e []) ⊎ ((y : ℕ) × Mem y (getD (readsAll [] (m .exprs)) e []) × Way (Reads (depends m)) y s)
+
+pub record Backed (m : Model) (s : ℕ) (marks : List ℕ) : Type 0 where
+  pub leads : (e : ℕ) → marked marks e ≡ true → Leads m s e
+
+pub record Full (m : Model) (s : ℕ) (marks : List ℕ) : Type 0 where
+  pub none-touched : (e : ℕ) → e < length (m .exprs) → marked marks e ≡ false → touched m marks s e ≡ false
