@@ -2,3 +2,4 @@
 pub mod Grounds
 pub mod Marking
 pub mod Looping
+pub mod Records

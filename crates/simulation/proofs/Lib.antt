@@ -5,7 +5,12 @@ pub mod Bounds
 pub mod Kept
 pub mod Flat
 pub mod Stores
-pub mod Steps
-pub mod Tally
-pub mod Faults
 pub mod Offsets
+pub mod Steps
+pub mod Ands
+pub mod Tally
+pub mod Found
+pub mod Driving
+pub mod Faults
+pub mod Exprs
+pub mod Stmts

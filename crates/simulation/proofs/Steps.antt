@@ -16,17 +16,19 @@ use Rattle.recorder.specs.Read.{split}
 use Rattle.recorder.specs.Standing.{standing, cutAt, splitBy}
 use Rattle.recorder.proofs.Reading.{split-as, record-within}
 use Rattle.recorder.proofs.Roundtrip.{split-nil}
-use Rattle.simulation.specs.Index.{sizeOf, sizeAt, fieldsAt, recordsIn, widthsIn}
+use Rattle.simulation.specs.Index.{sizeOf, sizeAt, fieldsAt, recordsIn, widthsIn, startOf}
+use Rattle.simulation.proofs.Offsets.{fields-count, start-first, start-next, start-past}
 
 pub record Walked (l : List ℕ) (at k : ℕ) : Type 0 where
   pub inside : at ≤ length l
   pub behind-at : k ≤ at
   pub reached : k ≤ length (recordsIn l)
+  pub begins : at ≡ startOf l k
   pub left : drop k (recordsIn l) ≡ split (drop at l) .records
   pub whole : split l .whole ≡ split (drop at l) .whole
 
 pub walked-start : (l : List ℕ) → Walked l 0 0
-walked-start l = record { inside = omega arith; behind-at = omega arith; reached = omega arith; left = refl; whole = refl }
+walked-start l = record { inside = omega arith; behind-at = omega arith; reached = omega arith; begins = start-first l; left = refl; whole = refl }
 
 -- within a list its end does not stand
 no-end : (r : List ℕ) → 0 < length r → standing r ≡ End → ⊥
@@ -116,11 +118,15 @@ module _ {l : List ℕ} {at k : ℕ} (w : Walked l at k) (size : ℕ) (e : size 
     pub walked-width : getD (widthsIn l) k 0 ≡ getD (fieldsAt l at size) 1 0
     walked-width = width-of l k ∙ ap (λ (r : List ℕ). getD r 1 0) walked-fields
 
+    walked-begins : at + size ≡ startOf l (k + 1)
+    walked-begins = omega (arith, w .begins, start-next l k walked-there, ap length walked-fields, fields-count l at size walked-within)
+
     pub walked-next : Walked l (at + size) (k + 1)
     walked-next = record {
       inside = walked-within;
       behind-at = omega (arith, w .behind-at);
       reached = omega (arith, walked-there);
+      begins = walked-begins;
       left = sym (drop-drop 1 k (recordsIn l)) ∙ ap (drop 1) next-left;
       whole = w .whole ∙ ap (λ (t : read.Cut). t .whole) (split-next l at size e d);
     }
@@ -131,6 +137,10 @@ module _ {l : List ℕ} {at k : ℕ} (w : Walked l at k) (size : ℕ) (e : size 
 
   pub walked-broken : at < length l → size ≡ 0 → (k ≡ length (recordsIn l)) × (false ≡ split l .whole)
   walked-broken i z = (walked-out z, sym (w .whole ∙ left-broken l at size e i z))
+
+-- no record left: whatever is asked for begins no later
+pub walked-stop : {l : List ℕ} {at i : ℕ} → Walked l at i → (k : ℕ) → i ≡ length (recordsIn l) → i ≤ k → at ≡ startOf l k
+walked-stop {l} {at} {i} w k e h = w .begins ∙ ap (startOf l) e ∙ start-past l k (omega arith)
 
 -- at the end of the list all were seen, and it splits
 pub walked-end : {l : List ℕ} {at k : ℕ} → Walked l at k → length l ≤ at → (k ≡ length (recordsIn l)) × (true ≡ split l .whole)

@@ -26,10 +26,6 @@ getD-zeros (suc n) (suc i) = getD-zeros n i
 
 -- A RECORD'S TARGET
 
-pub fields-count : (l : List ℕ) (at size : ℕ) → at + size ≤ length l → length (fieldsAt l at size) ≡ size - 1
-fields-count l at zero h = refl
-fields-count l at (suc n) h = length-take-le (suc n - 1) (drop (at + 1) l) (omega (arith, length-drop (at + 1) l))
-
 module _ (r : List ℕ) where
   pub stands-short : length r < 2 → stands r ≡ false
   stands-short h = rw (lt-leb 2 (length r) h)

@@ -5,12 +5,12 @@ use mathlib.Core.Bool.{Bool, true, false, _&&_}
 use mathlib.Core.List.{List, [], _∷_}
 use mathlib.Core.Option.{Option, none, some}
 use lib.Dec.{eqb, leb, ltb}
-use lib.ListN.{length, getD}
+use lib.ListN.{length, getD, drop}
 use Rattle.bits.specs.Bits.{pick}
-use Rattle.recorder.specs.Read.{readSignal}
+use Rattle.recorder.specs.Read.{readSignal, readExpr, readStmt}
 use Rattle.simulation.specs.declared.Fault.{Fault}
 use Rattle.simulation.specs.declared.Fault.the-variants.{Fine, At}
-use Rattle.simulation.specs.Wellformed.{countOf, drives, wide, fits, firstFailing, signalFits}
+use Rattle.simulation.specs.Wellformed.{widths, countOf, drives, wide, inRange, earlier, widthSum, broad, suits, fits, firstFailing, signalFits, exprFits, stmtFits}
 
 -- the first faulty record
 abbrev pub faultOf : Fault → Option ℕ
@@ -36,3 +36,54 @@ signalFaultOf widest ss ts = firstFailing (signalTest widest ts) 0 ss
 abbrev pub allWide : List ℕ → ℕ → ℕ → List ℕ → Bool
 allWide ew n w [] = true
 allWide ew n w (a ∷ l) = wide ew n a w && allWide ew n w l
+
+-- the test of expression n, and the same for each kind: how many fields, which widths
+abbrev pub exprTest : ℕ → List ℕ → List ℕ → ℕ → List ℕ → Bool
+exprTest widest sw ew n r = fits (exprFits widest sw ew n) (readExpr r)
+
+abbrev pub constTest : ℕ → List ℕ → Bool
+constTest widest r = eqb (length r) 3 && (inRange widest (getD r 1 0) && ltb (getD r 2 0) (2 ^ getD r 1 0))
+
+abbrev pub readTest : ℕ → List ℕ → List ℕ → Bool
+readTest widest sw r = eqb (length r) 4 && (inRange widest (getD r 1 0) && ltb (getD r 2 0) (length sw) && leb (getD r 3 0 + getD r 1 0) (getD sw (getD r 2 0) 0))
+
+abbrev pub concatTest : ℕ → List ℕ → ℕ → List ℕ → Bool
+concatTest widest ew n r = leb 2 (length r) && (inRange widest (getD r 1 0) && earlier n (drop 2 r) && eqb (widthSum ew (drop 2 r)) (getD r 1 0))
+
+-- operands as wide as the expression itself
+abbrev pub fixedTest : List ℕ → ℕ → ℕ → ℕ → List ℕ → Bool
+fixedTest ew n fields w r = eqb (length r) fields && (eqb (getD r 1 0) w && allWide ew n w (drop 2 r))
+
+abbrev pub muxTest : ℕ → List ℕ → ℕ → List ℕ → Bool
+muxTest widest ew n r = eqb (length r) 5 && (inRange widest (getD r 1 0) && wide ew n (getD r 2 0) 1 && wide ew n (getD r 3 0) (getD r 1 0) && wide ew n (getD r 4 0) (getD r 1 0))
+
+abbrev pub eqTest : List ℕ → ℕ → List ℕ → Bool
+eqTest ew n r = eqb (length r) 4 && (eqb (getD r 1 0) 1 && (ltb (getD r 2 0) n && wide ew n (getD r 3 0) (getD ew (getD r 2 0) 0)))
+
+abbrev pub exprFaultOf : ℕ → List (List ℕ) → List (List ℕ) → Option ℕ
+exprFaultOf widest ss es = firstFailing (exprTest widest (widths ss) (widths es)) 0 es
+
+-- the test of a statement, and the same for each kind
+abbrev pub stmtTest : List ℕ → List ℕ → List ℕ → Bool
+stmtTest sw ew r = fits (stmtFits sw ew) (readStmt r)
+
+abbrev pub assignTest : List ℕ → List ℕ → List ℕ → Bool
+assignTest sw ew r = eqb (length r) 3 && suits sw ew (getD r 1 0) (getD r 2 0)
+
+-- target and next value, clock and edge of a register
+abbrev pub headTest : List ℕ → List ℕ → List ℕ → Bool
+headTest sw ew r = suits sw ew (getD r 1 0) (getD r 2 0) && broad sw (getD r 3 0) 1 && leb (getD r 4 0) 1
+
+-- its reset, which stands from the sixth field on
+abbrev pub resetTest : List ℕ → List ℕ → List ℕ → Bool
+resetTest sw ew r = broad sw (getD r 6 0) 1 && leb (getD r 7 0) 1 && suits sw ew (getD r 1 0) (getD r 8 0)
+
+-- its enable, the last fields
+abbrev pub enableTest : List ℕ → List ℕ → Bool
+enableTest sw e = pick (eqb (getD e 0 0) 0) (eqb (length e) 1) (eqb (getD e 0 0) 1 && (eqb (length e) 3 && (broad sw (getD e 1 0) 1 && leb (getD e 2 0) 1)))
+
+abbrev pub regTest : List ℕ → List ℕ → List ℕ → Bool
+regTest sw ew r = leb 7 (length r) && (headTest sw ew r && pick (eqb (getD r 5 0) 0) (enableTest sw (drop 6 r)) (eqb (getD r 5 0) 1 && (leb 10 (length r) && (resetTest sw ew r && enableTest sw (drop 9 r)))))
+
+abbrev pub stmtFaultOf : List (List ℕ) → List (List ℕ) → List (List ℕ) → Option ℕ
+stmtFaultOf ss es ts = firstFailing (λ (n : ℕ) r. stmtTest (widths ss) (widths es) r) 0 ts

@@ -1,13 +1,21 @@
--- Where signals and expressions stand: their widths and offsets, and the tables that the code keeps of them.
-use Prim.Native.Nat.{ℕ, zero, suc, _+_, _-_, _≤_, _<_}
+-- Where signals and expressions stand: their widths, offsets, words and drivers, and the tables that the code keeps of them.
+use Prim.Native.Nat.{ℕ, zero, suc, _+_, _-_, _≤_, _<_, min}
 use mathlib.Core.Path.{_≡_}
-use mathlib.Core.List.{List, [], _∷_}
-use lib.ListN.{length, getD, take, drop}
+use mathlib.Core.List.{List, [], _∷_, map}
+use mathlib.Core.Option.{Option, none, some}
+use mathlib.Core.Bool.{Bool, _&&_}
+use lib.Dec.{eqb}
+use lib.ListN.{length, getD, take, drop, set}
+use Rattle.bits.specs.Bits.{pick}
 use Rattle.recorder.specs.declared.Cut.{Cut}
 use Rattle.recorder.specs.declared.Cut.the-variants.{Record, End, Broken}
-use Rattle.recorder.specs.Read.{split}
+use Rattle.recorder.specs.Record.{Stmt}
+use Rattle.recorder.specs.Read.{split, readStmt, readAll}
 use Rattle.recorder.specs.Standing.{cutAt}
+use Rattle.simulation.specs.declared.Driver.{Driver}
+use Rattle.simulation.specs.declared.Driver.the-variants.{None, By}
 use Rattle.simulation.specs.Wellformed.{widths}
+use Rattle.simulation.specs.Tick.{given, assigns}
 
 -- the length of what stands at an index, 0 for no whole record
 abbrev pub sizeOf : Cut → ℕ
@@ -35,9 +43,52 @@ offset ws zero = 0
 offset [] (suc i) = 0
 offset (w ∷ ws) (suc i) = w + offset ws i
 
--- a table of the first widths, as many as it takes; a table of the first offsets
+-- the word at which record k begins: each record has its fields and the word that counts them
+unfoldable pub startOf : List ℕ → ℕ → ℕ
+startOf list k = offset (map (λ (r : List ℕ). length r + 1) (recordsIn list)) k
+
+-- TABLES, of any length
+
+-- the first widths
 pub record Listed (ws table : List ℕ) : Type 0 where
   pub width-at : (i : ℕ) → i < length table → i < length ws → getD table i 0 ≡ getD ws i 0
 
+-- a number as a table holds it; the largest word stands for all that are no less
+abbrev pub clipped : ℕ → ℕ
+clipped n = min n 4294967295
+
+-- the first offsets
 pub record Indexed (ws table : List ℕ) : Type 0 where
-  pub offset-at : (i : ℕ) → i < length table → i ≤ length ws → getD table i 0 ≡ offset ws i
+  pub offset-at : (i : ℕ) → i < length table → i ≤ length ws → getD table i 0 ≡ clipped (offset ws i)
+
+-- where the first records begin
+pub record Starts (list table : List ℕ) : Type 0 where
+  pub start-at : (k : ℕ) → k < length table → k < length (recordsIn list) → getD table k 0 ≡ clipped (startOf list k)
+
+-- DRIVERS: which expression is assigned to a signal
+
+abbrev pub stmtsIn : List ℕ → List Stmt
+stmtsIn list = readAll readStmt (recordsIn list)
+
+abbrev pub driverOf : Driver → Option ℕ
+driverOf None = none
+driverOf (By e) = some e
+
+-- none is 0, expression e is e + 1
+abbrev pub coded : Option ℕ → ℕ
+coded none = 0
+coded (some e) = clipped (e + 1)
+
+pub record Driven (list table : List ℕ) : Type 0 where
+  pub driver-at : (s : ℕ) → s < length table → getD table s 0 ≡ coded (given assigns (stmtsIn list) s)
+
+-- from a record's fields: it is an assignment, and on signal s
+abbrev pub isAssign : List ℕ → Bool
+isAssign r = eqb (length r) 3 && eqb (getD r 0 0) 0
+
+abbrev pub assignsTo : ℕ → List ℕ → Bool
+assignsTo s r = isAssign r && eqb (getD r 1 0) s
+
+-- a table with the record noted, if it is the first assignment on its signal
+abbrev pub noted : List ℕ → List ℕ → List ℕ
+noted r table = pick (isAssign r && eqb (getD table (getD r 1 0) 0) 0) (set table (getD r 1 0) (clipped (getD r 2 0 + 1))) table

@@ -10,13 +10,13 @@ ghost use mathlib.Core.Bool.{Bool, true, false, _&&_};
 ghost use mathlib.Core.Option.{none};
 ghost use Prim.Native.Nat.{_+_, _≤_, _<_, _^_, min};
 ghost use lib.Dec.{leb, ltb, eqb};
-ghost use lib.ListN.{length, getD, set};
+ghost use lib.ListN.{length, getD, set, drop};
 ghost use Rattle.bits.specs.Bits.{pick};
 ghost use Rattle.recorder.specs.Lists.{lists};
 ghost use Rattle.recorder.specs.Read.{readSignal, readExpr, readStmt};
-ghost use Rattle.simulation.specs.Wellformed.{drives, countOf, fits, signalFits, firstFailing, unsplitAll, inRange};
+ghost use Rattle.simulation.specs.Wellformed.{drives, countOf, fits, signalFits, unsplitAll, inRange, earlier, widthSum, wide as wider, broad, suits};
 ghost use Rattle.simulation.specs.Index.{fieldsAt, recordsIn, widthsIn, Listed};
-ghost use Rattle.simulation.specs.Fault.{faultOf, stands, Tallied, signalFaultOf};
+ghost use Rattle.simulation.specs.Fault.{faultOf, stands, Tallied, signalFaultOf, allWide, constTest, readTest, concatTest, fixedTest, muxTest, eqTest, exprTest, exprFaultOf, enableTest};
 ghost use Rattle.simulation.specs.Run.{zeroed};
 
 // The first record that does not stand whole.
@@ -183,4 +183,200 @@ pub fn signal_fault(signals: &[u32], stmts: &[u32], table: &[u8], widest: u32) -
         n += 1;
     }
     Fault::Fine
+}
+
+// A value fits so many bits.
+fn value_fits(v: u32, w: u32) -> bool
+    ensures { λ r. ⌜ r ≡ ltb v (2 ^ w) ⌝ }
+{
+    if w >= 32 {
+        return true;
+    }
+    v >> w == 0
+}
+
+fn in_range(w: u32, widest: u32) -> bool
+    ensures { λ r. ⌜ r ≡ inRange widest w ⌝ }
+{
+    if w < 1 {
+        return false;
+    }
+    w <= widest
+}
+
+// An operand: it comes before expression n and is w wide.
+fn operand(exprs: &[u32], table: &[u32], n: usize, a: u32, w: u32) -> bool
+    requires { ⌜ Listed (widthsIn (now exprs)) (now table) × (n ≤ length (recordsIn (now exprs))) ⌝ }
+    ensures { λ r. ⌜ r ≡ wider (widthsIn (now (exprs .entry))) n a w ⌝ }
+{
+    let i = wide(a);
+    if i < n {
+        return width(exprs, table, i) == w;
+    }
+    false
+}
+
+// All operands from the second field on.
+fn each_operand(exprs: &[u32], table: &[u32], at: usize, size: usize, n: usize, w: u32) -> bool
+    requires { ⌜ Listed (widthsIn (now exprs)) (now table) × (n ≤ length (recordsIn (now exprs))) × (at + size ≤ length (now exprs)) ⌝ }
+    ensures { λ r. ⌜ r ≡ allWide (widthsIn (now (exprs .entry))) n w (drop 2 (fieldsAt (now (exprs .entry)) at size)) ⌝ }
+{
+    if size == 0 {
+        return true;
+    }
+    let end = size - 1;
+    let mut j: usize = 2;
+    while j < end {
+        if !operand(exprs, table, n, field(exprs, at, size, j), w) {
+            return false;
+        }
+        j += 1;
+    }
+    true
+}
+
+// All parts come before expression n, and their widths have the sum w.
+fn parts_fit(exprs: &[u32], table: &[u32], at: usize, size: usize, n: usize, w: u32) -> bool
+    requires { ⌜ Listed (widthsIn (now exprs)) (now table) × (n ≤ length (recordsIn (now exprs))) × (at + size ≤ length (now exprs)) ⌝ }
+    ensures { λ r. ⌜ r ≡ (earlier n (drop 2 (fieldsAt (now (exprs .entry)) at size)) && eqb (widthSum (widthsIn (now (exprs .entry))) (drop 2 (fieldsAt (now (exprs .entry)) at size))) w) ⌝ }
+{
+    let total = wide(w);
+    if size == 0 {
+        return total == 0;
+    }
+    let end = size - 1;
+    let mut sum: usize = 0;
+    let mut j: usize = 2;
+    while j < end {
+        let p = wide(field(exprs, at, size, j));
+        if p >= n {
+            return false;
+        }
+        sum += wide(width(exprs, table, p));
+        if sum > total {
+            return false;
+        }
+        j += 1;
+    }
+    sum == total
+}
+
+fn const_fits(exprs: &[u32], at: usize, size: usize, widest: u32) -> bool
+    requires { ⌜ at + size ≤ length (now exprs) ⌝ }
+    ensures { λ r. ⌜ r ≡ constTest widest (fieldsAt (now (exprs .entry)) at size) ⌝ }
+{
+    if size != 4 {
+        return false;
+    }
+    let w = field(exprs, at, size, 1);
+    if !in_range(w, widest) {
+        return false;
+    }
+    value_fits(field(exprs, at, size, 2), w)
+}
+
+fn read_fits(
+    exprs: &[u32],
+    at: usize,
+    size: usize,
+    signals: &[u32],
+    table: &[u32],
+    count: usize,
+    widest: u32,
+) -> bool
+    requires { ⌜ (at + size ≤ length (now exprs)) × Listed (widthsIn (now signals)) (now table) × (count ≡ length (recordsIn (now signals))) ⌝ }
+    ensures { λ r. ⌜ r ≡ readTest widest (widthsIn (now (signals .entry))) (fieldsAt (now (exprs .entry)) at size) ⌝ }
+{
+    if size != 5 {
+        return false;
+    }
+    let w = field(exprs, at, size, 1);
+    if !in_range(w, widest) {
+        return false;
+    }
+    let s = wide(field(exprs, at, size, 2));
+    if s >= count {
+        return false;
+    }
+    let low = wide(field(exprs, at, size, 3));
+    low + wide(w) <= wide(width(signals, table, s))
+}
+
+fn concat_fits(exprs: &[u32], table: &[u32], at: usize, size: usize, n: usize, widest: u32) -> bool
+    requires { ⌜ Listed (widthsIn (now exprs)) (now table) × (n ≤ length (recordsIn (now exprs))) × (at + size ≤ length (now exprs)) ⌝ }
+    ensures { λ r. ⌜ r ≡ concatTest widest (widthsIn (now (exprs .entry))) n (fieldsAt (now (exprs .entry)) at size) ⌝ }
+{
+    if size < 3 {
+        return false;
+    }
+    let w = field(exprs, at, size, 1);
+    if !in_range(w, widest) {
+        return false;
+    }
+    parts_fit(exprs, table, at, size, n, w)
+}
+
+// So many fields, and operands as wide as the expression, which has the width w.
+fn fixed_fits(
+    exprs: &[u32],
+    table: &[u32],
+    at: usize,
+    size: usize,
+    n: usize,
+    fields: usize,
+    w: u32,
+) -> bool
+    requires { ⌜ Listed (widthsIn (now exprs)) (now table) × (n ≤ length (recordsIn (now exprs))) × (at + size ≤ length (now exprs)) × (0 < size) ⌝ }
+    ensures { λ r. ⌜ r ≡ fixedTest (widthsIn (now (exprs .entry))) n fields w (fieldsAt (now (exprs .entry)) at size) ⌝ }
+{
+    if size - 1 != fields {
+        return false;
+    }
+    if field(exprs, at, size, 1) != w {
+        return false;
+    }
+    each_operand(exprs, table, at, size, n, w)
+}
+
+fn mux_fits(exprs: &[u32], table: &[u32], at: usize, size: usize, n: usize, widest: u32) -> bool
+    requires { ⌜ Listed (widthsIn (now exprs)) (now table) × (n ≤ length (recordsIn (now exprs))) × (at + size ≤ length (now exprs)) ⌝ }
+    ensures { λ r. ⌜ r ≡ muxTest widest (widthsIn (now (exprs .entry))) n (fieldsAt (now (exprs .entry)) at size) ⌝ }
+{
+    if size != 6 {
+        return false;
+    }
+    let w = field(exprs, at, size, 1);
+    if !in_range(w, widest) {
+        return false;
+    }
+    if !operand(exprs, table, n, field(exprs, at, size, 2), 1) {
+        return false;
+    }
+    if !operand(exprs, table, n, field(exprs, at, size, 3), w) {
+        return false;
+    }
+    operand(exprs, table, n, field(exprs, at, size, 4), w)
+}
+
+fn eq_fits(exprs: &[u32], table: &[u32], at: usize, size: usize, n: usize) -> bool
+    requires { ⌜ Listed (widthsIn (now exprs)) (now table) × (n ≤ length (recordsIn (now exprs))) × (at + size ≤ length (now exprs)) ⌝ }
+    ensures { λ r. ⌜ r ≡ eqTest (widthsIn (now (exprs .entry))) n (fieldsAt (now (exprs .entry)) at size) ⌝ }
+{
+    if size != 5 {
+        return false;
+    }
+    if field(exprs, at, size, 1) != 1 {
+        return false;
+    }
+    let a = wide(field(exprs, at, size, 2));
+    if a >= n {
+        return false;
+    }
+    operand(
+        exprs,
+        table,
+        n,
+        field(exprs, at, size, 3),
+        width(exprs, table, a),
+    )
 }

@@ -1,12 +1,17 @@
-// Widths and offsets of a list's records. A table holds those of the first records; for the others the list is walked.
+// Where a list's records stand, their widths and offsets, and what is assigned to a signal. A table holds the first; for the others the list
+// is walked.
+use crate::Driver;
 use recorder::Cut;
 use recorder::read::cut;
 ghost use mathlib.Core.Path.{_≡_};
 ghost use mathlib.Core.List.{map};
 ghost use Prim.Native.Nat.{_+_, _≤_, _<_, min};
+ghost use mathlib.Core.Option.{none};
 ghost use lib.ListN.{length, getD};
 ghost use Rattle.recorder.specs.Read.{split};
-ghost use Rattle.simulation.specs.Index.{sizeAt, fieldsAt, recordsIn, widthsIn, offset, Listed, Indexed};
+ghost use Rattle.simulation.specs.Index.{sizeAt, fieldsAt, recordsIn, widthsIn, offset as sumTo, startOf, clipped, Listed, Indexed, Starts, stmtsIn, driverOf, Driven, isAssign, assignsTo, noted};
+ghost use Rattle.simulation.specs.Tick.{given, assigns as byAssign};
+ghost use Rattle.simulation.specs.Run.{zeroed};
 
 pub fn wide(x: u32) -> usize
     ensures { λ r. ⌜ r ≡ x ⌝ }
@@ -80,7 +85,7 @@ pub fn count(list: &[u32]) -> Counted
 
 // The sum of the first widths of a list, as far as it can be named.
 pub fn sum_to(list: &[u32], limit: usize) -> usize
-    ensures { λ r. ⌜ r ≡ min (offset (widthsIn (now (list .entry))) limit) 18446744073709551615 ⌝ }
+    ensures { λ r. ⌜ r ≡ min (sumTo (widthsIn (now (list .entry))) limit) 18446744073709551615 ⌝ }
 {
     let mut at: usize = 0;
     let mut k: usize = 0;
@@ -143,5 +148,193 @@ pub fn fill(list: &[u32], table: &mut [u32])
         table[k] = field(list, at, size, 1);
         at += size;
         k += 1;
+    }
+}
+
+// A number as a table holds it.
+pub fn clip(x: usize) -> u32
+    ensures { λ r. ⌜ r ≡ clipped x ⌝ }
+{
+    if x < 4294967295 { x as u32 } else { 4294967295 }
+}
+
+// The word at which record k begins; behind the last record, the word behind it.
+fn walk_start(list: &[u32], k: usize) -> usize
+    ensures { λ r. ⌜ r ≡ startOf (now (list .entry)) k ⌝ }
+{
+    let mut at: usize = 0;
+    let mut i: usize = 0;
+    while i < k {
+        let size = size(list, at);
+        if size == 0 {
+            return at;
+        }
+        at += size;
+        i += 1;
+    }
+    at
+}
+
+// The word at which record k begins, from the table or else from the list.
+pub fn start(list: &[u32], table: &[u32], k: usize) -> usize
+    requires { ⌜ Starts (now list) (now table) × (k < length (recordsIn (now list))) ⌝ }
+    ensures { λ r. ⌜ r ≡ startOf (now (list .entry)) k ⌝ }
+{
+    if k < table.len() {
+        let w = table[k];
+        if w < 4294967295 {
+            return wide(w);
+        }
+    }
+    walk_start(list, k)
+}
+
+// Fills the table with the words at which the first records begin.
+pub fn fill_starts(list: &[u32], table: &mut [u32])
+    ensures { λ _. ⌜ Starts (now (list .entry)) (now (table .exit)) ⌝ }
+{
+    let mut at: usize = 0;
+    let mut k: usize = 0;
+    while k < table.len() {
+        let size = size(list, at);
+        if size == 0 {
+            return;
+        }
+        table[k] = clip(at);
+        at += size;
+        k += 1;
+    }
+}
+
+// The sum of the first k widths, from the table or else from the list.
+pub fn offset(list: &[u32], table: &[u32], k: usize) -> usize
+    requires { ⌜ Indexed (widthsIn (now list)) (now table) × (k ≤ length (recordsIn (now list))) × (sumTo (widthsIn (now list)) (length (recordsIn (now list))) ≤ 18446744073709551615) ⌝ }
+    ensures { λ r. ⌜ r ≡ sumTo (widthsIn (now (list .entry))) k ⌝ }
+{
+    if k < table.len() {
+        let w = table[k];
+        if w < 4294967295 {
+            return wide(w);
+        }
+    }
+    sum_to(list, k)
+}
+
+// Fills the table with the first offsets.
+pub fn fill_offsets(list: &[u32], table: &mut [u32])
+    ensures { λ _. ⌜ Indexed (widthsIn (now (list .entry))) (now (table .exit)) ⌝ }
+{
+    let mut at: usize = 0;
+    let mut k: usize = 0;
+    let mut sum: usize = 0;
+    while k < table.len() {
+        table[k] = clip(sum);
+        let size = size(list, at);
+        if size == 0 {
+            return;
+        }
+        sum = plus(sum, wide(field(list, at, size, 1)));
+        at += size;
+        k += 1;
+    }
+}
+
+// The statement at an index is an assignment.
+fn is_assign(stmts: &[u32], at: usize, size: usize) -> bool
+    requires { ⌜ at + size ≤ length (now stmts) ⌝ }
+    ensures { λ r. ⌜ r ≡ isAssign (fieldsAt (now (stmts .entry)) at size) ⌝ }
+{
+    if size != 4 {
+        return false;
+    }
+    field(stmts, at, size, 0) == 0
+}
+
+// It is one on signal s.
+fn assigns(stmts: &[u32], at: usize, size: usize, s: usize) -> bool
+    requires { ⌜ at + size ≤ length (now stmts) ⌝ }
+    ensures { λ r. ⌜ r ≡ assignsTo s (fieldsAt (now (stmts .entry)) at size) ⌝ }
+{
+    if !is_assign(stmts, at, size) {
+        return false;
+    }
+    wide(field(stmts, at, size, 1)) == s
+}
+
+fn walk_driver(stmts: &[u32], s: usize) -> Driver
+    ensures { λ r. ⌜ driverOf r ≡ given byAssign (stmtsIn (now (stmts .entry))) s ⌝ }
+{
+    let mut at: usize = 0;
+    while at < stmts.len() {
+        let size = size(stmts, at);
+        if size == 0 {
+            return Driver::None;
+        }
+        if assigns(stmts, at, size, s) {
+            return Driver::By(field(stmts, at, size, 2));
+        }
+        at += size;
+    }
+    Driver::None
+}
+
+// The expression that is assigned to signal s, from the table or else from the list.
+pub fn driver(stmts: &[u32], table: &[u32], s: usize) -> Driver
+    requires { ⌜ Driven (now stmts) (now table) ⌝ }
+    ensures { λ r. ⌜ driverOf r ≡ given byAssign (stmtsIn (now (stmts .entry))) s ⌝ }
+{
+    if s < table.len() {
+        let w = table[s];
+        if w == 0 {
+            return Driver::None;
+        }
+        if w < 4294967295 {
+            return Driver::By(w - 1);
+        }
+    }
+    walk_driver(stmts, s)
+}
+
+fn zero_words(table: &mut [u32])
+    ensures { λ _. ⌜ now (table .exit) ≡ zeroed (now (table .entry)) ⌝ }
+{
+    let mut i = 0;
+    while i < table.len() {
+        table[i] = 0;
+        i += 1;
+    }
+}
+
+// Notes the statement at an index, if it is the first assignment on its signal.
+fn note(stmts: &[u32], at: usize, size: usize, table: &mut [u32])
+    requires { ⌜ at + size ≤ length (now stmts) ⌝ }
+    ensures { λ _. ⌜ now (table .exit) ≡ noted (fieldsAt (now (stmts .entry)) at size) (now (table .entry)) ⌝ }
+{
+    if !is_assign(stmts, at, size) {
+        return;
+    }
+    let t = wide(field(stmts, at, size, 1));
+    if t >= table.len() {
+        return;
+    }
+    if table[t] != 0 {
+        return;
+    }
+    table[t] = clip(wide(field(stmts, at, size, 2)) + 1);
+}
+
+// Fills the table with what is assigned to the first signals.
+pub fn fill_drivers(stmts: &[u32], table: &mut [u32])
+    ensures { λ _. ⌜ Driven (now (stmts .entry)) (now (table .exit)) ⌝ }
+{
+    zero_words(table);
+    let mut at: usize = 0;
+    while at < stmts.len() {
+        let size = size(stmts, at);
+        if size == 0 {
+            return;
+        }
+        note(stmts, at, size, table);
+        at += size;
     }
 }

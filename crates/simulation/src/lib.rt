@@ -1,6 +1,6 @@
 // The run of a model: one call is one tick.
 mod check;
-mod index;
+pub mod index;
 
 use recorder::SignalId;
 use refusal::Refusal;
@@ -21,4 +21,10 @@ pub enum Ran {
 pub enum Fault {
     Fine,
     At(usize),
+}
+
+// What is assigned to a signal: nothing, or an expression.
+pub enum Driver {
+    None,
+    By(u32),
 }

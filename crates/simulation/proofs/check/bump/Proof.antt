@@ -12,7 +12,7 @@ use Rattle.recorder.specs.Lists.{lists}
 use Rattle.recorder.specs.Read.{Cut, split}
 use Rattle.simulation.specs.Wellformed.{unsplitAll, unsplit, behind}
 use Rattle.simulation.specs.Index.{sizeAt, sizeOf, fieldsAt, recordsIn, widthsIn, offset}
-use Rattle.simulation.proofs.Tally.{fields-count, stands-short, stands-not, stands-so, target-none, target-some, Tallying, tallying-start, tallying-more, tallying-end}
+use Rattle.simulation.proofs.Tally.{stands-short, stands-not, stands-so, target-none, target-some, Tallying, tallying-start, tallying-more, tallying-end}
 use Rattle.simulation.proofs.Steps.{Walked, leftFrom, within, left-next, left-out, left-end, records-count}
 use borrow.Author.Needs.{needs}
 use Rattle.simulation.proofs.check.bump.Statement.{statement}

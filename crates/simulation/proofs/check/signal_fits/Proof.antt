@@ -6,7 +6,7 @@ use lib.ListN.{length, getD}
 use Rattle.simulation.specs.Wellformed.{statements}
 use Rattle.simulation.specs.Index.{fieldsAt}
 use Rattle.simulation.proofs.Faults.{signal-other, signal-unknown, signal-narrow, signal-broad, signal-counted, statements-some}
-use Rattle.simulation.proofs.Tally.{fields-count}
+use Rattle.simulation.proofs.Offsets.{fields-count}
 use borrow.Author.Needs.{needs}
 use Rattle.simulation.proofs.check.signal_fits.Statement.{statement}
 use Rattle.simulation.proofs.check.signal_fits.Tie as tie

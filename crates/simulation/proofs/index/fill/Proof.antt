@@ -6,7 +6,7 @@ use Prim.Native.Nat.{ℕ, _+_, _-_, _≤_, _<_, min}
 use lib.ListN.{length, getD, set, length-set, List·getD-eq-default}
 use Rattle.simulation.specs.Index.{sizeAt, sizeOf, fieldsAt, recordsIn, widthsIn, offset}
 use Rattle.recorder.proofs.Reading.{record-within}
-use Rattle.simulation.proofs.Offsets.{offset-next, sum-step, sum-past, field-in, field-out, Filled, filled-none, filled-more, filled-all, filled-full}
+use Rattle.simulation.proofs.Offsets.{offset-next, sum-step, sum-past, field-in, field-out, Filled, widthOf, filled-none, filled-more, filled-all, filled-full}
 use Rattle.simulation.proofs.Steps.{Walked, walked-start, walked-next, walked-out, walked-broken, walked-end, walked-there, walked-width, walked-within, length-widths}
 use Rattle.simulation.proofs.index.fill.Statement.{statement}
 use Rattle.simulation.proofs.index.fill.Tie as tie
@@ -16,7 +16,7 @@ use Rattle.simulation.proofs.index.field.Reads as field-reads
 use Rattle.simulation.proofs.index.size.Reads as size-reads
 
 abbrev Inv-loop : tie.InvT-loop
-Inv-loop list table₀ at₀ k₀ table at k = Walked list at k × (k ≤ length table₀) × (length table ≡ length table₀) × Filled (widthsIn list) table k
+Inv-loop list table₀ at₀ k₀ table at k = Walked list at k × (k ≤ length table₀) × (length table ≡ length table₀) × Filled (widthOf (widthsIn list)) table k
 
 abbrev μ-loop : tie.MeasureT-loop
 μ-loop list table₀ at₀ k₀ table at k = length table₀ - k

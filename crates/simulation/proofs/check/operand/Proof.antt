@@ -1,0 +1,39 @@
+use borrow.Author.Tests.{not-true, not-false, eq-eqb, ne-eqb}
+use native.Mathlib.Omega.{arith}
+use mathlib.Core.Path.{_≡_, refl, sym, ap, subst, _∙_}
+use mathlib.Core.List.{List}
+use mathlib.Core.Bool.{Bool, true, false, _&&_}
+use Prim.Native.Nat.{ℕ, _+_, _-_, _≤_, _<_}
+use lib.Dec.{eqb}
+use lib.ListN.{length, getD, drop, length-drop}
+use Rattle.simulation.specs.Wellformed.{wide as wider, earlier, widthSum}
+use Rattle.simulation.specs.Fault.{allWide}
+use Rattle.simulation.specs.Index.{fieldsAt, recordsIn, widthsIn}
+use Rattle.simulation.proofs.Offsets.{fields-count}
+use Rattle.simulation.proofs.Exprs.{value-wide, value-shifted, operand-so, operand-late, range-narrow, range-so, all-next, all-stop, all-end, partsLeft, parts-next, parts-late, parts-more, parts-end}
+use borrow.Author.Needs.{needs}
+use Rattle.simulation.proofs.check.operand.Statement.{statement}
+use Rattle.simulation.proofs.check.operand.Tie as tie
+use Rattle.simulation.proofs.check.operand.Reads as reads
+use Rattle.simulation.proofs.check.operand.Lts as lts
+use Rattle.simulation.proofs.index.wide.Reads as wide-reads
+use Rattle.simulation.proofs.index.width.Reads as width-reads
+
+-- src/check.rt:208:9
+wide-requires : tie.Need-wide-requires
+wide-requires c κs = search needs
+
+-- src/check.rt:210:16
+width-requires : tie.Need-width-requires
+width-requires c κs = search needs
+
+-- src/check.rt:210:9
+returns : tie.Need-returns
+returns c = operand-so (widthsIn (c .before .before .before .before .before .args .exprs .now)) (c .before .before .before .before .before .args .n) (c .before .before .before .before .before .args .a) (c .before .before .before .before .before .args .w) (c .width .result) (omega (arith, c .before .if1 .taken, c .before .before .wide .ensures)) (c .width .ensures ∙ ap (λ (i : ℕ). getD (widthsIn (c .before .before .before .before .before .args .exprs .now)) i 0) (c .before .before .wide .ensures))
+
+-- src/check.rt:204:1
+returns-2 : tie.Need-returns-2
+returns-2 c = operand-late (widthsIn (c .before .before .before .before .args .exprs .now)) (c .before .before .before .before .args .n) (c .before .before .before .before .args .a) (c .before .before .before .before .args .w) (omega (arith, c .if1 .left, c .before .wide .ensures))
+
+pub operand-spec : {M : Type 1} → statement M
+operand-spec = tie.close (tie.spec wide-requires width-requires returns returns-2)

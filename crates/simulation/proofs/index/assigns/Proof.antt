@@ -1,0 +1,46 @@
+use native.Mathlib.Omega.{arith}
+use mathlib.Core.Path.{_≡_, refl, sym, ap, subst, _∙_}
+use mathlib.Core.List.{List, [], _∷_, _++_, append-nil}
+use mathlib.Core.Bool.{Bool, true, false}
+use Prim.Native.Nat.{ℕ, _+_, _-_, _≤_, _<_, min}
+use lib.Dec.{eqb}
+use lib.ListN.{length, getD, set, drop, replicate, length-set, drop-of-length-le}
+use borrow.Author.Needs.{needs}
+use borrow.Author.Tests.{not-true, not-false, eq-eqb, ne-eqb}
+use borrow.Author.Fill.{fill-none, fill-more}
+use Rattle.simulation.specs.Index.{sizeAt, fieldsAt, recordsIn, widthsIn, offset, startOf, clipped}
+use Rattle.simulation.proofs.Ands.{and-stop, and-go, and-second}
+use Rattle.simulation.proofs.Offsets.{offset-next, sum-step, sum-past, offset-le, fields-count, Filled, startEntry, offsetEntry, filled-none, filled-more, starts-all, starts-full, indexed-all, indexed-full, starts-read, indexed-read, clipped-sum, sum-fits}
+use Rattle.simulation.proofs.Steps.{Walked, walked-start, walked-next, walked-out, walked-stop, walked-end, walked-there, walked-width, walked-within, length-widths, leftFrom, within, left-next, left-out, left-end}
+use Rattle.simulation.proofs.Driving.{Driving, driving-start, driving-next, driving-here, driving-none, Noting, noting-start, noting-next, noting-end, coded-none, coded-some, noted-other, noted-taken, noted-first, noted-out}
+use Rattle.simulation.proofs.index.assigns.Statement.{statement}
+use Rattle.simulation.proofs.index.assigns.Tie as tie
+use Rattle.simulation.proofs.index.assigns.Reads as reads
+use Rattle.simulation.proofs.index.assigns.Lts as lts
+use Rattle.simulation.proofs.index.field.Reads as field-reads
+use Rattle.simulation.proofs.index.is_assign.Reads as is-assign-reads
+use Rattle.simulation.proofs.index.wide.Reads as wide-reads
+
+-- src/index.rt:262:9
+is-assign-requires : tie.Need-is-assign-requires
+is-assign-requires c κs = search needs
+
+-- src/index.rt:263:9
+returns : tie.Need-returns
+returns c = and-stop _ (sym (c .before .is-assign .ensures) ∙ not-true _ (c .if1 .taken))
+
+-- src/index.rt:265:10
+field-requires : tie.Need-field-requires
+field-requires c κs = search needs
+
+-- src/index.rt:265:5
+wide-requires : tie.Need-wide-requires
+wide-requires c κs = search needs
+
+-- src/index.rt:258:1
+returns-2 : tie.Need-returns-2
+returns-2 c = and-go (sym (c .before .before .before .is-assign .ensures) ∙ not-false _ (c .before .before .if1 .left)) (ap (λ (k : ℕ). eqb k (c .before .before .before .before .before .args .s)) (c .wide .ensures ∙ c .before .field .ensures))
+
+pub assigns-spec : {M : Type 1} → statement M
+assigns-spec =
+    tie.close (tie.spec is-assign-requires returns field-requires wide-requires returns-2)

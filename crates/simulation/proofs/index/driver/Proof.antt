@@ -1,0 +1,53 @@
+use native.Mathlib.Omega.{arith}
+use mathlib.Core.Path.{_≡_, refl, sym, ap, subst, _∙_}
+use mathlib.Core.List.{List, [], _∷_, _++_, append-nil}
+use mathlib.Core.Bool.{Bool, true, false}
+use Prim.Native.Nat.{ℕ, _+_, _-_, _≤_, _<_, min}
+use lib.Dec.{eqb}
+use lib.ListN.{length, getD, set, drop, replicate, length-set, drop-of-length-le}
+use borrow.Author.Needs.{needs}
+use borrow.Author.Tests.{not-true, not-false, eq-eqb, ne-eqb}
+use borrow.Author.Fill.{fill-none, fill-more}
+use Rattle.simulation.specs.Index.{sizeAt, fieldsAt, recordsIn, widthsIn, offset, startOf, clipped}
+use Rattle.simulation.proofs.Ands.{and-stop, and-go, and-second}
+use Rattle.simulation.proofs.Offsets.{offset-next, sum-step, sum-past, offset-le, fields-count, Filled, startEntry, offsetEntry, filled-none, filled-more, starts-all, starts-full, indexed-all, indexed-full, starts-read, indexed-read, clipped-sum, sum-fits}
+use Rattle.simulation.proofs.Steps.{Walked, walked-start, walked-next, walked-out, walked-stop, walked-end, walked-there, walked-width, walked-within, length-widths, leftFrom, within, left-next, left-out, left-end}
+use Rattle.simulation.proofs.Driving.{Driving, driving-start, driving-next, driving-here, driving-none, Noting, noting-start, noting-next, noting-end, coded-none, coded-some, noted-other, noted-taken, noted-first, noted-out}
+use Rattle.simulation.proofs.index.driver.Statement.{statement}
+use Rattle.simulation.proofs.index.driver.Tie as tie
+use Rattle.simulation.proofs.index.driver.Reads as reads
+use Rattle.simulation.proofs.index.driver.Lts as lts
+use Rattle.simulation.proofs.index.walk_driver.Reads as walk-driver-reads
+
+-- src/index.rt:291:17
+mul-w : tie.Need-mul-w
+mul-w c = search needs
+
+-- src/index.rt:291:17
+shared-slice-read-w : tie.Need-shared-slice-read-w
+shared-slice-read-w c = search needs
+
+-- src/index.rt:293:13
+returns : tie.Need-returns
+returns c = coded-none _ (sym (c .before .before .before .before .before .pre .driver-at (c .before .before .before .before .before .args .s) (c .before .before .if1 .taken)) ∙ c .if2 .taken)
+
+-- src/index.rt:296:31
+sub-t11 : tie.Need-sub-t11
+sub-t11 c = search needs
+
+-- src/index.rt:296:13
+returns-2 : tie.Need-returns-2
+returns-2 c = coded-some _ _ (c .before .before .before .before .before .before .pre .driver-at (c .before .before .before .before .before .before .args .s) (c .before .before .before .if1 .taken)) (c .before .if2 .left) (c .if3 .taken)
+
+-- src/index.rt:299:5
+walk-driver-requires : tie.Need-walk-driver-requires
+walk-driver-requires c κs = search needs
+
+-- src/index.rt:286:1
+returns-3 : tie.Need-returns-3
+returns-3 c = search needs
+
+pub driver-spec : {M : Type 1} → statement M
+driver-spec =
+    tie.close
+    (tie.spec mul-w shared-slice-read-w returns sub-t11 returns-2 walk-driver-requires returns-3)
