@@ -3,3 +3,5 @@ pub mod Grounds
 pub mod Marking
 pub mod Looping
 pub mod Records
+pub mod Fields
+pub mod Scans

@@ -1,3 +1,4 @@
 -- The specs of ordering.
 pub mod Order
 pub mod Marks
+pub mod Words

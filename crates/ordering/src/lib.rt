@@ -1,1 +1,8 @@
 // The order in which a model's expressions can be evaluated, and refusal 13.
+pub mod marks; // marks.rt: what an expression needs, marked
+
+// The lowest signal on a loop.
+pub enum Loop {
+    Free,
+    At(usize),
+}
