@@ -5,3 +5,4 @@ pub mod Looping
 pub mod Records
 pub mod Fields
 pub mod Scans
+pub mod Sorted

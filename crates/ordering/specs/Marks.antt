@@ -1,11 +1,12 @@
 -- Marks: a byte for each expression, not zero once all that it needs is marked.
-use Prim.Native.Nat.{ℕ, zero, suc, _+_, _<_}
+use Prim.Native.Nat.{ℕ, zero, suc, _+_, _≤_, _<_}
 use mathlib.Core.Path.{_≡_}
 use mathlib.Core.Bool.{Bool, true, false, _||_}
 use mathlib.Core.Logic.{_⊎_}
 use mathlib.Core.List.{List, [], _∷_, List·Memᴰ as Mem}
 use lib.Dec.{eqb, leb}
-use lib.ListN.{length, getD}
+use lib.ListN.{length, getD, take}
+use Rattle.bits.specs.Bits.{pick}
 use Rattle.recorder.specs.Record.{Expr, Model}
 use Rattle.recorder.specs.Record.{const, read, concat, not, and, or, xor, mux, eq, mul}
 use Rattle.settle.specs.Ground.{Grounded}
@@ -57,3 +58,25 @@ pub record Backed (m : Model) (s : ℕ) (marks : List ℕ) : Type 0 where
 
 pub record Full (m : Model) (s : ℕ) (marks : List ℕ) : Type 0 where
   pub none-touched : (e : ℕ) → e < length (m .exprs) → marked marks e ≡ false → touched m marks s e ≡ false
+
+-- MARKING ALL
+
+-- how many of the first n expressions are not marked
+abbrev pub left : List ℕ → ℕ → ℕ
+left marks zero = 0
+left marks (suc n) = pick (marked marks n) 0 1 + left marks n
+
+-- expression e is marked, and noted as number k of the order, if it is ready and not marked yet
+abbrev pub adds : Model → List ℕ → ℕ → Bool
+adds m marks e = pick (marked marks e) false (ready m marks e)
+
+-- the first k of the order: all that is marked, each behind what it needs
+pub record Noted (m : Model) (marks order : List ℕ) (k : ℕ) : Type 0 where
+  pub each : (e : ℕ) → marked marks e ≡ true → Mem e (take k order)
+  pub behind : (j : ℕ) → j < k → (d : ℕ) → Mem d (needs m (getD order j 0)) → Mem d (take j order)
+
+-- k are marked; what is marked can be reached, and stands in an order that is long enough
+pub record Sorting (m : Model) (n : ℕ) (marks order : List ℕ) (k : ℕ) : Type 0 where
+  pub reached : Reached m marks
+  pub counted : k + left marks n ≡ n
+  pub noted : n ≤ length order → Noted m marks order k

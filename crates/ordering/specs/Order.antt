@@ -32,9 +32,3 @@ needs m e = needsOf m (getD (m .exprs) e (const 0 0))
 
 abbrev pub Needs : Model → ℕ → ℕ → Type 0
 Needs m = Reads (needs m)
-
--- each expression stands in the order once, behind all that it needs
-pub record Ordered (m : Model) (order : List ℕ) : Type 0 where
-  pub count : length order ≡ length (m .exprs)
-  pub each : (e : ℕ) → e < length (m .exprs) → Mem e order
-  pub behind : (k : ℕ) → k < length order → (d : ℕ) → Mem d (needs m (getD order k 0)) → Mem d (take k order)
