@@ -2,7 +2,7 @@
 use Prim.Native.Nat.{ℕ, zero, suc, _+_, _≤_, _<_}
 use mathlib.Core.Path.{_≡_, refl, sym, _∙_, ap, subst}
 use mathlib.Core.Logic.{_⊎_, inl, inr}
-use mathlib.Core.Bool.{Bool, true, false, false≢true}
+use mathlib.Core.Bool.{Bool, true, false, not, false≢true}
 use mathlib.Core.List.{List, [], _∷_, _++_, List·Memᴰ as Mem, List·Memᴰ·head as here, List·Memᴰ·not-nil as not-nil, Memᴰ·append-left as mem-left, Memᴰ·append-right as mem-right}
 use native.Mathlib.Omega.{arith}
 use native.Mathlib.Nat.{not-suc-le-zero}
@@ -16,7 +16,7 @@ use Rattle.settle.specs.Tests.{all-out, clash}
 use Rattle.simulation.proofs.Tally.{getD-zeros}
 use Rattle.ordering.specs.Order.{needs}
 use Rattle.ordering.specs.Marks.{marked, ready, Stuck, left, adds, Noted, Sorting}
-use Rattle.ordering.specs.Sorts.{Sorts, SortsAll}
+use Rattle.ordering.specs.Sorts.{Step, Sorts, SortsAll}
 use Rattle.ordering.proofs.Marking.{reached-none, reached-more}
 
 -- HOW MANY ARE LEFT
@@ -132,3 +132,75 @@ quiet-more m marks e s h = record { nothing = λ d p. go d p (ℕ-discrete d e) 
 
 pub quiet-stuck : (m : Model) (marks : List ℕ) → Quiet m marks (length (m .exprs)) → Stuck m marks
 quiet-stuck m marks s = record { none-ready = λ e p u. sym (ap (λ (b : Bool). pick b false (ready m marks e)) u) ∙ s .nothing e p }
+
+-- A PASS up to expression e
+
+pub record Passing (m : Model) (n k : ℕ) (marks₀ order₀ marks order : List ℕ) (count e : ℕ) : Type 0 where
+  pub sorting : Sorting m n marks order count
+  pub grows : k ≤ count
+  pub within : e ≤ n
+  pub quiet : count ≡ k → Quiet m marks e
+  pub marks-long : length marks ≡ length marks₀
+  pub order-long : length order ≡ length order₀
+
+pub passing-start : (m : Model) (n k : ℕ) (marks order : List ℕ) → Sorting m n marks order k → Passing m n k marks order marks order k 0
+passing-start m n k marks order s = record { sorting = s; grows = omega arith; within = omega arith; quiet = λ h. quiet-none m marks; marks-long = refl; order-long = refl }
+
+passing-same : {m : Model} {n k : ℕ} {marks₀ order₀ marks order : List ℕ} {count e : ℕ} → Passing m n k marks₀ order₀ marks order count e → e < n → {b : Bool} → b ≡ adds m marks e → b ≡ false → Passing m n k marks₀ order₀ marks order count (e + 1)
+passing-same {m} {marks = marks} {e = e} s h q f = record { sorting = s .sorting; grows = s .grows; within = omega arith; quiet = λ z. quiet-more m marks e (s .quiet z) (sym q ∙ f); marks-long = s .marks-long; order-long = s .order-long }
+
+passing-more : {m : Model} {n k : ℕ} {marks₀ order₀ marks order order′ : List ℕ} {count e : ℕ} → Passing m n k marks₀ order₀ marks order count e → e < n → n ≤ length marks₀ → {b : Bool} → b ≡ adds m marks e → b ≡ true → order′ ≡ set order count e → Passing m n k marks₀ order₀ (set marks e 1) order′ (count + 1) (e + 1)
+passing-more {m} {n} {k} {marks₀} {order₀} {marks} {order} {order′} {count} {e} s h l q f o =
+    subst (λ (u : List ℕ). Passing m n k marks₀ order₀ (set marks e 1) u (count + 1) (e + 1)) (sym o)
+    (record {
+      sorting = sorting-more m n marks order count e h (let w = s .marks-long in omega (arith, w, l)) (sym q ∙ f) (s .sorting);
+      grows = let g = s .grows in omega (arith, g);
+      within = omega arith;
+      quiet = λ z. absurd (let g = s .grows in omega (arith, g, z));
+      marks-long = length-set marks e 1 ∙ s .marks-long;
+      order-long = length-set order count e ∙ s .order-long;
+    })
+
+pub passing-end : {m : Model} {n k : ℕ} {marks₀ order₀ marks order : List ℕ} {count e : ℕ} → Passing m n k marks₀ order₀ marks order count e → n ≡ length (m .exprs) → n ≤ e → Sorts m n k count marks order
+passing-end {m} {n} {marks = marks} {e = e} s p h =
+    record { grows = s .grows; sorting = s .sorting; done = λ z. quiet-stuck m marks (subst (λ (i : ℕ). Quiet m marks i) (let w = s .within in let y : e ≡ n = omega (arith, w, h) in y ∙ p) (s .quiet z)) }
+
+pub passing-count : {m : Model} {n k : ℕ} {marks₀ order₀ marks order : List ℕ} {count e : ℕ} → Passing m n k marks₀ order₀ marks order count e → count ≤ n
+passing-count s = sorting-bound (s .sorting)
+
+pub passing-step : {m : Model} {n k : ℕ} {marks₀ order₀ marks order marks′ order′ : List ℕ} {count r e : ℕ} → Passing m n k marks₀ order₀ marks order count e → e < n → n ≤ length marks₀ → Step m marks order count e r marks′ order′ → Passing m n k marks₀ order₀ marks′ order′ r (e + 1)
+passing-step {m} {n} {k} {marks₀} {order₀} {marks} {order} {marks′} {order′} {count} {r} {e} s h l t = go (adds m marks e) refl (t .count) (t .marks-are) (t .order-is)
+  where
+    go : (b : Bool) → adds m marks e ≡ b → r ≡ pick b (count + 1) count → marks′ ≡ pick b (set marks e 1) marks → order′ ≡ pick b (set order count e) order → Passing m n k marks₀ order₀ marks′ order′ r (e + 1)
+    go true q a c d = subst (λ (i : ℕ). Passing m n k marks₀ order₀ marks′ order′ i (e + 1)) (sym a) (subst (λ (u : List ℕ). Passing m n k marks₀ order₀ u order′ (count + 1) (e + 1)) (sym c) (passing-more s h l refl q d))
+    go false q a c d =
+        subst (λ (i : ℕ). Passing m n k marks₀ order₀ marks′ order′ i (e + 1)) (sym a) (subst (λ (u : List ℕ). Passing m n k marks₀ order₀ u order′ count (e + 1)) (sym c) (subst (λ (u : List ℕ). Passing m n k marks₀ order₀ marks u count (e + 1)) (sym d) (passing-same s h refl q)))
+
+step-none : {m : Model} {marks order : List ℕ} {k e : ℕ} → adds m marks e ≡ false → Step m marks order k e k marks order
+step-none {marks = marks} {order} {k} {e} h = record { count = sym (ap (λ (b : Bool). pick b (k + 1) k) h); marks-are = sym (ap (λ (b : Bool). pick b (set marks e 1) marks) h); order-is = sym (ap (λ (b : Bool). pick b (set order k e) order) h) }
+
+pub step-same : {m : Model} {marks order : List ℕ} {k e : ℕ} {b : Bool} → b ≡ adds m marks e → not b ≡ true → Step m marks order k e k marks order
+step-same {b = b} q h = step-none (sym q ∙ no b h)
+  where
+    no : (c : Bool) → not c ≡ true → c ≡ false
+    no true z = sym z
+    no false z = refl
+
+pub step-more : {m : Model} {marks order order′ : List ℕ} {k e : ℕ} {b : Bool} → b ≡ adds m marks e → not b ≡ false → order′ ≡ set order k e → Step m marks order k e (k + 1) (set marks e 1) order′
+step-more {m} {marks} {order} {order′} {k} {e} {b} q h o =
+    let a : adds m marks e ≡ true = sym q ∙ yes b h in
+    record { count = sym (ap (λ (c : Bool). pick c (k + 1) k) a); marks-are = sym (ap (λ (c : Bool). pick c (set marks e 1) marks) a); order-is = o ∙ sym (ap (λ (c : Bool). pick c (set order k e) order) a) }
+  where
+    yes : (c : Bool) → not c ≡ false → c ≡ true
+    yes true z = refl
+    yes false z = sym z
+
+-- PASS AFTER PASS
+
+pub record Sorting-on (m : Model) (n : ℕ) (marks₀ order₀ marks order : List ℕ) (k : ℕ) : Type 0 where
+  pub sorting : Sorting m n marks order k
+  pub marks-long : length marks ≡ length marks₀
+  pub order-long : length order ≡ length order₀
+
+pub sorting-end : {m : Model} {n k r : ℕ} {marks order : List ℕ} → Sorts m n k r marks order → r ≡ k → SortsAll m n k marks order
+sorting-end {m} {n} {k} {r} {marks} {order} s e = record { sorted = subst (λ (i : ℕ). Sorting m n marks order i) e (s .sorting); stuck = s .done e }

@@ -1,5 +1,6 @@
 // The order in which a model's expressions can be evaluated, and refusal 13.
 pub mod marks; // marks.rt: what an expression needs, marked
+pub mod sort; // sort.rt: an order of all expressions
 
 // The lowest signal on a loop.
 pub enum Loop {
