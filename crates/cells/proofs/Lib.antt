@@ -1,3 +1,2 @@
 -- The laws of cells that other crates cite.
 pub mod Laws
-pub mod Each

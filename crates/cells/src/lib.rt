@@ -1,9 +1,6 @@
-// The small cells. (lib.rs of the Rust: emit_cell's arms, emit_cycle_pll, emit_idle_jtagg, emit_ccu2c.)
+// The small cells. (lib.rs of the Rust: emit_cell's arms.) Carry chains, PLL and JTAG have crates of their own, over the definitions here.
 pub mod answers;
-pub mod ccu2c;
 pub mod emit;
-pub mod jtagg;
-pub mod pll;
 
 use recorder::ExprId;
 use recorder::Tapes;

@@ -4,3 +4,4 @@ pub mod Tables
 pub mod Reserves
 pub mod Emit
 pub mod Lower
+pub mod Cases

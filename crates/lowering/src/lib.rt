@@ -1,2 +1,2 @@
 // Lowering a netlist. (lib.rs of the Rust.)
-mod reserve;
+pub mod reserve;

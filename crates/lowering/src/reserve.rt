@@ -146,7 +146,7 @@ pub fn reserve_scalar(
 }
 
 // A refusal handed on.
-fn undeclared(r: Declared) -> Stated
+pub fn undeclared(r: Declared) -> Stated
     ensures { λ q. ⌜ q ≡ undeclaredOf r ⌝ }
 {
     match r {
@@ -155,7 +155,7 @@ fn undeclared(r: Declared) -> Stated
     }
 }
 
-fn not_inserted(r: Inserted) -> Stated
+pub fn not_inserted(r: Inserted) -> Stated
     ensures { λ q. ⌜ q ≡ notInsertedOf r ⌝ }
 {
     match r {

@@ -28,3 +28,13 @@ and-second false h = refl
 -- too many fields
 pub long : (m k : ℕ) (x : Bool) → k < m → false ≡ (eqb m k && x)
 long m k x h = sym (ap (λ (b : Bool). b && x) (ne-eqb m k (λ e. absurd (omega arith))))
+
+-- three in a row
+pub and3-first : {a : Bool} (b d : Bool) → a ≡ false → false ≡ (a && b && d)
+and3-first b d h = sym (rw h)
+
+pub and3-second : {a b : Bool} (d : Bool) → a ≡ true → b ≡ false → false ≡ (a && b && d)
+and3-second d h g = sym (rw (h, g))
+
+pub and3-third : {a b d x : Bool} → a ≡ true → b ≡ true → x ≡ d → x ≡ (a && b && d)
+and3-third h g e = e ∙ sym (rw (h, g))

@@ -1,5 +1,5 @@
 -- Which expression is assigned to a signal: by walking the statements, and by a table. Assumes nothing.
-use Prim.Native.Nat.{ℕ, zero, suc, _+_, _-_, _≤_, _<_, min}
+use Prim.Native.Nat.{ℕ, zero, suc, _+_, _-_, _≤_, _<_}
 use mathlib.Core.Path.{_≡_, refl, sym, _∙_, ap, subst}
 use mathlib.Core.Bool.{Bool, true, false, _&&_}
 use mathlib.Core.List.{List, [], _∷_, tail}
@@ -9,13 +9,13 @@ use native.Mathlib.Decide.{ℕ-discrete}
 use lib.Dec.{eqb}
 use lib.ListN.{length, getD, set, replicate, length-set}
 use lib.Seq.{getD-set-same, getD-set-other, set-out}
-use borrow.Author.Tests.{eq-eqb, ne-eqb, eqb-true, eqb-false}
+use borrow.Author.Tests.{eq-eqb, ne-eqb, eqb-true}
 use Rattle.bits.specs.Bits.{pick}
-use Rattle.recorder.specs.Record.{Stmt, assign, reg, stmtWords}
-use Rattle.recorder.specs.Read.{readStmt, readAll, split}
+use Rattle.recorder.specs.Record.{Stmt, assign, reg}
+use Rattle.recorder.specs.Read.{readStmt, readAll}
 use Rattle.recorder.proofs.Roundtrip.{stmt-said}
 use Rattle.simulation.specs.Tick.{given, assigns}
-use Rattle.simulation.specs.Index.{recordsIn, stmtsIn, clipped, coded, Driven, isAssign, assignsTo, noted}
+use Rattle.simulation.specs.Index.{stmtsIn, clipped, coded, Driven, isAssign, assignsTo, noted}
 use Rattle.simulation.proofs.Ands.{and-false, long}
 use Rattle.simulation.proofs.Tally.{getD-zeros}
 use Rattle.simulation.proofs.Steps.{leftFrom}

@@ -1,9 +1,9 @@
 -- The rule of an expression's record, by its kind and from its fields. Assumes nothing.
-use Prim.Native.Nat.{ℕ, zero, suc, _+_, _-_, _*_, _/_, _^_, _≤_, _<_}
-use mathlib.Core.Path.{_≡_, refl, sym, _∙_, ap, subst}
+use Prim.Native.Nat.{ℕ, zero, suc, _+_, _*_, _/_, _^_, _≤_, _<_}
+use mathlib.Core.Path.{_≡_, refl, sym, _∙_, ap}
 use mathlib.Core.Bool.{Bool, true, false, _&&_}
 use mathlib.Core.List.{List, [], _∷_}
-use mathlib.Core.Option.{Option, none, some}
+use mathlib.Core.Option.{none, some}
 use native.Mathlib.Omega.{arith}
 use native.Mathlib.Numerals.{add-one}
 use lib.Dec.{eqb, leb, ltb}
@@ -12,9 +12,9 @@ use native.Mathlib.Decide.{decLt}
 use lib.Pow.{pow-pos, pow-mono}
 use lib.ListN.{length, getD, drop}
 use lib.Seq.{drop-cons}
-use borrow.Author.Tests.{le-leb, lt-leb, eq-eqb, ne-eqb, lt-ltb, le-ltb, eqb-true, eqb-false}
+use borrow.Author.Tests.{le-leb, lt-leb, eq-eqb, ne-eqb, lt-ltb, le-ltb}
 use Rattle.recorder.specs.Record.{Expr}
-use Rattle.recorder.specs.Read.{only, two, readExpr}
+use Rattle.recorder.specs.Read.{only, two}
 use Rattle.simulation.specs.Wellformed.{inRange, wide, earlier, widthSum, exprFits, fits}
 use Rattle.simulation.proofs.Ands.{and-true, and-false, long}
 use Rattle.simulation.specs.Fault.{allWide, exprTest, fixedTest, constTest, readTest, concatTest, muxTest, eqTest}
@@ -129,23 +129,23 @@ module _ (widest : ℕ) (sw ew : List ℕ) (n : ℕ) where
       go [] = refl
       go (w ∷ l) = two-l 36 Expr.mul (λ a b. refl) 9 w l
 
-  pub no-kind : (r : List ℕ) → 9 < getD r 0 0 → false ≡ T r
-  no-kind [] h = refl
-  no-kind (k ∷ []) h = refl
-  no-kind (k ∷ w ∷ l) h = go k h
+  pub no-kind : (r : List ℕ) (k : ℕ) → k ≡ getD r 0 0 → (k ≡ 0 → ⊥) → (k ≡ 1 → ⊥) → (k ≡ 2 → ⊥) → (k ≡ 3 → ⊥) → (k ≡ 4 → ⊥) → (k ≡ 5 → ⊥) → (k ≡ 6 → ⊥) → (k ≡ 7 → ⊥) → (k ≡ 8 → ⊥) → (k ≡ 9 → ⊥) → false ≡ T r
+  no-kind [] k e d0 d1 d2 d3 d4 d5 d6 d7 d8 d9 = refl
+  no-kind (j ∷ []) k e d0 d1 d2 d3 d4 d5 d6 d7 d8 d9 = refl
+  no-kind (j ∷ w ∷ l) k e d0 d1 d2 d3 d4 d5 d6 d7 d8 d9 = go k w l d0 d1 d2 d3 d4 d5 d6 d7 d8 d9 ∙ ap (λ (i : ℕ). T (i ∷ w ∷ l)) e
     where
-      go : (k : ℕ) → 9 < k → false ≡ T (k ∷ w ∷ l)
-      go zero h = absurd (omega arith)
-      go (suc zero) h = absurd (omega arith)
-      go (suc (suc zero)) h = absurd (omega arith)
-      go (suc (suc (suc zero))) h = absurd (omega arith)
-      go (suc (suc (suc (suc zero)))) h = absurd (omega arith)
-      go (suc (suc (suc (suc (suc zero))))) h = absurd (omega arith)
-      go (suc (suc (suc (suc (suc (suc zero)))))) h = absurd (omega arith)
-      go (suc (suc (suc (suc (suc (suc (suc zero))))))) h = absurd (omega arith)
-      go (suc (suc (suc (suc (suc (suc (suc (suc zero)))))))) h = absurd (omega arith)
-      go (suc (suc (suc (suc (suc (suc (suc (suc (suc zero))))))))) h = absurd (omega arith)
-      go (suc (suc (suc (suc (suc (suc (suc (suc (suc (suc k)))))))))) h = refl
+      go : (k w : ℕ) (l : List ℕ) → (k ≡ 0 → ⊥) → (k ≡ 1 → ⊥) → (k ≡ 2 → ⊥) → (k ≡ 3 → ⊥) → (k ≡ 4 → ⊥) → (k ≡ 5 → ⊥) → (k ≡ 6 → ⊥) → (k ≡ 7 → ⊥) → (k ≡ 8 → ⊥) → (k ≡ 9 → ⊥) → false ≡ T (k ∷ w ∷ l)
+      go zero w l d0 d1 d2 d3 d4 d5 d6 d7 d8 d9 = absurd (d0 refl)
+      go (suc zero) w l d0 d1 d2 d3 d4 d5 d6 d7 d8 d9 = absurd (d1 refl)
+      go (suc (suc zero)) w l d0 d1 d2 d3 d4 d5 d6 d7 d8 d9 = absurd (d2 refl)
+      go (suc (suc (suc zero))) w l d0 d1 d2 d3 d4 d5 d6 d7 d8 d9 = absurd (d3 refl)
+      go (suc (suc (suc (suc zero)))) w l d0 d1 d2 d3 d4 d5 d6 d7 d8 d9 = absurd (d4 refl)
+      go (suc (suc (suc (suc (suc zero))))) w l d0 d1 d2 d3 d4 d5 d6 d7 d8 d9 = absurd (d5 refl)
+      go (suc (suc (suc (suc (suc (suc zero)))))) w l d0 d1 d2 d3 d4 d5 d6 d7 d8 d9 = absurd (d6 refl)
+      go (suc (suc (suc (suc (suc (suc (suc zero))))))) w l d0 d1 d2 d3 d4 d5 d6 d7 d8 d9 = absurd (d7 refl)
+      go (suc (suc (suc (suc (suc (suc (suc (suc zero)))))))) w l d0 d1 d2 d3 d4 d5 d6 d7 d8 d9 = absurd (d8 refl)
+      go (suc (suc (suc (suc (suc (suc (suc (suc (suc zero))))))))) w l d0 d1 d2 d3 d4 d5 d6 d7 d8 d9 = absurd (d9 refl)
+      go (suc (suc (suc (suc (suc (suc (suc (suc (suc (suc k)))))))))) w l d0 d1 d2 d3 d4 d5 d6 d7 d8 d9 = refl
 
 -- THE LOOPS OVER OPERANDS
 

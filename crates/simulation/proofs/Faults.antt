@@ -1,19 +1,19 @@
 -- The tests of single records against their rules, and the loops that look for the first that fails. Assumes nothing.
-use Prim.Native.Nat.{ℕ, zero, suc, _+_, _-_, _≤_, _<_, min}
-use mathlib.Core.Path.{_≡_, refl, sym, _∙_, ap, subst}
+use Prim.Native.Nat.{ℕ, zero, suc, _+_, _≤_, _<_, min}
+use mathlib.Core.Path.{_≡_, refl, sym, _∙_, ap}
 use mathlib.Core.Bool.{Bool, true, false, _&&_}
 use mathlib.Core.List.{List, [], _∷_}
 use mathlib.Core.Option.{Option, none, some}
 use native.Mathlib.Omega.{arith}
 use native.Mathlib.Numerals.{add-one}
-use lib.Dec.{eqb, leb, ltb}
+use lib.Dec.{eqb, leb}
 use lib.ListN.{length, getD}
-use borrow.Author.Tests.{le-leb, lt-leb, eq-eqb, ne-eqb, lt-ltb, le-ltb, eqb-true, eqb-false}
+use borrow.Author.Tests.{le-leb, lt-leb, eq-eqb, ne-eqb, eqb-true, eqb-false}
 use Rattle.bits.specs.Bits.{pick}
 use Rattle.recorder.specs.Record.{Signal}
-use Rattle.recorder.specs.Read.{one, two, three, only, readSignal}
+use Rattle.recorder.specs.Read.{readSignal}
 use Rattle.simulation.specs.Wellformed.{drives, countOf, statements, signalFits, inRange, fits, firstFailing}
-use Rattle.simulation.specs.Fault.{stands, signalFaultOf}
+use Rattle.simulation.specs.Fault.{stands}
 use Rattle.simulation.proofs.Tally.{drives-stands}
 
 -- THE LOOP

@@ -1,18 +1,18 @@
 -- What stands at the word where a record begins, and what the model without a fault has there. Assumes nothing.
 use Prim.Native.Nat.{ℕ, zero, suc, _+_, _≤_, _<_}
 use mathlib.Core.Path.{_≡_, refl, sym, _∙_, ap, subst}
-use mathlib.Core.List.{List, [], _∷_, map}
+use mathlib.Core.List.{List, [], _∷_}
 use mathlib.Core.Option.{Option, none, some}
 use native.Mathlib.Omega.{arith}
 use native.Mathlib.Numerals.{add-one}
 use native.Mathlib.Nat.{not-suc-le-zero}
 use lib.ListN.{length, getD}
-use Rattle.recorder.specs.Record.{Signal, Expr, Stmt, Model}
+use Rattle.recorder.specs.Record.{Signal, Expr, Stmt}
 use Rattle.recorder.specs.Lists.{Lists}
-use Rattle.recorder.specs.Read.{readSignal, readExpr, readStmt, readAll, split, modelOf}
-use Rattle.recorder.specs.Words.{rawOf, Reads, EachReads}
+use Rattle.recorder.specs.Read.{readSignal, readExpr, readStmt, readAll, modelOf}
+use Rattle.recorder.specs.Words.{rawOf, EachReads}
 use Rattle.simulation.specs.Wellformed.{firstFault, malformed, unsplitAll}
-use Rattle.simulation.specs.Sound.{signalWidths, exprWidths, Sound}
+use Rattle.simulation.specs.Sound.{signalWidths, exprWidths}
 use Rattle.simulation.specs.Index.{sizeAt, fieldsAt, recordsIn, widthsIn, startOf, stmtsIn}
 use Rattle.simulation.proofs.Offsets.{start-first}
 use Rattle.simulation.proofs.Steps.{Walked, walked-start, walked-next, walked-out, walked-within, walked-fields}
@@ -45,7 +45,7 @@ module _ (l : List ℕ) (k : ℕ) (h : k < length (recordsIn l)) where
 -- RECORDS
 
 module _ {A : Type 0} (g : List ℕ → Option A) where
-  read-head : (r : List ℕ) (rs : List (List ℕ)) (a : A) → g r ≡ some a → readAll g (r ∷ rs) ≡ a ∷ readAll g rs
+  pub read-head : (r : List ℕ) (rs : List (List ℕ)) (a : A) → g r ≡ some a → readAll g (r ∷ rs) ≡ a ∷ readAll g rs
   read-head r rs a e = rw (e, readAll)
 
   pub read-count : (rs : List (List ℕ)) → EachReads g rs → length (readAll g rs) ≡ length rs

@@ -12,5 +12,7 @@ pub mod Tally
 pub mod Found
 pub mod Driving
 pub mod Faults
+pub mod Firsts
+pub mod Calls
 pub mod Exprs
 pub mod Stmts

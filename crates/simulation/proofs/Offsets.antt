@@ -1,14 +1,14 @@
 -- Sums of widths, and the tables of widths and offsets. Assumes nothing.
-use Prim.Native.Nat.{ℕ, zero, suc, _+_, _-_, _*_, _≤_, _<_, min}
+use Prim.Native.Nat.{ℕ, zero, suc, _+_, _-_, _≤_, _<_, min}
 use mathlib.Core.Path.{_≡_, refl, sym, _∙_, ap, subst}
 use mathlib.Core.List.{List, [], _∷_, map}
 use native.Mathlib.Omega.{arith}
 use native.Mathlib.Numerals.{add-one}
-use native.Mathlib.Nat.{not-suc-le-zero, add-zero}
-use native.Mathlib.Decide.{decLt, ℕ-discrete}
+use native.Mathlib.Nat.{not-suc-le-zero}
+use native.Mathlib.Decide.{ℕ-discrete}
 use lib.ListN.{length, getD, take, drop, set, length-set, length-drop, length-map, List·getD-eq-default}
 use lib.Seq.{getD-set-same, getD-set-other, getD-take, getD-drop, length-take-le}
-use Rattle.simulation.specs.Index.{offset, startOf, clipped, fieldsAt, recordsIn, widthsIn, Listed, Indexed, Starts}
+use Rattle.simulation.specs.Index.{offset, startOf, clipped, fieldsAt, recordsIn, Listed, Indexed, Starts}
 
 pub offset-suc : (ws : List ℕ) (k : ℕ) → offset ws (suc k) ≡ offset ws k + getD ws k 0
 offset-suc [] zero = refl

@@ -2,7 +2,7 @@
 use Prim.Native.Nat.{ℕ, zero, suc, _+_, _-_, _≤_, _<_}
 use mathlib.Core.Path.{_≡_, refl, sym, _∙_, ap, subst}
 use mathlib.Core.Bool.{Bool, true, false}
-use mathlib.Core.List.{List, [], _∷_, map}
+use mathlib.Core.List.{List, [], _∷_}
 use native.Mathlib.Omega.{arith}
 use native.Mathlib.Nat.{add-zero}
 use lib.ListN.{length, getD, take, drop, length-drop, length-map, drop-of-length-le, List·getD-eq-default}
@@ -13,7 +13,7 @@ use Rattle.recorder.specs.declared.Cut.{Cut}
 use Rattle.recorder.specs.declared.Cut.the-variants.{Record, End, Broken}
 use Rattle.recorder.specs.Read as read
 use Rattle.recorder.specs.Read.{split}
-use Rattle.recorder.specs.Standing.{standing, cutAt, splitBy}
+use Rattle.recorder.specs.Standing.{standing, cutAt}
 use Rattle.recorder.proofs.Reading.{split-as, record-within}
 use Rattle.recorder.proofs.Roundtrip.{split-nil}
 use Rattle.simulation.specs.Index.{sizeOf, sizeAt, fieldsAt, recordsIn, widthsIn, startOf}

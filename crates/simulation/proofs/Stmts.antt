@@ -1,19 +1,20 @@
 -- The rule of a statement's record, by its kind and from its fields. Assumes nothing.
 use Prim.Native.Nat.{ℕ, zero, suc, _+_, _-_, _≤_, _<_}
-use mathlib.Core.Path.{_≡_, refl, sym, _∙_, ap, subst}
+use mathlib.Core.Path.{_≡_, refl, sym, _∙_, ap}
 use mathlib.Core.Bool.{Bool, true, false, _&&_}
 use mathlib.Core.List.{List, [], _∷_}
 use mathlib.Core.Option.{Option, none, some}
 use native.Mathlib.Omega.{arith}
-use lib.Dec.{eqb, leb, ltb}
-use lib.ListN.{length, getD, drop}
-use borrow.Author.Tests.{le-leb, lt-leb, eq-eqb, ne-eqb}
+use lib.Dec.{eqb, leb}
+use lib.ListN.{length, getD, drop, length-drop, drop-of-length-le}
+use lib.Seq.{getD-drop}
+use borrow.Author.Tests.{le-leb, lt-leb, eq-eqb, ne-eqb, lt-ltb, le-ltb}
 use Rattle.bits.specs.Bits.{pick}
-use Rattle.recorder.specs.Record.{Stmt, assign, reg, RegReset, RegEnable}
-use Rattle.recorder.specs.Read.{withReset, withEnable, readStmt}
-use Rattle.simulation.specs.Wellformed.{suits, broad, resetFits, enableFits, stmtFits, fits}
+use Rattle.recorder.specs.Record.{reg, RegReset}
+use Rattle.recorder.specs.Read.{withEnable}
+use Rattle.simulation.specs.Wellformed.{suits, broad, wide, resetFits, stmtFits, fits}
 use Rattle.simulation.specs.Fault.{stmtTest, assignTest, headTest, resetTest, enableTest, regTest}
-use Rattle.simulation.proofs.Ands.{and-true, long}
+use Rattle.simulation.proofs.Ands.{and-true, long, and-stop, and-go}
 
 and-assoc : (a b c : Bool) → (a && b && c) ≡ (a && (b && c))
 and-assoc true b c = refl
@@ -121,3 +122,95 @@ module _ (sw ew : List ℕ) where
   no-kind (zero ∷ l) h = absurd (omega arith)
   no-kind (suc zero ∷ l) h = absurd (omega arith)
   no-kind (suc (suc k) ∷ l) h = refl
+
+-- SIGNALS AND EXPRESSIONS THAT ARE THERE
+
+module _ (sw : List ℕ) (s : ℕ) where
+  pub broad-so : (v w : ℕ) → s < length sw → v ≡ getD sw s 0 → eqb v w ≡ broad sw s w
+  broad-so v w h e = and-go (lt-ltb s (length sw) h) (ap (λ (k : ℕ). eqb k w) e)
+
+  pub broad-late : (w : ℕ) → length sw ≤ s → false ≡ broad sw s w
+  broad-late w h = and-stop (eqb (getD sw s 0) w) (le-ltb s (length sw) h)
+
+module _ (sw ew : List ℕ) (t e : ℕ) where
+  pub suits-so : (b : Bool) (n v : ℕ) → t < length sw → n ≡ length ew → v ≡ getD sw t 0 → b ≡ wide ew n e v → b ≡ suits sw ew t e
+  suits-so b n v h c q r = and-go (lt-ltb t (length sw) h) (r ∙ ap (λ (k : ℕ). wide ew k e v) c ∙ ap (wide ew (length ew) e) q)
+
+  pub suits-late : length sw ≤ t → false ≡ suits sw ew t e
+  suits-late h = and-stop (wide ew (length ew) e (getD sw t 0)) (le-ltb t (length sw) h)
+
+-- AN ENABLE, from its first field on
+
+module _ (sw r : List ℕ) (from left given : ℕ) (l : left ≡ length r - from) (g : given ≡ getD r from 0) where
+  -- what the test looks at
+  abbrev enableBy : ℕ → ℕ → ℕ → ℕ → Bool
+  enableBy j k s a = pick (eqb j 0) (eqb k 1) (eqb j 1 && (eqb k 3 && (broad sw s 1 && leb a 1)))
+
+  field-of : (j i : ℕ) → j ≡ from + i → getD (drop from r) i 0 ≡ getD r j 0
+  field-of j i e = getD-drop from r i 0 ∙ ap (λ (k : ℕ). getD r k 0) (sym e)
+
+  as-given : enableTest sw (drop from r) ≡ enableBy given left (getD r (from + 1) 0) (getD r (from + 2) 0)
+  as-given =
+      ap (λ (j : ℕ). enableBy j (length (drop from r)) (getD (drop from r) 1 0) (getD (drop from r) 2 0)) (field-of from 0 (omega arith) ∙ sym g)
+      ∙ ap (λ (k : ℕ). enableBy given k (getD (drop from r) 1 0) (getD (drop from r) 2 0)) (length-drop from r ∙ sym l)
+      ∙ ap (λ (s : ℕ). enableBy given left s (getD (drop from r) 2 0)) (field-of (from + 1) 1 refl)
+      ∙ ap (enableBy given left (getD r (from + 1) 0)) (field-of (from + 2) 2 refl)
+
+  pub enable-short : length r ≤ from → false ≡ enableTest sw (drop from r)
+  enable-short h = ap (enableTest sw) (sym (drop-of-length-le r h))
+
+  pub enable-none : given ≡ 0 → eqb left 1 ≡ enableTest sw (drop from r)
+  enable-none z = sym (as-given ∙ ap (λ (b : Bool). pick b (eqb left 1) (eqb given 1 && (eqb left 3 && (broad sw (getD r (from + 1) 0) 1 && leb (getD r (from + 2) 0) 1)))) (eq-eqb given 0 z))
+
+  some-given : (given ≡ 0 → ⊥) → enableTest sw (drop from r) ≡ (eqb given 1 && (eqb left 3 && (broad sw (getD r (from + 1) 0) 1 && leb (getD r (from + 2) 0) 1)))
+  some-given d = as-given ∙ ap (λ (b : Bool). pick b (eqb left 1) (eqb given 1 && (eqb left 3 && (broad sw (getD r (from + 1) 0) 1 && leb (getD r (from + 2) 0) 1)))) (ne-eqb given 0 d)
+
+  pub enable-odd : (given ≡ 0 → ⊥) → (given ≡ 1 → ⊥) → false ≡ enableTest sw (drop from r)
+  enable-odd d o = and-stop _ (ne-eqb given 1 o) ∙ sym (some-given d)
+
+  module _ (d : given ≡ 0 → ⊥) (one : given ≡ 1) where
+    pub enable-long : (left ≡ 3 → ⊥) → false ≡ enableTest sw (drop from r)
+    enable-long h = and-go (eq-eqb given 1 one) (and-stop _ (ne-eqb left 3 h)) ∙ sym (some-given d)
+
+    pub enable-control : left ≡ 3 → broad sw (getD r (from + 1) 0) 1 ≡ false → false ≡ enableTest sw (drop from r)
+    enable-control h b = and-go (eq-eqb given 1 one) (and-go (eq-eqb left 3 h) (and-stop _ b)) ∙ sym (some-given d)
+
+    pub enable-so : left ≡ 3 → broad sw (getD r (from + 1) 0) 1 ≡ true → (x : Bool) → x ≡ leb (getD r (from + 2) 0) 1 → x ≡ enableTest sw (drop from r)
+    enable-so h b x e = and-go (eq-eqb given 1 one) (and-go (eq-eqb left 3 h) (and-go b e)) ∙ sym (some-given d)
+
+-- A REGISTER, by the code's tests
+
+module _ (sw ew r : List ℕ) where
+  abbrev tail-test : ℕ → Bool
+  tail-test f = pick (eqb f 0) (enableTest sw (drop 6 r)) (eqb f 1 && (leb 10 (length r) && (resetTest sw ew r && enableTest sw (drop 9 r))))
+
+  pub reg-short : length r < 7 → false ≡ regTest sw ew r
+  reg-short h = and-stop _ (lt-leb 7 (length r) h)
+
+  module _ (h : 7 ≤ length r) where
+    pub reg-head : headTest sw ew r ≡ false → false ≡ regTest sw ew r
+    reg-head b = and-go (le-leb 7 (length r) h) (and-stop _ b)
+
+    module _ (b : headTest sw ew r ≡ true) (f : ℕ) (e : f ≡ getD r 5 0) where
+      from-tail : {x : Bool} → x ≡ tail-test f → x ≡ regTest sw ew r
+      from-tail q = and-go (le-leb 7 (length r) h) (and-go b (q ∙ ap tail-test e))
+
+      pub reg-plain : f ≡ 0 → (x : Bool) → x ≡ enableTest sw (drop 6 r) → x ≡ regTest sw ew r
+      reg-plain z x q = from-tail (q ∙ sym (ap (λ (a : Bool). pick a (enableTest sw (drop 6 r)) (eqb f 1 && (leb 10 (length r) && (resetTest sw ew r && enableTest sw (drop 9 r))))) (eq-eqb f 0 z)))
+
+      module _ (d : f ≡ 0 → ⊥) where
+        with-reset : {x : Bool} → x ≡ (eqb f 1 && (leb 10 (length r) && (resetTest sw ew r && enableTest sw (drop 9 r)))) → x ≡ regTest sw ew r
+        with-reset q = from-tail (q ∙ sym (ap (λ (a : Bool). pick a (enableTest sw (drop 6 r)) (eqb f 1 && (leb 10 (length r) && (resetTest sw ew r && enableTest sw (drop 9 r))))) (ne-eqb f 0 d)))
+
+        pub reg-odd : (f ≡ 1 → ⊥) → false ≡ regTest sw ew r
+        reg-odd o = with-reset (and-stop _ (ne-eqb f 1 o))
+
+        module _ (one : f ≡ 1) where
+          pub reg-cut : length r < 10 → false ≡ regTest sw ew r
+          reg-cut k = with-reset (and-go (eq-eqb f 1 one) (and-stop _ (lt-leb 10 (length r) k)))
+
+          pub reg-reset : 10 ≤ length r → resetTest sw ew r ≡ false → false ≡ regTest sw ew r
+          reg-reset k c = with-reset (and-go (eq-eqb f 1 one) (and-go (le-leb 10 (length r) k) (and-stop _ c)))
+
+          pub reg-so : 10 ≤ length r → resetTest sw ew r ≡ true → (x : Bool) → x ≡ enableTest sw (drop 9 r) → x ≡ regTest sw ew r
+          reg-so k c x q = with-reset (and-go (eq-eqb f 1 one) (and-go (le-leb 10 (length r) k) (and-go c q)))

@@ -1,22 +1,19 @@
 -- Counting the statements on each signal. Assumes nothing.
-use Prim.Native.Nat.{ℕ, zero, suc, _+_, _-_, _≤_, _<_, min}
+use Prim.Native.Nat.{ℕ, zero, suc, _+_, _≤_, _<_, min}
 use mathlib.Core.Path.{_≡_, refl, sym, _∙_, ap, subst}
 use mathlib.Core.Bool.{Bool, true, false, _&&_}
 use mathlib.Core.List.{List, [], _∷_}
 use native.Mathlib.Omega.{arith}
-use native.Mathlib.Nat.{not-suc-le-zero}
 use native.Mathlib.Decide.{decLt, ℕ-discrete}
 use lib.Dec.{eqb, leb}
-use lib.ListN.{length, getD, take, drop, set, replicate, length-set, length-drop}
-use lib.Seq.{getD-set-same, getD-set-other, set-out, length-take-le}
+use lib.ListN.{length, getD, set, replicate, length-set}
+use lib.Seq.{getD-set-same, getD-set-other, set-out}
 use borrow.Author.Tests.{le-leb, lt-leb, eq-eqb, ne-eqb}
-use mathlib.Core.Option.{Option, none, some}
+use mathlib.Core.Option.{Option, some}
 use Rattle.bits.specs.Bits.{pick}
 use Rattle.recorder.specs.Read.{Cut}
 use Rattle.simulation.specs.Wellformed.{drives, countOf, unsplit, behind}
-use Rattle.simulation.specs.Index.{fieldsAt, recordsIn, sizeAt}
 use Rattle.simulation.specs.Fault.{stands, Tallied}
-use Rattle.simulation.proofs.Steps.{leftFrom, left-next, left-out, left-end}
 
 -- zeros
 pub getD-zeros : (n i : ℕ) → _≡_ {A = ℕ} (getD (replicate n 0) i 0) 0

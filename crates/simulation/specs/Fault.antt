@@ -1,16 +1,20 @@
--- What the code's tests of single records say, from the record's fields.
-use Prim.Native.Nat.{ℕ, zero, suc, _+_, _-_, _^_, _<_, min}
+-- What the code's tests say, from the records' fields; what refuses a call before any loop is looked for.
+use Prim.Native.Nat.{ℕ, _+_, _^_, _<_, min}
 use mathlib.Core.Path.{_≡_}
-use mathlib.Core.Bool.{Bool, true, false, _&&_}
+use mathlib.Core.Bool.{Bool, true, _&&_}
 use mathlib.Core.List.{List, [], _∷_}
 use mathlib.Core.Option.{Option, none, some}
 use lib.Dec.{eqb, leb, ltb}
-use lib.ListN.{length, getD, drop}
+use lib.ListN.{length, getD, take, drop}
 use Rattle.bits.specs.Bits.{pick}
 use Rattle.recorder.specs.Read.{readSignal, readExpr, readStmt}
+use Rattle.recorder.specs.Record.{Model}
+use Rattle.recorder.specs.Lists.{Lists}
 use Rattle.simulation.specs.declared.Fault.{Fault}
 use Rattle.simulation.specs.declared.Fault.the-variants.{Fine, At}
-use Rattle.simulation.specs.Wellformed.{widths, countOf, drives, wide, inRange, earlier, widthSum, broad, suits, fits, firstFailing, signalFits, exprFits, stmtFits}
+use Rattle.simulation.specs.Index.{recordsIn, widthsIn, Listed}
+use Rattle.simulation.specs.Wellformed.{widths, countOf, drives, wide, inRange, earlier, widthSum, broad, suits, fits, firstFailing, signalFits, exprFits, stmtFits, orElse, malformed}
+use Rattle.simulation.specs.Run.{Call, callModel, total, short, noBit, wrongCount, wrongFired, firstOf, causes}
 
 -- the first faulty record
 abbrev pub faultOf : Fault → Option ℕ
@@ -63,6 +67,13 @@ eqTest ew n r = eqb (length r) 4 && (eqb (getD r 1 0) 1 && (ltb (getD r 2 0) n &
 abbrev pub exprFaultOf : ℕ → List (List ℕ) → List (List ℕ) → Option ℕ
 exprFaultOf widest ss es = firstFailing (exprTest widest (widths ss) (widths es)) 0 es
 
+-- tables of widths and the numbers of signals and of expressions, as the code hands them on
+pub record Widths (signals signalTable : List ℕ) (count : ℕ) (exprs exprTable : List ℕ) (n : ℕ) : Type 0 where
+  pub signals-listed : Listed (widthsIn signals) signalTable
+  pub signals-counted : count ≡ length (recordsIn signals)
+  pub exprs-listed : Listed (widthsIn exprs) exprTable
+  pub exprs-counted : n ≡ length (recordsIn exprs)
+
 -- the test of a statement, and the same for each kind
 abbrev pub stmtTest : List ℕ → List ℕ → List ℕ → Bool
 stmtTest sw ew r = fits (stmtFits sw ew) (readStmt r)
@@ -87,3 +98,52 @@ regTest sw ew r = leb 7 (length r) && (headTest sw ew r && pick (eqb (getD r 5 0
 
 abbrev pub stmtFaultOf : List (List ℕ) → List (List ℕ) → List (List ℕ) → Option ℕ
 stmtFaultOf ss es ts = firstFailing (λ (n : ℕ) r. stmtTest (widths ss) (widths es) r) 0 ts
+
+-- A CALL
+
+-- the widths of all records of a list together, and those of inputs
+abbrev pub secondField : List ℕ → ℕ
+secondField r = getD r 1 0
+
+abbrev pub widthTotal : List ℕ → ℕ
+widthTotal list = total secondField (recordsIn list)
+
+abbrev pub inputField : List ℕ → ℕ
+inputField r = pick (eqb (getD r 0 0) 0) (getD r 1 0) 0
+
+abbrev pub inputTotal : List ℕ → ℕ
+inputTotal list = total inputField (recordsIn list)
+
+-- buffers that are too short, and then bits that are none
+abbrev pub lengthCauses : List ℕ → List ℕ → List ℕ → List ℕ → List ℕ → List ℕ → List (Option (ℕ × ℕ))
+lengthCauses signals exprs bytes workBits workExprs workSignals =
+    short (widthTotal signals) bytes
+    ∷ short (widthTotal exprs) workBits
+    ∷ short (length (recordsIn exprs)) workExprs
+    ∷ short (length (recordsIn signals)) workSignals
+    ∷ []
+
+abbrev pub bitCauses : List ℕ → List ℕ → List ℕ → Option (ℕ × ℕ) → List (Option (ℕ × ℕ))
+bitCauses signals bytes ticks fired =
+    noBit 0 (take (widthTotal signals) bytes)
+    ∷ wrongCount (inputTotal signals) ticks
+    ∷ noBit 0 ticks
+    ∷ wrongFired (length (recordsIn signals)) fired
+    ∷ []
+
+abbrev pub callCauses : Call → Option (ℕ × ℕ)
+callCauses c =
+    orElse (firstOf (lengthCauses (c .lists .signals) (c .lists .exprs) (c .bytes) (c .workBits) (c .workExprs) (c .workSignals)))
+    (firstOf (bitCauses (c .lists .signals) (c .bytes) (c .ticks) (c .fired)))
+
+abbrev pub callOf : Lists → List ℕ → List ℕ → Option (ℕ × ℕ) → List ℕ → List ℕ → List ℕ → Call
+callOf l bytes ticks fired workBits workExprs workSignals =
+    record { lists = l; bytes = bytes; ticks = ticks; fired = fired; workBits = workBits; workExprs = workExprs; workSignals = workSignals }
+
+-- refusals 12, 1 and 14: all causes but the last, which is a loop
+abbrev pub checked : Model → Call → Option ℕ → Option (ℕ × ℕ)
+checked m c (some n) = some (12, n)
+checked m c none = firstOf (take 8 (causes m c))
+
+unfoldable pub checkedBy : ℕ → Call → Option (ℕ × ℕ)
+checkedBy widest c = checked (callModel c) c (malformed widest (c .lists))

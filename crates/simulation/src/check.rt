@@ -2,21 +2,22 @@
 use crate::Fault;
 use crate::index::count;
 use crate::index::field;
+use crate::index::fill;
 use crate::index::size;
 use crate::index::wide;
 use crate::index::width;
 ghost use mathlib.Core.Path.{_≡_};
 ghost use mathlib.Core.Bool.{Bool, true, false, _&&_};
-ghost use mathlib.Core.Option.{none};
-ghost use Prim.Native.Nat.{_+_, _≤_, _<_, _^_, min};
+ghost use mathlib.Core.Option.{none, some};
+ghost use Prim.Native.Nat.{ℕ, _+_, _≤_, _<_, _^_, min};
 ghost use lib.Dec.{leb, ltb, eqb};
 ghost use lib.ListN.{length, getD, set, drop};
 ghost use Rattle.bits.specs.Bits.{pick};
 ghost use Rattle.recorder.specs.Lists.{lists};
 ghost use Rattle.recorder.specs.Read.{readSignal, readExpr, readStmt};
-ghost use Rattle.simulation.specs.Wellformed.{drives, countOf, fits, signalFits, unsplitAll, inRange, earlier, widthSum, wide as wider, broad, suits};
+ghost use Rattle.simulation.specs.Wellformed.{drives, countOf, fits, signalFits, unsplitAll, inRange, earlier, widthSum, wide as wider, broad, suits, orElse, behind, malformed as malformedBy};
 ghost use Rattle.simulation.specs.Index.{fieldsAt, recordsIn, widthsIn, Listed};
-ghost use Rattle.simulation.specs.Fault.{faultOf, stands, Tallied, signalFaultOf, allWide, constTest, readTest, concatTest, fixedTest, muxTest, eqTest, exprTest, exprFaultOf, enableTest};
+ghost use Rattle.simulation.specs.Fault.{faultOf, stands, Tallied, signalFaultOf, allWide, constTest, readTest, concatTest, fixedTest, muxTest, eqTest, exprTest, exprFaultOf, Widths, headTest, resetTest, enableTest, regTest, stmtTest, stmtFaultOf};
 ghost use Rattle.simulation.specs.Run.{zeroed};
 
 // The first record that does not stand whole.
@@ -378,5 +379,420 @@ fn eq_fits(exprs: &[u32], table: &[u32], at: usize, size: usize, n: usize) -> bo
         n,
         field(exprs, at, size, 3),
         width(exprs, table, a),
+    )
+}
+
+// The expression at an index, which is number n.
+fn expr_fits(
+    exprs: &[u32],
+    table: &[u32],
+    at: usize,
+    size: usize,
+    n: usize,
+    signals: &[u32],
+    signal_table: &[u32],
+    count: usize,
+    widest: u32,
+) -> bool
+    requires { ⌜ Listed (widthsIn (now exprs)) (now table) × (n ≤ length (recordsIn (now exprs))) × (at + size ≤ length (now exprs)) × (0 < size) × Listed (widthsIn (now signals)) (now «signal_table») × (count ≡ length (recordsIn (now signals))) ⌝ }
+    ensures { λ r. ⌜ r ≡ exprTest widest (widthsIn (now (signals .entry))) (widthsIn (now (exprs .entry))) n (fieldsAt (now (exprs .entry)) at size) ⌝ }
+{
+    match field(exprs, at, size, 0) {
+        0 => const_fits(exprs, at, size, widest),
+        1 => read_fits(exprs, at, size, signals, signal_table, count, widest),
+        2 => concat_fits(exprs, table, at, size, n, widest),
+        3 => fixed_fits(exprs, table, at, size, n, 3, 1),
+        4 => fixed_fits(exprs, table, at, size, n, 4, 1),
+        5 => fixed_fits(exprs, table, at, size, n, 4, 1),
+        6 => fixed_fits(exprs, table, at, size, n, 4, 1),
+        7 => mux_fits(exprs, table, at, size, n, widest),
+        8 => eq_fits(exprs, table, at, size, n),
+        9 => fixed_fits(exprs, table, at, size, n, 4, 36),
+        _ => false,
+    }
+}
+
+// The first faulty expression.
+pub fn expr_fault(
+    exprs: &[u32],
+    table: &[u32],
+    signals: &[u32],
+    signal_table: &[u32],
+    count: usize,
+    widest: u32,
+) -> Fault
+    requires { ⌜ Listed (widthsIn (now exprs)) (now table) × Listed (widthsIn (now signals)) (now «signal_table») × (count ≡ length (recordsIn (now signals))) ⌝ }
+    ensures { λ r. ⌜ faultOf r ≡ exprFaultOf widest (recordsIn (now (signals .entry))) (recordsIn (now (exprs .entry))) ⌝ }
+{
+    let mut at: usize = 0;
+    let mut n: usize = 0;
+    while at < exprs.len() {
+        let size = size(exprs, at);
+        if size == 0 {
+            return Fault::Fine;
+        }
+        if !expr_fits(
+            exprs,
+            table,
+            at,
+            size,
+            n,
+            signals,
+            signal_table,
+            count,
+            widest,
+        ) {
+            return Fault::At(n);
+        }
+        at += size;
+        n += 1;
+    }
+    Fault::Fine
+}
+
+// Signal s is there and has one bit.
+fn control(signals: &[u32], table: &[u32], count: usize, s: u32) -> bool
+    requires { ⌜ Listed (widthsIn (now signals)) (now table) × (count ≡ length (recordsIn (now signals))) ⌝ }
+    ensures { λ r. ⌜ r ≡ broad (widthsIn (now (signals .entry))) s 1 ⌝ }
+{
+    let i = wide(s);
+    if i < count {
+        return width(signals, table, i) == 1;
+    }
+    false
+}
+
+// Signal t and expression e are there, and equally wide.
+fn suited(
+    signals: &[u32],
+    signal_table: &[u32],
+    count: usize,
+    exprs: &[u32],
+    table: &[u32],
+    n: usize,
+    t: u32,
+    e: u32,
+) -> bool
+    requires { ⌜ Widths (now signals) (now «signal_table») count (now exprs) (now table) n ⌝ }
+    ensures { λ r. ⌜ r ≡ suits (widthsIn (now (signals .entry))) (widthsIn (now (exprs .entry))) t e ⌝ }
+{
+    let i = wide(t);
+    if i < count {
+        return operand(exprs, table, n, e, width(signals, signal_table, i));
+    }
+    false
+}
+
+// The enable of a register, which stands from a field on.
+fn enable_fits(
+    stmts: &[u32],
+    at: usize,
+    size: usize,
+    from: usize,
+    signals: &[u32],
+    signal_table: &[u32],
+    count: usize,
+) -> bool
+    requires { ⌜ (at + size ≤ length (now stmts)) × (from < 100) × Listed (widthsIn (now signals)) (now «signal_table») × (count ≡ length (recordsIn (now signals))) ⌝ }
+    ensures { λ r. ⌜ r ≡ enableTest (widthsIn (now (signals .entry))) (drop from (fieldsAt (now (stmts .entry)) at size)) ⌝ }
+{
+    if size <= from + 1 {
+        return false;
+    }
+    let left = size - 1 - from;
+    let given = field(stmts, at, size, from);
+    if given == 0 {
+        return left == 1;
+    }
+    if given != 1 {
+        return false;
+    }
+    if left != 3 {
+        return false;
+    }
+    if !control(
+        signals,
+        signal_table,
+        count,
+        field(stmts, at, size, from + 1),
+    ) {
+        return false;
+    }
+    field(stmts, at, size, from + 2) <= 1
+}
+
+// The target and the next value, the clock and the edge of a register.
+fn head_fits(
+    stmts: &[u32],
+    at: usize,
+    size: usize,
+    signals: &[u32],
+    signal_table: &[u32],
+    count: usize,
+    exprs: &[u32],
+    table: &[u32],
+    n: usize,
+) -> bool
+    requires { ⌜ (at + size ≤ length (now stmts)) × Widths (now signals) (now «signal_table») count (now exprs) (now table) n ⌝ }
+    ensures { λ r. ⌜ r ≡ headTest (widthsIn (now (signals .entry))) (widthsIn (now (exprs .entry))) (fieldsAt (now (stmts .entry)) at size) ⌝ }
+{
+    if !suited(
+        signals,
+        signal_table,
+        count,
+        exprs,
+        table,
+        n,
+        field(stmts, at, size, 1),
+        field(stmts, at, size, 2),
+    ) {
+        return false;
+    }
+    if !control(signals, signal_table, count, field(stmts, at, size, 3)) {
+        return false;
+    }
+    field(stmts, at, size, 4) <= 1
+}
+
+// The reset of a register.
+fn reset_fits(
+    stmts: &[u32],
+    at: usize,
+    size: usize,
+    signals: &[u32],
+    signal_table: &[u32],
+    count: usize,
+    exprs: &[u32],
+    table: &[u32],
+    n: usize,
+) -> bool
+    requires { ⌜ (at + size ≤ length (now stmts)) × Widths (now signals) (now «signal_table») count (now exprs) (now table) n ⌝ }
+    ensures { λ r. ⌜ r ≡ resetTest (widthsIn (now (signals .entry))) (widthsIn (now (exprs .entry))) (fieldsAt (now (stmts .entry)) at size) ⌝ }
+{
+    if !control(signals, signal_table, count, field(stmts, at, size, 6)) {
+        return false;
+    }
+    if field(stmts, at, size, 7) > 1 {
+        return false;
+    }
+    suited(
+        signals,
+        signal_table,
+        count,
+        exprs,
+        table,
+        n,
+        field(stmts, at, size, 1),
+        field(stmts, at, size, 8),
+    )
+}
+
+// A register, at an index.
+fn reg_fits(
+    stmts: &[u32],
+    at: usize,
+    size: usize,
+    signals: &[u32],
+    signal_table: &[u32],
+    count: usize,
+    exprs: &[u32],
+    table: &[u32],
+    n: usize,
+) -> bool
+    requires { ⌜ (at + size ≤ length (now stmts)) × Widths (now signals) (now «signal_table») count (now exprs) (now table) n ⌝ }
+    ensures { λ r. ⌜ r ≡ regTest (widthsIn (now (signals .entry))) (widthsIn (now (exprs .entry))) (fieldsAt (now (stmts .entry)) at size) ⌝ }
+{
+    if size < 8 {
+        return false;
+    }
+    if !head_fits(
+        stmts,
+        at,
+        size,
+        signals,
+        signal_table,
+        count,
+        exprs,
+        table,
+        n,
+    ) {
+        return false;
+    }
+    let given = field(stmts, at, size, 5);
+    if given == 0 {
+        return enable_fits(stmts, at, size, 6, signals, signal_table, count);
+    }
+    if given != 1 {
+        return false;
+    }
+    if size < 11 {
+        return false;
+    }
+    if !reset_fits(
+        stmts,
+        at,
+        size,
+        signals,
+        signal_table,
+        count,
+        exprs,
+        table,
+        n,
+    ) {
+        return false;
+    }
+    enable_fits(stmts, at, size, 9, signals, signal_table, count)
+}
+
+// The statement at an index.
+fn stmt_fits(
+    stmts: &[u32],
+    at: usize,
+    size: usize,
+    signals: &[u32],
+    signal_table: &[u32],
+    count: usize,
+    exprs: &[u32],
+    table: &[u32],
+    n: usize,
+) -> bool
+    requires { ⌜ (at + size ≤ length (now stmts)) × Widths (now signals) (now «signal_table») count (now exprs) (now table) n × (0 < size) ⌝ }
+    ensures { λ r. ⌜ r ≡ stmtTest (widthsIn (now (signals .entry))) (widthsIn (now (exprs .entry))) (fieldsAt (now (stmts .entry)) at size) ⌝ }
+{
+    let kind = field(stmts, at, size, 0);
+    if kind == 1 {
+        return reg_fits(
+            stmts,
+            at,
+            size,
+            signals,
+            signal_table,
+            count,
+            exprs,
+            table,
+            n,
+        );
+    }
+    if kind != 0 {
+        return false;
+    }
+    if size != 4 {
+        return false;
+    }
+    suited(
+        signals,
+        signal_table,
+        count,
+        exprs,
+        table,
+        n,
+        field(stmts, at, size, 1),
+        field(stmts, at, size, 2),
+    )
+}
+
+// The first faulty statement.
+pub fn stmt_fault(
+    stmts: &[u32],
+    signals: &[u32],
+    signal_table: &[u32],
+    count: usize,
+    exprs: &[u32],
+    table: &[u32],
+    n: usize,
+) -> Fault
+    requires { ⌜ Widths (now signals) (now «signal_table») count (now exprs) (now table) n ⌝ }
+    ensures { λ r. ⌜ faultOf r ≡ stmtFaultOf (recordsIn (now (signals .entry))) (recordsIn (now (exprs .entry))) (recordsIn (now (stmts .entry))) ⌝ }
+{
+    let mut at: usize = 0;
+    let mut k: usize = 0;
+    while at < stmts.len() {
+        let size = size(stmts, at);
+        if size == 0 {
+            return Fault::Fine;
+        }
+        if !stmt_fits(
+            stmts,
+            at,
+            size,
+            signals,
+            signal_table,
+            count,
+            exprs,
+            table,
+            n,
+        ) {
+            return Fault::At(k);
+        }
+        at += size;
+        k += 1;
+    }
+    Fault::Fine
+}
+
+// The first fault, or else the second, behind k records.
+fn first(a: Fault, k: usize, b: Fault) -> Fault
+    requires { ⌜ ((n : ℕ) → faultOf b ≡ some n → k + n < 18446744073709551616) ⌝ }
+    ensures { λ r. ⌜ faultOf r ≡ orElse (faultOf a) (behind k (faultOf b)) ⌝ }
+{
+    match a {
+        Fault::At(n) => Fault::At(n),
+        Fault::Fine => match b {
+            Fault::At(n) => Fault::At(k + n),
+            Fault::Fine => Fault::Fine,
+        },
+    }
+}
+
+// The first faulty record of three lists, with tables of the signals' and the expressions' widths and of the statements on each signal.
+fn first_fault(
+    signals: &[u32],
+    signal_table: &[u32],
+    exprs: &[u32],
+    expr_table: &[u32],
+    stmts: &[u32],
+    bytes: &[u8],
+    widest: u32,
+) -> Fault
+    requires { ⌜ Listed (widthsIn (now signals)) (now «signal_table») × Listed (widthsIn (now exprs)) (now «expr_table») × Tallied (recordsIn (now stmts)) (now bytes) ⌝ }
+    ensures { λ r. ⌜ faultOf r ≡ malformedBy widest (lists (now (signals .entry)) (now (exprs .entry)) (now (stmts .entry))) ⌝ }
+{
+    let signals_counted = count(signals);
+    let s = signals_counted.count;
+    let exprs_counted = count(exprs);
+    let e = exprs_counted.count;
+    let cut = unsplit(signals, exprs, stmts);
+    let a = signal_fault(signals, stmts, bytes, widest);
+    let b = expr_fault(exprs, expr_table, signals, signal_table, s, widest);
+    let c = stmt_fault(stmts, signals, signal_table, s, exprs, expr_table, e);
+    first(cut, 0, first(a, s, first(b, e, c)))
+}
+
+// Refusal 12: the first faulty record. Fills the tables of widths; the bytes count the statements on each signal. The longer the tables, the
+// fewer lists are walked.
+pub fn malformed(
+    signals: &[u32],
+    signal_table: &mut [u32],
+    exprs: &[u32],
+    expr_table: &mut [u32],
+    stmts: &[u32],
+    bytes: &mut [u8],
+    widest: u32,
+) -> Fault
+    ensures fault { λ r. ⌜ faultOf r ≡ malformedBy widest (lists (now (signals .entry)) (now (exprs .entry)) (now (stmts .entry))) ⌝ }
+    ensures signals { λ r. ⌜ Listed (widthsIn (now (signals .entry))) (now («signal_table» .exit)) ⌝ }
+    ensures exprs { λ r. ⌜ Listed (widthsIn (now (exprs .entry))) (now («expr_table» .exit)) ⌝ }
+{
+    fill(signals, signal_table);
+    fill(exprs, expr_table);
+    tally(stmts, bytes);
+    first_fault(
+        signals,
+        signal_table,
+        exprs,
+        expr_table,
+        stmts,
+        bytes,
+        widest,
     )
 }

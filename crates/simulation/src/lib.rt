@@ -1,4 +1,5 @@
 // The run of a model: one call is one tick.
+mod call;
 mod check;
 pub mod index;
 

@@ -1,8 +1,8 @@
 use native.Mathlib.Omega.{arith}
-use mathlib.Core.Path.{_≡_, refl, sym, ap, subst, _∙_}
+use mathlib.Core.Path.{_≡_, sym, ap, _∙_}
 use mathlib.Core.List.{List}
-use Prim.Native.Nat.{ℕ, _+_, _-_, _≤_, _<_}
-use lib.ListN.{length, getD}
+use Prim.Native.Nat.{ℕ, _+_, _≤_}
+use lib.ListN.{length}
 use Rattle.simulation.specs.Wellformed.{statements}
 use Rattle.simulation.specs.Index.{fieldsAt}
 use Rattle.simulation.proofs.Faults.{signal-other, signal-unknown, signal-narrow, signal-broad, signal-counted, statements-some}

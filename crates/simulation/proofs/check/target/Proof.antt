@@ -1,20 +1,8 @@
 use Rattle.simulation.proofs.Offsets.{fields-count}
 use native.Mathlib.Omega.{arith}
-use mathlib.Core.Path.{_≡_, refl, sym, ap, subst, _∙_}
-use mathlib.Core.List.{List, [], _∷_, _++_, append-nil}
-use mathlib.Core.Option.{Option, none, some}
-use mathlib.Core.Bool.{Bool, true, false}
-use Prim.Native.Nat.{ℕ, _+_, _-_, _≤_, _<_, min}
-use lib.Seq.{set-out}
-use lib.ListN.{length, getD, set, drop, replicate, length-set, List·getD-eq-default, drop-of-length-le}
-use borrow.Author.Tests.{not-true, not-false}
-use borrow.Author.Fill.{fill-none, fill-more}
-use Rattle.recorder.specs.Lists.{lists}
-use Rattle.recorder.specs.Read.{Cut, split}
-use Rattle.simulation.specs.Wellformed.{unsplitAll, unsplit, behind}
-use Rattle.simulation.specs.Index.{sizeAt, sizeOf, fieldsAt, recordsIn, widthsIn, offset}
-use Rattle.simulation.proofs.Tally.{stands-short, stands-not, stands-so, target-none, target-some, Tallying, tallying-start, tallying-more, tallying-end}
-use Rattle.simulation.proofs.Steps.{Walked, leftFrom, within, left-next, left-out, left-end, records-count}
+use mathlib.Core.Path.{_∙_}
+use Rattle.simulation.specs.Index.{fieldsAt}
+use Rattle.simulation.proofs.Tally.{stands-short, stands-not, stands-so, target-none, target-some}
 use borrow.Author.Needs.{needs}
 use Rattle.simulation.proofs.check.target.Statement.{statement}
 use Rattle.simulation.proofs.check.target.Tie as tie

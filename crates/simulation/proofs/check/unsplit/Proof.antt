@@ -1,7 +1,7 @@
-use mathlib.Core.Option.{Option, none}
+use mathlib.Core.Option.{none}
 use Rattle.simulation.specs.Wellformed.{unsplit}
 use native.Mathlib.Omega.{arith}
-use mathlib.Core.Path.{_≡_, refl, sym, ap, subst, _∙_}
+use mathlib.Core.Path.{refl}
 use borrow.Author.Tests.{not-true, not-false}
 use Rattle.recorder.specs.Read.{split}
 use Rattle.simulation.proofs.Steps.{records-count}

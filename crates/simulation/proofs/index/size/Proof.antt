@@ -1,6 +1,6 @@
 use native.Mathlib.Omega.{arith}
-use mathlib.Core.Path.{_≡_, refl, sym, ap, subst, _∙_}
-use Rattle.simulation.specs.Index.{sizeAt, sizeOf, fieldsAt, recordsIn, widthsIn, offset}
+use mathlib.Core.Path.{sym, ap, _∙_}
+use Rattle.simulation.specs.Index.{sizeOf}
 use Rattle.recorder.proofs.Reading.{record-within}
 use borrow.Author.Needs.{needs}
 use Rattle.simulation.proofs.index.size.Statement.{statement}

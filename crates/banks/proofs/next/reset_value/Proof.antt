@@ -1,0 +1,35 @@
+use native.Mathlib.Omega.{arith}
+use Rattle.banks.specs.Members.{membersIn}
+use Rattle.banks.proofs.NextBits.{loaded}
+use borrow.Author.Needs.{needs}
+use Rattle.banks.proofs.next.reset_value.Statement.{statement}
+use Rattle.banks.proofs.next.reset_value.Tie as tie
+use Rattle.banks.proofs.next.reset_value.Reads as reads
+use Rattle.banks.proofs.next.reset_value.Lts as lts
+use Rattle.banks.proofs.next.reset_bits.Reads as reset-bits-reads
+use Rattle.wires.proofs.expressions.concat_parts.Reads as concat-parts-reads
+
+-- src/next.rt:196:5
+reset-bits-requires : tie.Need-reset-bits-requires
+reset-bits-requires c κs = search needs
+
+-- src/next.rt:197:5
+concat-parts-requires : tie.Need-concat-parts-requires
+concat-parts-requires c κs = search needs
+
+-- src/next.rt:184:1
+same-length : tie.Need-same-length
+same-length c = search needs
+
+-- src/next.rt:184:1
+same-length-2 : tie.Need-same-length-2
+same-length-2 c = search needs
+
+-- src/next.rt:184:1
+returns : tie.Need-returns
+returns c = loaded (c .before .before .before .before .before .before .before .reset-bits .last .0) (membersIn (c .before .before .before .before .before .before .before .before .before .before .before .before .before .args .words .now) (c .before .before .before .before .before .before .before .before .before .before .before .before .before .args .bank-of .now) (c .before .before .before .before .before .before .before .before .before .before .before .before .before .args .scan)) (omega (arith, c .before .before .before .before .before .before .before .before .before .before .before .before .before .pre .0, c .before .before .before .before .before .before .before .reset-bits .kept .0)) (c .before .before .before .before .before .before .before .reset-bits .ensures) (c .before .before .concat-parts .ensures)
+
+pub reset-value-spec : {M : Type 1} → statement M
+reset-value-spec =
+    tie.close
+    (tie.spec reset-bits-requires concat-parts-requires same-length same-length-2 returns)

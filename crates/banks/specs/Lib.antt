@@ -1,0 +1,5 @@
+-- The specs of banks.
+pub mod Banked
+pub mod Members
+pub mod Reserved
+pub mod Emits

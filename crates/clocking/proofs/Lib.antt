@@ -1,0 +1,2 @@
+-- The laws of clocking.
+pub mod Each

@@ -1,0 +1,23 @@
+-- The balanced mux of a list of candidates, with two work slices.
+use mathlib.Core.List.{List, map}
+use Prim.Native.Nat.{ℕ}
+use lib.Dec.{leb}
+use lib.ListN.{length}
+use Rattle.bits.specs.Bits.{pick}
+use Rattle.recorder.specs.Writer.{Count, Out, Writer, refuse}
+use Rattle.wires.specs.Expressions.{roomy}
+use Rattle.memories.specs.declared.AddressMuxNode.{AddressMuxNode}
+use Rattle.memories.specs.AddressMux.{balancedAddressMux}
+use Rattle.memories.specs.Candidates.{nodeOf}
+
+-- both work slices have a word for each candidate, or the call is refused: work slices, words' width, candidates, the expression of zero
+abbrev pub muxOfNodes : List ℕ → List ℕ → ℕ → List AddressMuxNode → ℕ → Writer ℕ
+muxOfNodes ms vs width ns e = roomy (length ns) ms (roomy (length ns) vs (balancedAddressMux width (map nodeOf ns) e))
+
+-- how many of n candidates are copied into slices of these lengths: all or none
+unfoldable pub toCopy : ℕ → ℕ → ℕ → ℕ
+toCopy n a b = pick (leb n a) (pick (leb n b) n 0) 0
+
+-- n candidates are no more than an array holds, or the call is refused
+unfoldable pub atMost : {A : Type 0} → ℕ → ℕ → Writer A → Writer A
+atMost most n w = pick (leb n most) w (refuse 1 n)

@@ -1,0 +1,85 @@
+// The balanced address mux on a lent slice of its nodes: a thin layer over the function on two number slices.
+use memories::AddressMuxNode;
+use memories::address_mux::balanced_address_mux;
+use recorder::Emitted;
+use recorder::ExprId;
+use recorder::Tapes;
+use refusal::Refusal;
+ghost use mathlib.Core.Path.{_≡_};
+ghost use Prim.Native.Nat.{_≤_};
+ghost use lib.ListN.{take};
+ghost use Rattle.recorder.specs.Lists.{WroteExprs, emitted};
+ghost use Rattle.nodes.specs.Nodes.{muxOfNodes, toCopy, atMost};
+
+// How many of n nodes are copied: all, if both slices have room for them, or none.
+fn to_copy(n: usize, a: usize, b: usize) -> usize
+    ensures { λ r. ⌜ r ≡ toCopy n a b ⌝ }
+{
+    if a < n {
+        return 0;
+    }
+    if b < n {
+        return 0;
+    }
+    n
+}
+
+// The nodes' numbers go into the two slices, and the mux is made there. Slices without room are refused there.
+pub fn balanced_address_mux_of_nodes(
+    exprs: &mut [u32],
+    nodes: &[AddressMuxNode],
+    matched: &mut [u32],
+    value: &mut [u32],
+    t: Tapes,
+    width: u32,
+    zero: ExprId,
+) -> Emitted
+    ensures { λ r. ⌜ WroteExprs (now (exprs .entry)) t (muxOfNodes (now (matched .entry)) (now (value .entry)) width (now (nodes .entry)) (zero .0)) (emitted r) (now (exprs .exit)) ⌝ }
+{
+    let n = nodes.len();
+    let m = to_copy(n, matched.len(), value.len());
+    let mut i = 0;
+    while i < m {
+        let d = nodes[i];
+        matched[i] = d.matched.0;
+        value[i] = d.value.0;
+        i = i + 1;
+    }
+    balanced_address_mux(exprs, matched, value, t, n, width, zero)
+}
+
+// An array of nodes goes by value; here its first n are lent.
+fn lend_nodes(
+    exprs: &mut [u32],
+    nodes: [AddressMuxNode; 16384],
+    n: usize,
+    matched: &mut [u32],
+    value: &mut [u32],
+    t: Tapes,
+    width: u32,
+    zero: ExprId,
+) -> Emitted
+    requires { ⌜ n ≤ 16384 ⌝ }
+    ensures { λ r. ⌜ WroteExprs (now (exprs .entry)) t (muxOfNodes (now (matched .entry)) (now (value .entry)) width (take n nodes) (zero .0)) (emitted r) (now (exprs .exit)) ⌝ }
+{
+    balanced_address_mux_of_nodes(exprs, &nodes[..n], matched, value, t, width, zero)
+}
+
+// The first n nodes of an array; it holds as many as the deepest block RAM has words. More than it holds are refused.
+pub fn balanced_address_mux_of_array(
+    exprs: &mut [u32],
+    nodes: [AddressMuxNode; 16384],
+    n: usize,
+    matched: &mut [u32],
+    value: &mut [u32],
+    t: Tapes,
+    width: u32,
+    zero: ExprId,
+) -> Emitted
+    ensures { λ r. ⌜ WroteExprs (now (exprs .entry)) t (atMost 16384 n (muxOfNodes (now (matched .entry)) (now (value .entry)) width (take n nodes) (zero .0))) (emitted r) (now (exprs .exit)) ⌝ }
+{
+    if n > 16384 {
+        return Emitted::Refused(Refusal::BufferTooShort(n));
+    }
+    lend_nodes(exprs, nodes, n, matched, value, t, width, zero)
+}
