@@ -6,3 +6,4 @@ pub mod Records
 pub mod Fields
 pub mod Scans
 pub mod Sorted
+pub mod Touching

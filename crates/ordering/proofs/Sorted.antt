@@ -31,7 +31,7 @@ left-other marks e (suc n) h =
     let d : n ≡ e → ⊥ = λ p. omega (arith, p, h) in
     ap (λ (x : ℕ). pick (leb 1 x) 0 1 + left (set marks e 1) n) (getD-set-other marks e n 1 0 d) ∙ ap (λ (x : ℕ). pick (marked marks n) 0 1 + x) (left-other marks e n (omega (arith, h)))
 
-left-set : (marks : List ℕ) (e n : ℕ) → e < n → e < length marks → marked marks e ≡ false → suc (left (set marks e 1) n) ≡ left marks n
+pub left-set : (marks : List ℕ) (e n : ℕ) → e < n → e < length marks → marked marks e ≡ false → suc (left (set marks e 1) n) ≡ left marks n
 left-set marks e zero h q f = absurd (not-suc-le-zero h)
 left-set marks e (suc n) h q f = go (ℕ-discrete n e) (λ (p : e < n). left-set marks e n p q f)
   where

@@ -3,3 +3,4 @@ pub mod Order
 pub mod Marks
 pub mod Words
 pub mod Sorts
+pub mod Loops

@@ -52,7 +52,7 @@ fn any_marked(exprs: &[u32], at: usize, n: usize, marks: &[u8]) -> bool
 }
 
 // The expression that is assigned to a signal is marked; `none` where there is none.
-fn driver_marked(stmts: &[u32], drivers: &[u32], marks: &[u8], s: usize, none: bool) -> bool
+pub fn driver_marked(stmts: &[u32], drivers: &[u32], marks: &[u8], s: usize, none: bool) -> bool
     requires { ⌜ Driven (now stmts) (now drivers) ⌝ }
     ensures { λ r. ⌜ r ≡ driverMarked (now (stmts .entry)) (now (marks .entry)) s none ⌝ }
 {
