@@ -53,7 +53,7 @@ read-count g (r ∷ rs) t = ap length (read-cons g r rs (t .0 .as-this) (t .0 .r
 abbrev needsBy : Model → List ℕ → List ℕ
 needsBy m r = pick (eqb (getD r 0 0) 0) [] (pick (eqb (getD r 0 0) 1) (listed (given assigns (m .stmts) (getD r 2 0))) (drop 2 r))
 
-needs-words : (m : Model) (x : Expr) → needsOf m x ≡ needsBy m (tail (exprWords x))
+needs-words : (m : Model) (x : Expr) → needsOf (m .stmts) x ≡ needsBy m (tail (exprWords x))
 needs-words m (const w v) = refl
 needs-words m (read w s l) = refl
 needs-words m (concat w ps) = refl

@@ -248,7 +248,7 @@ module _ (rs : List (List ℕ)) (y : ℕ) where
   through-kind (mul i j) k = inr (through-two i j k)
 
   -- what goes for the signals of what x needs goes for those that x reads
-  pub by-needs : (m : Model) (G : ℕ → Type 0) (x : Expr) → ((d : ℕ) → Mem d (needsOf m x) → Mem y (getD rs d []) → G y) → ((s : ℕ) → y ≡ s → ((d : ℕ) → Mem d (listed (given assigns (m .stmts) s)) → Mem d (needsOf m x)) → G y) → Mem y (readsExpr rs x) → G y
+  pub by-needs : (m : Model) (G : ℕ → Type 0) (x : Expr) → ((d : ℕ) → Mem d (needsOf (m .stmts) x) → Mem y (getD rs d []) → G y) → ((s : ℕ) → y ≡ s → ((d : ℕ) → Mem d (listed (given assigns (m .stmts) s)) → Mem d (needsOf (m .stmts) x)) → G y) → Mem y (readsExpr rs x) → G y
   by-needs m G (const w v) f g k = absurd (not-nil k)
   by-needs m G (read w s l) f g k = g s (singleton k) (λ d q. q)
   by-needs m G (concat w ps) f g k = let t = through-joined ps k in f (t .0) (t .1) (t .2)
@@ -261,7 +261,7 @@ module _ (rs : List (List ℕ)) (y : ℕ) where
   by-needs m G (mul i j) f g k = let t = through-two i j k in f (t .0) (t .1) (t .2)
 
 -- what is needed is an operand, or drives a signal that is read
-needs-cases : (m : Model) (rs : List (List ℕ)) (x : Expr) (d : ℕ) → Mem d (needsOf m x) → Mem d (operands x) ⊎ ((s : ℕ) × Mem s (readsExpr rs x) × Mem d (listed (given assigns (m .stmts) s)))
+needs-cases : (m : Model) (rs : List (List ℕ)) (x : Expr) (d : ℕ) → Mem d (needsOf (m .stmts) x) → Mem d (operands x) ⊎ ((s : ℕ) × Mem s (readsExpr rs x) × Mem d (listed (given assigns (m .stmts) s)))
 needs-cases m rs (const w v) d k = inl k
 needs-cases m rs (read w s l) d k = inr (s, here refl, k)
 needs-cases m rs (concat w ps) d k = inl k
@@ -274,7 +274,7 @@ needs-cases m rs (eq i j) d k = inl k
 needs-cases m rs (mul i j) d k = inl k
 
 past-none : (m : Model) (e : ℕ) → length (m .exprs) ≤ e → needs m e ≡ []
-past-none m e h = ap (needsOf m) (List·getD-eq-default (m .exprs) (const 0 0) h)
+past-none m e h = ap (needsOf (m .stmts)) (List·getD-eq-default (m .exprs) (const 0 0) h)
 
 module _ (widest : ℕ) (m : Model) (sound : Sound widest m) where
   abbrev rs : List (List ℕ)

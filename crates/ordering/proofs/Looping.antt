@@ -31,7 +31,7 @@ backed-none m s n = record { leads = λ e h. absurd (false≢true (subst (λ (k 
 -- the kind of an expression: a read, or one that needs its operands
 pub data Shape (m : Model) : Expr → Type 0 where
   reads : (w s l : ℕ) → Shape m (read w s l)
-  other : {x : Expr} → needsOf m x ≡ operands x → ((s : ℕ) → readsIt s x ≡ false) → Shape m x
+  other : {x : Expr} → needsOf (m .stmts) x ≡ operands x → ((s : ℕ) → readsIt s x ≡ false) → Shape m x
 
 shape : (m : Model) (x : Expr) → Shape m x
 shape m (const w v) = other refl (λ s. refl)
@@ -61,21 +61,21 @@ module _ (widest : ℕ) (m : Model) (sound : Sound widest m) (s : ℕ) where
       go (some a) p z (inl q) = edge (subst (λ (t : Option ℕ). Mem s (readsBy rs t)) (sym p) (subst (λ (b : ℕ). Mem s (getD rs b [])) (singleton z) q))
       go (some a) p z (inr t) = more (subst (λ (u : Option ℕ). Mem (t .0) (readsBy rs u)) (sym p) (subst (λ (b : ℕ). Mem (t .0) (getD rs b [])) (singleton z) (t .1))) (t .2)
 
-  leads-kind : (v : Expr) → Shape m v → (marks : List ℕ) → Backed m s marks → (readsIt s v || any (marked marks) (needsOf m v)) ≡ true → Mem s (readsExpr rs v) ⊎ ((y : ℕ) × Mem y (readsExpr rs v) × Way (Reads (depends m)) y s)
+  leads-kind : (v : Expr) → Shape m v → (marks : List ℕ) → Backed m s marks → (readsIt s v || any (marked marks) (needsOf (m .stmts) v)) ≡ true → Mem s (readsExpr rs v) ⊎ ((y : ℕ) × Mem y (readsExpr rs v) × Way (Reads (depends m)) y s)
   leads-kind v (reads w y l) marks b h = go (or-true (eqb y s) (any (marked marks) (listed (given assigns (m .stmts) y))) h)
     where
       go : (eqb y s ≡ true) ⊎ (any (marked marks) (listed (given assigns (m .stmts) y)) ≡ true) → Mem s (y ∷ []) ⊎ ((z : ℕ) × Mem z (y ∷ []) × Way (Reads (depends m)) z s)
       go (inl p) = inl (here (sym (eqb-true y s p)))
       go (inr q) = let r = any-out (marked marks) (listed (given assigns (m .stmts) y)) q in inr (y, here refl, way-by y (r .0) (r .1) (b .leads (r .0) (r .2)))
-  leads-kind v (other n p) marks b h = go (or-true (readsIt s v) (any (marked marks) (needsOf m v)) h)
+  leads-kind v (other n p) marks b h = go (or-true (readsIt s v) (any (marked marks) (needsOf (m .stmts) v)) h)
     where
       through : (a : ℕ) → Mem a (operands v) → Leads m s a → Mem s (readsExpr rs v) ⊎ ((y : ℕ) × Mem y (readsExpr rs v) × Way (Reads (depends m)) y s)
       through a k (inl q) = inl (operand-reads rs s v a k q)
       through a k (inr t) = inr (t .0, operand-reads rs (t .0) v a k (t .1), t .2)
 
-      go : (readsIt s v ≡ true) ⊎ (any (marked marks) (needsOf m v) ≡ true) → Mem s (readsExpr rs v) ⊎ ((y : ℕ) × Mem y (readsExpr rs v) × Way (Reads (depends m)) y s)
+      go : (readsIt s v ≡ true) ⊎ (any (marked marks) (needsOf (m .stmts) v) ≡ true) → Mem s (readsExpr rs v) ⊎ ((y : ℕ) × Mem y (readsExpr rs v) × Way (Reads (depends m)) y s)
       go (inl q) = clash (readsIt s v) q (p s)
-      go (inr q) = let r = any-out (marked marks) (needsOf m v) q in through (r .0) (subst (λ (l : List ℕ). Mem (r .0) l) n (r .1)) (b .leads (r .0) (r .2))
+      go (inr q) = let r = any-out (marked marks) (needsOf (m .stmts) v) q in through (r .0) (subst (λ (l : List ℕ). Mem (r .0) l) n (r .1)) (b .leads (r .0) (r .2))
 
   leads-at : (marks : List ℕ) (e : ℕ) → e < length (m .exprs) → Backed m s marks → touched m marks s e ≡ true → Leads m s e
   leads-at marks e h b t = go (leads-kind (x e) (shape m (x e)) marks b t)
@@ -106,15 +106,15 @@ module _ (widest : ℕ) (m : Model) (sound : Sound widest m) (s : ℕ) where
         go (inl y) = y
         go (inr n) = clash (touched m marks s e) t (full .none-touched e h n)
 
-    hit-kind : (v : Expr) → Shape m v → (y : ℕ) → Mem y (readsExpr rs v) → Hit y → ((a : ℕ) → Mem a (operands v) → Mem y (getD rs a []) → marked marks a ≡ true) → (readsIt s v || any (marked marks) (needsOf m v)) ≡ true
+    hit-kind : (v : Expr) → Shape m v → (y : ℕ) → Mem y (readsExpr rs v) → Hit y → ((a : ℕ) → Mem a (operands v) → Mem y (getD rs a []) → marked marks a ≡ true) → (readsIt s v || any (marked marks) (needsOf (m .stmts) v)) ≡ true
     hit-kind v (reads w z l) y k (inl p) f = or-left (eqb z s) (any (marked marks) (listed (given assigns (m .stmts) z))) (eq-eqb z s (sym (singleton k) ∙ p))
     hit-kind v (reads w z l) y k (inr t) f =
         or-right (eqb z s) (any (marked marks) (listed (given assigns (m .stmts) z))) (any-in (marked marks) (listed (given assigns (m .stmts) z)) (t .0) (subst (λ (a : ℕ). Mem (t .0) (listed (given assigns (m .stmts) a))) (singleton k) (t .1)) (t .2))
     hit-kind v (other n p) y k h f = go (through-kind rs y v k)
       where
-        go : (readsIt y v ≡ true) ⊎ ((a : ℕ) × Mem a (operands v) × Mem y (getD rs a [])) → (readsIt s v || any (marked marks) (needsOf m v)) ≡ true
+        go : (readsIt y v ≡ true) ⊎ ((a : ℕ) × Mem a (operands v) × Mem y (getD rs a [])) → (readsIt s v || any (marked marks) (needsOf (m .stmts) v)) ≡ true
         go (inl q) = clash (readsIt y v) q (p y)
-        go (inr r) = or-right (readsIt s v) (any (marked marks) (needsOf m v)) (any-in (marked marks) (needsOf m v) (r .0) (subst (λ (l : List ℕ). Mem (r .0) l) (sym n) (r .1)) (f (r .0) (r .1) (r .2)))
+        go (inr r) = or-right (readsIt s v) (any (marked marks) (needsOf (m .stmts) v)) (any-in (marked marks) (needsOf (m .stmts) v) (r .0) (subst (λ (l : List ℕ). Mem (r .0) l) (sym n) (r .1)) (f (r .0) (r .1) (r .2)))
 
     -- an expression that reads such a signal is marked
     hit-marked : (k e y : ℕ) → e < k → Mem y (getD rs e []) → Hit y → marked marks e ≡ true

@@ -67,7 +67,7 @@ module _ (widest : ℕ) (m : Model) (sound : Sound widest m) where
       go none q z = absurd (not-nil z)
       go (some e) q z = let w = driver-there s e q in omega (arith, singleton z)
 
-  kinds-there : (x : Expr) (e : ℕ) → e < length (m .exprs) → ((d : ℕ) → Mem d (operands x) → d < e) → (d : ℕ) → Mem d (needsOf m x) → d < length (m .exprs)
+  kinds-there : (x : Expr) (e : ℕ) → e < length (m .exprs) → ((d : ℕ) → Mem d (operands x) → d < e) → (d : ℕ) → Mem d (needsOf (m .stmts) x) → d < length (m .exprs)
   kinds-there (const w v) e h f d k = absurd (not-nil k)
   kinds-there (read w s l) e h f d k = listed-there s d k
   kinds-there (concat w ps) e h f d k = let z = f d k in omega arith
