@@ -157,7 +157,7 @@ module _ (widest : ℕ) (m : Model) (sound : Sound widest m) where
   pub needs-below : (e : ℕ) → e < length (m .exprs) → (d : ℕ) → Mem d (operands (getD (m .exprs) e (const 0 0))) → d < e
   needs-below e h d k =
       let fit : exprFits widest (signalWidths m) (exprWidths m) e (getD (m .exprs) e (const 0 0)) ≡ true
-              = subst (λ (j : ℕ). exprFits widest (signalWidths m) (exprWidths m) j (getD (m .exprs) e (const 0 0)) ≡ true) (omega arith) (all-at (exprFits widest (signalWidths m) (exprWidths m)) 0 (m .exprs) (const 0 0) (sound .exprs-fit) e h) in
+      = subst (λ (j : ℕ). exprFits widest (signalWidths m) (exprWidths m) j (getD (m .exprs) e (const 0 0)) ≡ true) (omega arith) (all-at (exprFits widest (signalWidths m) (exprWidths m)) 0 (m .exprs) (const 0 0) (sound .exprs-fit) e h) in
       operands-below widest (signalWidths m) (exprWidths m) e (getD (m .exprs) e (const 0 0)) fit d k
 
 -- FROM EXPRESSIONS TO SIGNALS

@@ -108,9 +108,9 @@ sorting-more m n marks order k e p q a s =
       reached = reached-more m marks e (s .reached) (b .1);
       counted = let c = s .counted in omega (arith, c, l);
       noted = λ h. subst (λ (i : ℕ). Noted m (set marks e 1) (set order k e) i) g
-        (let h′ : n ≤ length order = subst (λ (i : ℕ). n ≤ i) (length-set order k e) h in
-         let c = s .counted in
-         noted-more m marks order k e (omega (arith, c, l, h′)) (s .noted h′) (b .1));
+          (let h′ : n ≤ length order = subst (λ (i : ℕ). n ≤ i) (length-set order k e) h in
+          let c = s .counted in
+          noted-more m marks order k e (omega (arith, c, l, h′)) (s .noted h′) (b .1));
     }
 
 pub sorting-bound : {m : Model} {n : ℕ} {marks order : List ℕ} {k : ℕ} → Sorting m n marks order k → k ≤ n

@@ -2,18 +2,25 @@
 use Prim.Native.Nat.{ℕ, zero, suc, _+_, _≤_, _<_}
 use mathlib.Core.Path.{_≡_, refl, sym, _∙_, ap, subst}
 use mathlib.Core.Bool.{Bool, true, false, not, _||_, false≢true, true≢false}
-use mathlib.Core.List.{List, [], _∷_}
+use mathlib.Core.List.{List, [], _∷_, List·Memᴰ as Mem, List·Memᴰ·head as here, List·Memᴰ·not-nil as not-nil, List·Memᴰ·eq-of-singleton as singleton}
+use mathlib.Core.Option.{Option, none, some}
 use native.Mathlib.Omega.{arith}
 use native.Mathlib.Nat.{not-suc-le-zero}
 use native.Mathlib.Decide.{ℕ-discrete}
-use lib.ListN.{length, getD, set, length-set}
+use lib.ListN.{length, getD, set, replicate, length-set}
 use Rattle.bits.specs.Bits.{pick}
 use Rattle.recorder.specs.Record.{Model}
+use Rattle.settle.specs.Walk.{Way}
+use Rattle.settle.specs.Loop.{Reads, lowest-on-loop-only}
+use Rattle.simulation.specs.Tick.{given, assigns, depends, looped}
 use Rattle.simulation.specs.Sound.{Sound}
+use Rattle.simulation.proofs.Bounds.{reads-under}
 use Rattle.ordering.specs.Marks.{marked, touched, Backed, Full, left}
-use Rattle.ordering.specs.Loops.{finds, Touch, Touches}
+use Rattle.ordering.specs.Order.{listed}
+use Rattle.ordering.specs.Words.{markOf}
+use Rattle.ordering.specs.Loops.{finds, Touch, Touches, Found, OnLoop}
 use Rattle.ordering.proofs.Sorted.{left-set}
-use Rattle.ordering.proofs.Looping.{backed-more}
+use Rattle.ordering.proofs.Looping.{backed-none, backed-more, marked-loop, loop-marked}
 
 finds-new : (m : Model) (s : ℕ) (marks : List ℕ) (e : ℕ) → finds m s marks e ≡ true → (marked marks e ≡ false) × (touched m marks s e ≡ true)
 finds-new m s marks e h = go (marked marks e) refl h
@@ -90,6 +97,64 @@ touch-none {b = b} q h = record { found = sym (no b h) ∙ q; marks-are = refl }
 
 pub touch-more : {m : Model} {s : ℕ} {marks : List ℕ} {e : ℕ} {b : Bool} → b ≡ finds m s marks e → not b ≡ false → Touch m s marks e true (set marks e 1)
 touch-more {b = b} q h = record { found = sym (yes b h) ∙ q; marks-are = refl }
+  where
+    yes : (c : Bool) → not c ≡ false → c ≡ true
+    yes true z = refl
+    yes false z = sym z
+
+-- ON A LOOP
+
+by-mark : (marks : List ℕ) (o : Option ℕ) → markOf marks false o ≡ true → (d : ℕ) × Mem d (listed o) × (marked marks d ≡ true)
+by-mark marks none h = absurd (false≢true h)
+by-mark marks (some d) h = (d, here refl, h)
+
+not-by-mark : (marks : List ℕ) (o : Option ℕ) → markOf marks false o ≡ false → (d : ℕ) → Mem d (listed o) → marked marks d ≡ true → ⊥
+not-by-mark marks none h d k t = not-nil k
+not-by-mark marks (some e) h d k t = false≢true (sym h ∙ sym (ap (marked marks) (singleton k)) ∙ t)
+
+pub on-loop-by : (widest : ℕ) {m : Model} (sound : Sound widest m) {s : ℕ} {marks : List ℕ} {r : Bool} → Found m s marks → r ≡ markOf marks false (given assigns (m .stmts) s) → OnLoop m s r
+on-loop-by widest {m} sound {s} {marks} {r} f q =
+    record {
+      is = λ h. let t = by-mark marks (given assigns (m .stmts) s) (sym q ∙ h) in marked-loop widest m sound s marks (f .backed) (t .0) (t .1) (t .2);
+      not = λ h w. let t = loop-marked widest m sound s marks (f .full) w in not-by-mark marks (given assigns (m .stmts) s) (sym q ∙ h) (t .0) (t .1) (t .2);
+    }
+
+-- none of the first s
+pub record Unlooped (m : Model) (s : ℕ) : Type 0 where
+  pub none-below : (y : ℕ) → y < s → Way (Reads (depends m)) y y → ⊥
+
+pub unlooped-none : (m : Model) → Unlooped m 0
+unlooped-none m = record { none-below = λ y h. absurd (not-suc-le-zero h) }
+
+pub unlooped-more : {m : Model} {s : ℕ} {r : Bool} → Unlooped m s → OnLoop m s r → r ≡ false → Unlooped m (s + 1)
+unlooped-more {m} {s} u o h = record { none-below = λ y p w. go y p w (ℕ-discrete y s) }
+  where
+    go : (y : ℕ) → y < s + 1 → Way (Reads (depends m)) y y → Dec (y ≡ s) → ⊥
+    go y p w (yes q) = o .not h (subst (λ (z : ℕ). Way (Reads (depends m)) z z) q w)
+    go y p w (no q) = u .none-below y (omega (arith, p, q)) w
+
+pub lowest-found : (widest : ℕ) {m : Model} (sound : Sound widest m) {s : ℕ} {r : Bool} → Unlooped m s → s < length (m .signals) → OnLoop m s r → r ≡ true → some s ≡ looped m
+unfolding looped
+lowest-found widest {m} sound {s} u h o t = sym (lowest-on-loop-only (depends m) (length (m .signals)) (reads-under widest m sound) (some s) (h, o .is t, u .none-below))
+
+pub none-found : (widest : ℕ) {m : Model} (sound : Sound widest m) {s : ℕ} → Unlooped m s → length (m .signals) ≤ s → none ≡ looped m
+unfolding looped
+none-found widest {m} sound {s} u h = sym (lowest-on-loop-only (depends m) (length (m .signals)) (reads-under widest m sound) none (λ y p w. u .none-below y (omega (arith, p, h)) w))
+
+-- PASS AFTER PASS
+
+pub backed-zeroed : {m : Model} {s : ℕ} (marks : List ℕ) {marks′ : List ℕ} → marks′ ≡ replicate (length marks) 0 → Backed m s marks′
+backed-zeroed {m} {s} marks e = subst (λ (l : List ℕ). Backed m s l) (sym e) (backed-none m s (length marks))
+
+pub found-end : {m : Model} {n s : ℕ} {marks marks′ : List ℕ} {r : Bool} → Touches m n s marks r marks′ → not r ≡ true → Found m s marks′
+found-end {r = r} t h = record { backed = t .backed; full = t .full (no r h) }
+  where
+    no : (c : Bool) → not c ≡ true → c ≡ false
+    no true z = sym z
+    no false z = refl
+
+pub found-less : {m : Model} {n s : ℕ} {marks marks′ : List ℕ} {r : Bool} → Touches m n s marks r marks′ → not r ≡ false → left marks′ n < left marks n
+found-less {r = r} t h = t .fewer (yes r h)
   where
     yes : (c : Bool) → not c ≡ false → c ≡ true
     yes true z = refl

@@ -1,6 +1,6 @@
 // The run of a model: one call is one tick.
 mod call;
-mod check;
+pub mod check;
 pub mod index;
 
 use recorder::SignalId;
