@@ -72,15 +72,17 @@ module _ (N : ℕ) where
     und-all n [] d hd h = hd
     und-all n (e ∷ es) d hd h = und-all (suc n) es (d ++ (readsExpr d e ∷ [])) (und-snoc d (readsExpr d e) hd (und-reads n e d hd (h .0))) (h .1)
 
+-- of every expression
+pub reads-there : (widest : ℕ) (m : Model) → Sound widest m → (e y : ℕ) → Mem y (getD (readsAll [] (m .exprs)) e []) → y < length (m .signals)
+reads-there widest m h e y k =
+    und-all (length (m .signals)) widest (signalWidths m) (exprWidths m) (length-map (m .signals) (λ (s : Signal). s .width)) 0 (m .exprs) [] (λ i z q. absurd (not-nil q)) (h .exprs-fit) e y k
+
 pub reads-under : (widest : ℕ) (m : Model) → Sound widest m → DepsUnder (length (m .signals)) (depends m)
 reads-under widest m h x y p = go (given assigns (m .stmts) x)
   where
-    all-under : AllUnd (length (m .signals)) (readsAll [] (m .exprs))
-    all-under = und-all (length (m .signals)) widest (signalWidths m) (exprWidths m) (length-map (m .signals) (λ (s : Signal). s .width)) 0 (m .exprs) [] (λ i z k. absurd (not-nil k)) (h .exprs-fit)
-
     go : (o : Option ℕ) → Mem y (readsBy (readsAll [] (m .exprs)) o) → y < length (m .signals)
     go none k = absurd (not-nil k)
-    go (some e) k = all-under e y k
+    go (some e) k = reads-there widest m h e y k
 
 -- VALUES HAVE THEIR WIDTHS
 

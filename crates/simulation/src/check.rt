@@ -65,7 +65,7 @@ fn bump(table: &mut [u8], i: usize)
     }
 }
 
-fn zero_bytes(table: &mut [u8])
+pub fn zero_bytes(table: &mut [u8])
     ensures { λ _. ⌜ now (table .exit) ≡ zeroed (now (table .entry)) ⌝ }
 {
     let mut i = 0;
