@@ -1,9 +1,5 @@
 // The run of a model: one call is one tick.
-<<<<<<< HEAD
 pub mod call;
-=======
-mod call;
->>>>>>> a73f439f05a0538abe18ec7406457620cb20644e
 pub mod check;
 pub mod index;
 
