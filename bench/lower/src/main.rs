@@ -1,0 +1,235 @@
+//! The time of one call of the proved lowering, from words to lists, beside the Rust's on the same netlist.
+//!
+//! The Rust is timed twice: from words to a judged model (its own reader, the
+//! stand-ins' types, lowering, refusals 2 and 11), and lowering alone on a
+//! netlist that stands ready in its own types. The proved lowering is lent
+//! lists of just the words used, since it clears all that it is lent; its five
+//! works are cleared by each call too. All three answers must be equal.
+
+use std::hint::black_box;
+use std::time::Instant;
+
+use celox::recorder::{self, Recording};
+use lower::{lower_netlist, mapped_netlist};
+use netlist::{Bit, BlockRam, Cell, Control, Direction, Edge, Limits, Netlist, Port};
+
+const WORK: usize = 16_384;
+
+unsafe extern "C" {
+    fn reamerpoppy_lower(
+        words: *const u32,
+        words_len: usize,
+        signals: *mut u32,
+        signals_len: usize,
+        exprs: *mut u32,
+        exprs_len: usize,
+        stmts: *mut u32,
+        stmts_len: usize,
+        wires: *mut u32,
+        wires_len: usize,
+        places: *mut u32,
+        places_len: usize,
+        parts: *mut u32,
+        parts_len: usize,
+        values: *mut u32,
+        values_len: usize,
+        banks: *mut u32,
+        banks_len: usize,
+    ) -> usize;
+}
+
+/// The refusal's number, 0 when accepted. The function has no `requires`.
+fn proved(words: &[u32], lists: &mut [Vec<u32>; 3], works: &mut [Vec<u32>; 5]) -> usize {
+    let [s, e, t] = lists;
+    let [a, b, c, d, f] = works;
+    unsafe {
+        reamerpoppy_lower(
+            words.as_ptr(),
+            words.len(),
+            s.as_mut_ptr(),
+            s.len(),
+            e.as_mut_ptr(),
+            e.len(),
+            t.as_mut_ptr(),
+            t.len(),
+            a.as_mut_ptr(),
+            a.len(),
+            b.as_mut_ptr(),
+            b.len(),
+            c.as_mut_ptr(),
+            c.len(),
+            d.as_mut_ptr(),
+            d.len(),
+            f.as_mut_ptr(),
+            f.len(),
+        )
+    }
+}
+
+fn by_rust(words: &[u32]) -> Recording {
+    let netlist = netlist::read_words(words, &Limits::BASE).expect("a netlist");
+    lower_netlist(&netlist, [usize::MAX; 3]).expect("accepted")
+}
+
+/// Microseconds of a call: the least mean of five rounds of at least 0.2 s.
+fn time(mut call: impl FnMut()) -> f64 {
+    call();
+    let start = Instant::now();
+    call();
+    let once = start.elapsed().as_secs_f64().max(1e-7);
+    let calls = (0.2 / once).ceil() as u32;
+    (0..5)
+        .map(|_| {
+            let start = Instant::now();
+            for _ in 0..calls {
+                call();
+            }
+            start.elapsed().as_secs_f64() / f64::from(calls) * 1e6
+        })
+        .fold(f64::INFINITY, f64::min)
+}
+
+struct Times {
+    proved: f64,
+    rust: f64,
+    alone: f64,
+}
+
+fn measure(netlist: &Netlist) -> (Recording, Times) {
+    let words = netlist::write(netlist);
+    let recording = by_rust(&words);
+    let mut lists = recording.words.each_ref().map(|words| vec![1; words.len()]);
+    let mut works: [Vec<u32>; 5] = std::array::from_fn(|_| vec![1; WORK]);
+    assert_eq!(proved(&words, &mut lists, &mut works), 0, "accepted");
+    assert!(lists == recording.words, "the same records");
+    let mapped = mapped_netlist(netlist);
+    let times = Times {
+        proved: time(|| {
+            black_box(proved(&words, &mut lists, &mut works));
+        }),
+        rust: time(|| {
+            black_box(by_rust(&words));
+        }),
+        alone: time(|| {
+            black_box(struo_celox::ecp5_frontend_artifact(&mapped).is_ok());
+            black_box(recorder::take());
+        }),
+    };
+    (recording, times)
+}
+
+struct Rng(u64);
+
+impl Rng {
+    fn below(&mut self, n: usize) -> usize {
+        self.0 = self.0.wrapping_mul(6_364_136_223_846_793_005).wrapping_add(1);
+        (self.0 >> 33) as usize % n
+    }
+}
+
+/// Two LUT4s, a CCU2C of a carry chain and a flip-flop in every four cells, over earlier wires.
+fn logic(cells: usize) -> Netlist {
+    let mut rng = Rng(cells as u64);
+    let clock = 0;
+    let mut wires: Vec<u32> = (1..33).collect();
+    let ports = vec![
+        Port { direction: Direction::Input, bits: vec![Bit::Wire(clock)] },
+        Port { direction: Direction::Input, bits: wires.iter().map(|&w| Bit::Wire(w)).collect() },
+    ];
+    let mut next = 33;
+    let mut carry = Bit::Zero;
+    let mut netlist = Netlist { ports, cells: Vec::new() };
+    for index in 0..cells {
+        let mut pick = || Bit::Wire(wires[wires.len() - 1 - rng.below(wires.len().min(200))]);
+        let (cell, made) = match index % 4 {
+            0 | 1 => {
+                let inputs = [pick(), pick(), pick(), pick()];
+                (Cell::Lut4 { inputs, output: next, init: (rng.below(65_536)) as u16 }, 1)
+            }
+            2 => {
+                let mut row = || [pick(), pick(), Bit::One, Bit::One];
+                let cell = Cell::Ccu2c {
+                    inputs: [row(), row()],
+                    carry_in: carry,
+                    sums: [next, next + 1],
+                    carry_out: next + 2,
+                    init: [0x96aa; 2],
+                    inject: [false; 2],
+                };
+                carry = Bit::Wire(next + 2);
+                (cell, 3)
+            }
+            _ => {
+                let cell = Cell::FlipFlop {
+                    data: pick(),
+                    output: next,
+                    clock: Bit::Wire(clock),
+                    edge: Edge::Rising,
+                    enable: None,
+                    reset: None,
+                };
+                (cell, 1)
+            }
+        };
+        netlist.cells.push(cell);
+        wires.extend(next..next + made);
+        next += made;
+    }
+    let shown = wires[wires.len() - 32..].iter().map(|&wire| Bit::Wire(wire)).collect();
+    netlist.ports.push(Port { direction: Direction::Output, bits: shown });
+    netlist
+}
+
+/// One block RAM of this depth, four bits wide, on one port.
+fn ram(depth: u32) -> Netlist {
+    let bit = |wire| Bit::Wire(wire);
+    let ports = vec![
+        Port { direction: Direction::Input, bits: (0..34).map(bit).collect() },
+        Port { direction: Direction::Input, bits: vec![bit(34)] },
+        Port { direction: Direction::Output, bits: (40..44).map(bit).collect() },
+    ];
+    let cell = Cell::BlockRam(Box::new(BlockRam {
+        depth,
+        word_width: 4,
+        physical_width: 1,
+        write_address: std::array::from_fn(|i| bit(i as u32)),
+        write: Control { signal: bit(28), active_high: true },
+        read_address: std::array::from_fn(|i| bit(14 + i as u32)),
+        read_enable: None,
+        clock_enable: None,
+        clock: bit(34),
+        edge: Edge::Rising,
+        data: (29..33).map(bit).collect(),
+        read: (40..44).collect(),
+        second: None,
+    }));
+    Netlist { ports, cells: vec![cell] }
+}
+
+fn table(name: &str, sizes: &[u32], make: impl Fn(u32) -> Netlist) {
+    println!("{name:>10} {:>9} {:>11} {:>11} {:>11} {:>7} {:>7} {:>9}", "words", "proved us", "Rust us", "alone us", "/Rust", "/alone", "per twice");
+    let mut before: Option<(u32, f64)> = None;
+    for &size in sizes {
+        let (recording, times) = measure(&make(size));
+        let words: usize = recording.words.iter().map(Vec::len).sum();
+        // growth for twice the size, from the step before
+        let growth = before.map_or(String::new(), |(small, time)| {
+            let doublings = (f64::from(size) / f64::from(small)).log2();
+            format!("{:.2}", (times.proved / time).powf(1.0 / doublings))
+        });
+        let Times { proved, rust, alone } = times;
+        println!(
+            "{size:>10} {words:>9} {proved:>11.1} {rust:>11.1} {alone:>11.1} {:>7.2} {:>7.2} {growth:>9}",
+            proved / rust,
+            proved / alone
+        );
+        before = Some((size, proved));
+    }
+}
+
+fn main() {
+    recorder::keep(usize::MAX);
+    table("cells", &[100, 500, 1_000, 2_000, 4_000], |cells| logic(cells as usize));
+    println!();
+    table("RAM depth", &[1_024, 2_048, 4_096, 8_192, 16_384], ram);
+}

@@ -1,0 +1,2 @@
+-- The laws of capi.
+pub mod Coded
