@@ -16,7 +16,7 @@ use Rattle.bits.specs.Bits.{pick, Bits, binary, number, lowest, window, differ,
 use Rattle.settle.specs.Table.{at, tabFrom, length-tab, getD-tab}
 use Rattle.settle.specs.Tests.{and-left, and-right}
 use Rattle.settle.specs.Loop.{LowestOnLoop, DepsUnder}
-use Rattle.recorder.specs.Record.{Signal, Expr, Model}
+use Rattle.recorder.specs.Record.{Signal, Expr, Stmt, Model}
 use Rattle.recorder.specs.Record.{const, read, concat, not, and, or, xor, mux, eq, mul}
 use Rattle.recorder.specs.Evaluate.{Signals, joinedParts, evalExpr, evalAll}
 use Rattle.simulation.specs.Wellformed.{wide, inRange, earlier, widthSum, exprFits}
@@ -25,7 +25,8 @@ use Rattle.simulation.specs.Settled.{IsSettled}
 use Rattle.simulation.specs.Sound.{AllFrom, Sound, signalWidths, exprWidths}
 use Rattle.simulation.proofs.Settles.{settled-is-settle, looped-says}
 use Rattle.simulation.proofs.Bounds.{reads-under}
-use Rattle.evaluation.specs.Consistent.{assigned, stored, exprAt, computed, Right, Consistent, Settling, ConsistentSettles, operands, signalsOf, oneOf, driversOf, needsOf, needs}
+use Rattle.ordering.specs.Order.{listed, needsOf, needs}
+use Rattle.evaluation.specs.Consistent.{assigned, stored, exprAt, computed, Right, Consistent, Settling, ConsistentSettles, operands, signalsOf}
 
 -- WHAT A VALUE DEPENDS ON
 
@@ -55,23 +56,41 @@ module _ (v w : Signals) (a b : List Bits) where
   same-value (mul i j) g q = two-same (λ x y. binary 36 (number x * number y)) i j g
 
 -- what an assigned signal has depends on its expression's value
-become-same : (a b : List Bits) (o : Option ℕ) (old : Bits) → ((e : ℕ) → Mem e (oneOf o) → getD a e [] ≡ getD b e []) → become a o old ≡ become b o old
+become-same : (a b : List Bits) (o : Option ℕ) (old : Bits) → ((e : ℕ) → Mem e (listed o) → getD a e [] ≡ getD b e []) → become a o old ≡ become b o old
 become-same a b none old g = refl
 become-same a b (some e) old g = g e (here refl)
 
-drivers-have : (choice : ℕ → Option ℕ) (ss : List ℕ) (s e : ℕ) → Mem s ss → Mem e (oneOf (choice s)) → Mem e (driversOf choice ss)
-drivers-have choice [] s e p q = absurd (not-nil p)
-drivers-have choice (x ∷ ss) s e p q = go (cases-cons p) (drivers-have choice ss s e)
-  where
-    go : (s ≡ x) ⊎ Mem s ss → (Mem s ss → Mem e (oneOf (choice s)) → Mem e (driversOf choice ss)) → Mem e (oneOf (choice x) ++ driversOf choice ss)
-    go (inl r) ih = mem-left (driversOf choice ss) (subst (λ (y : ℕ). Mem e (oneOf (choice y))) r q)
-    go (inr r) ih = mem-right (oneOf (choice x)) (ih r q)
+-- an expression needs its operands
+operand-needed : (ts : List Stmt) (x : Expr) (y : ℕ) → Mem y (operands x) → Mem y (needsOf ts x)
+operand-needed ts (const w v) y p = p
+operand-needed ts (read w s l) y p = absurd (not-nil p)
+operand-needed ts (concat w ps) y p = p
+operand-needed ts (not a) y p = p
+operand-needed ts (and a b) y p = p
+operand-needed ts (or a b) y p = p
+operand-needed ts (xor a b) y p = p
+operand-needed ts (mux w s t f) y p = p
+operand-needed ts (eq a b) y p = p
+operand-needed ts (mul a b) y p = p
+
+-- and what is assigned to the signal that it reads
+driver-needed : (ts : List Stmt) (x : Expr) (s y : ℕ) → Mem s (signalsOf x) → Mem y (listed (given assigns ts s)) → Mem y (needsOf ts x)
+driver-needed ts (const w v) s y p q = absurd (not-nil p)
+driver-needed ts (read w r l) s y p q = subst (λ (t : ℕ). Mem y (listed (given assigns ts t))) (singleton p) q
+driver-needed ts (concat w ps) s y p q = absurd (not-nil p)
+driver-needed ts (not a) s y p q = absurd (not-nil p)
+driver-needed ts (and a b) s y p q = absurd (not-nil p)
+driver-needed ts (or a b) s y p q = absurd (not-nil p)
+driver-needed ts (xor a b) s y p q = absurd (not-nil p)
+driver-needed ts (mux w a b c) s y p q = absurd (not-nil p)
+driver-needed ts (eq a b) s y p q = absurd (not-nil p)
+driver-needed ts (mul a b) s y p q = absurd (not-nil p)
 
 -- values that agree on what an expression needs give it the same value
 pub same-computed : (m : Model) (old a b : List Bits) (e : ℕ) → ((y : ℕ) → Mem y (needs m e) → getD a y [] ≡ getD b y []) → computed m old a e ≡ computed m old b e
 same-computed m old a b e g =
-    same-value (assigned m old a) (assigned m old b) a b x (λ y k. g y (mem-left (driversOf choice (signalsOf x)) k))
-    (λ s k. become-same a b (choice s) (getD old s []) (λ y q. g y (mem-right (operands x) (drivers-have choice (signalsOf x) s y k q))))
+    same-value (assigned m old a) (assigned m old b) a b x (λ y k. g y (operand-needed (m .stmts) x y k))
+    (λ s k. become-same a b (choice s) (getD old s []) (λ y q. g y (driver-needed (m .stmts) x s y k q)))
   where
     x : Expr
     x = exprAt m e

@@ -1,8 +1,8 @@
 -- Values of all expressions that agree with one another: what a settling in any order reaches.
 use Prim.Native.Nat.{ℕ, _<_}
 use mathlib.Core.Path.{_≡_}
-use mathlib.Core.List.{List, [], _∷_, _++_}
-use mathlib.Core.Option.{Option, none, some}
+use mathlib.Core.List.{List, [], _∷_}
+use mathlib.Core.Option.{none}
 use lib.ListN.{length, getD}
 use Rattle.bits.specs.Bits.{Bits}
 use Rattle.settle.specs.Table.{tabFrom}
@@ -46,7 +46,7 @@ pub record Settling (m : Model) (old vs : List Bits) : Type 0 where
 abbrev pub ConsistentSettles : Type 0
 ConsistentSettles = (widest : ℕ) (m : Model) (old vs : List Bits) → Sound widest m → length old ≡ length (m .signals) → Consistent m old vs → Settling m old vs
 
--- WHAT AN EXPRESSION NEEDS
+-- WHAT AN EXPRESSION IS COMPUTED FROM
 
 -- the operands of a record
 abbrev pub operands : Expr → List ℕ
@@ -73,18 +73,3 @@ signalsOf (xor a b) = []
 signalsOf (mux w s t f) = []
 signalsOf (eq a b) = []
 signalsOf (mul a b) = []
-
-abbrev pub oneOf : Option ℕ → List ℕ
-oneOf none = []
-oneOf (some e) = e ∷ []
-
-abbrev pub driversOf : (ℕ → Option ℕ) → List ℕ → List ℕ
-driversOf choice [] = []
-driversOf choice (s ∷ ss) = oneOf (choice s) ++ driversOf choice ss
-
--- the expressions whose values it is computed from
-abbrev pub needsOf : Model → Expr → List ℕ
-needsOf m x = operands x ++ driversOf (given assigns (m .stmts)) (signalsOf x)
-
-abbrev pub needs : Model → ℕ → List ℕ
-needs m e = needsOf m (exprAt m e)
