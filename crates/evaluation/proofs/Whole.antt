@@ -123,7 +123,7 @@ module _ (l : List ℕ) (k : ℕ) (q : k < length (recordsIn l)) where
 
 -- EXPRESSION e OF A PREPARED MODEL
 
-module _ {signals exprs stmts exprTable signalTable driverTable : List ℕ} (p : Prepared signals exprs stmts exprTable signalTable driverTable) where
+module _ {signals exprs stmts exprTable signalTable : List ℕ} (p : Prepared signals exprs stmts exprTable signalTable) where
   abbrev m : Model
   m = modelIn signals exprs stmts
 

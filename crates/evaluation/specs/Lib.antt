@@ -1,3 +1,4 @@
 pub mod Consistent
 pub mod Bytes
 pub mod Ready
+pub mod Ticks

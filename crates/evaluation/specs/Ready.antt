@@ -12,7 +12,7 @@ use Rattle.recorder.specs.Words.{rawOf}
 use Rattle.recorder.specs.Read.{readExpr, readAll, modelOf}
 use Rattle.recorder.specs.Evaluate.{Signals, evalExpr}
 use Rattle.simulation.specs.Wellformed.{exprFits, firstFault}
-use Rattle.simulation.specs.Index.{recordsIn, widthsIn, offset, Indexed, Driven}
+use Rattle.simulation.specs.Index.{recordsIn, widthsIn, offset, Indexed}
 use Rattle.evaluation.specs.Bytes.{Holds}
 use Rattle.evaluation.specs.Consistent.{computed}
 
@@ -43,13 +43,12 @@ pub record Evaluated (exprs : List ℕ) (e : ℕ) (values values′ : List ℕ) 
 abbrev pub modelIn : List ℕ → List ℕ → List ℕ → Model
 modelIn signals exprs stmts = modelOf (rawOf (lists signals exprs stmts))
 
--- a model without a fault, and tables of the offsets of its expressions and signals and of what is assigned to signals
-pub record Prepared (signals exprs stmts exprTable signalTable driverTable : List ℕ) : Type 0 where
+-- a model without a fault, and tables of the offsets of its expressions and signals
+pub record Prepared (signals exprs stmts exprTable signalTable : List ℕ) : Type 0 where
   pub widest : ℕ
   pub faultless : firstFault widest (rawOf (lists signals exprs stmts)) ≡ none
   pub expr-offsets : Indexed (widthsIn exprs) exprTable
   pub signal-offsets : Indexed (widthsIn signals) signalTable
-  pub drivers-are : Driven stmts driverTable
 
 -- every signal has room in the bytes, and every expression in the values
 pub record Room (signals exprs bytes values : List ℕ) : Type 0 where

@@ -17,7 +17,7 @@ ghost use mathlib.Core.Bool.{Bool};
 ghost use Prim.Native.Nat.{ℕ, _+_, _≤_, _<_};
 ghost use lib.ListN.{length, getD, set};
 ghost use Rattle.bits.specs.Bits.{digit};
-ghost use Rattle.simulation.specs.Index.{recordsIn, widthsIn, offset as sumTo, startOf, Indexed, Starts};
+ghost use Rattle.simulation.specs.Index.{recordsIn, widthsIn, offset as sumTo, startOf, Indexed, Starts, Driven};
 ghost use Rattle.evaluation.specs.Ready.{Ready, Evaluated, Prepared, Room, Computed};
 
 // Where the value of an operand begins, whose number is word i.
@@ -162,7 +162,7 @@ fn eval_read(
     e: usize,
     values: &mut [u8],
 )
-    requires { ⌜ Prepared (now signals) (now exprs) (now stmts) (now «expr_table») (now «signal_table») (now «driver_table») × Room (now signals) (now exprs) (now bytes) (now values) × (e < length (recordsIn (now exprs))) × (at ≡ startOf (now exprs) e) × (getD (now exprs) (at + 1) 0 ≡ 1) ⌝ }
+    requires { ⌜ Prepared (now signals) (now exprs) (now stmts) (now «expr_table») (now «signal_table») × Room (now signals) (now exprs) (now bytes) (now values) × (e < length (recordsIn (now exprs))) × (at ≡ startOf (now exprs) e) × (getD (now exprs) (at + 1) 0 ≡ 1) × Driven (now stmts) (now «driver_table») ⌝ }
     ensures { λ _. ⌜ Computed (now (signals .entry)) (now (exprs .entry)) (now (stmts .entry)) (now (bytes .entry)) e (now (values .entry)) (now (values .exit)) ⌝ }
 {
     let to = offset(exprs, expr_table, e);
@@ -194,7 +194,7 @@ pub fn eval_expr(
     e: usize,
     values: &mut [u8],
 )
-    requires { ⌜ Prepared (now signals) (now exprs) (now stmts) (now «expr_table») (now «signal_table») (now «driver_table») × Starts (now exprs) (now starts) × Room (now signals) (now exprs) (now bytes) (now values) × (e < length (recordsIn (now exprs))) ⌝ }
+    requires { ⌜ Prepared (now signals) (now exprs) (now stmts) (now «expr_table») (now «signal_table») × Starts (now exprs) (now starts) × Room (now signals) (now exprs) (now bytes) (now values) × (e < length (recordsIn (now exprs))) × Driven (now stmts) (now «driver_table») ⌝ }
     ensures { λ _. ⌜ Computed (now (signals .entry)) (now (exprs .entry)) (now (stmts .entry)) (now (bytes .entry)) e (now (values .entry)) (now (values .exit)) ⌝ }
 {
     let at = start(exprs, starts, e);

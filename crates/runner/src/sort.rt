@@ -12,7 +12,7 @@ ghost use Rattle.ordering.specs.Words.{modelIn, Tabled};
 ghost use Rattle.ordering.specs.Sorts.{Step, Sorts, SortsAll};
 
 // Expression e can be marked, and is not yet.
-fn adds_one(
+pub fn adds_one(
     exprs: &[u32],
     starts: &[u32],
     stmts: &[u32],
