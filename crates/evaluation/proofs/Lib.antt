@@ -7,3 +7,4 @@ pub mod Answers
 pub mod Joining
 pub mod Whole
 pub mod Preparing
+pub mod Storing
