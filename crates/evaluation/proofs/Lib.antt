@@ -7,3 +7,4 @@ pub mod Answers
 pub mod Joining
 pub mod Whole
 pub mod Storing
+pub mod Committing
