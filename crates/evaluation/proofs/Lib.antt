@@ -8,3 +8,4 @@ pub mod Joining
 pub mod Whole
 pub mod Preparing
 pub mod Storing
+pub mod Committing
