@@ -6,3 +6,4 @@ pub mod Evaluating
 pub mod Answers
 pub mod Joining
 pub mod Whole
+pub mod Settling

@@ -136,7 +136,7 @@ module _ {signals exprs stmts exprTable signalTable : List ℕ} (p : Prepared si
   pub exprs-wide : widthsIn exprs ≡ exprWidths (modelIn signals exprs stmts)
   exprs-wide = expr-widths (p .widest) (rawOf (lists signals exprs stmts)) (p .faultless)
 
-  all-read : EachReads readExpr (recordsIn exprs)
+  pub all-read : EachReads readExpr (recordsIn exprs)
   all-read = exprs-read (p .widest) (rawOf (lists signals exprs stmts)) (p .faultless)
 
   module _ {e : ℕ} (q : e < length (recordsIn exprs)) where

@@ -2,3 +2,4 @@ pub mod Consistent
 pub mod Bytes
 pub mod Ready
 pub mod Ticks
+pub mod Settling
