@@ -170,9 +170,12 @@ module _ {signals exprs stmts exprTable signalTable : List ℕ} (p : Prepared si
 
         now : (old : List Bits) (behind : List ℕ) → Holds (widthsIn signals) old behind bytes → (vs : List Bits) × (rest : List ℕ) × Holds (widthsIn exprs) vs rest values × ((x : ℕ) → x < length (modelIn signals exprs stmts .exprs) → S x → Right (modelIn signals exprs stmts) old vs x)
             → (vs : List Bits) × (rest : List ℕ) × Holds (widthsIn exprs) vs rest values′ × ((x : ℕ) → x < length (modelIn signals exprs stmts .exprs) → T x → Right (modelIn signals exprs stmts) old vs x)
-        now old behind h r =
-            (set (r .0) e (computed m old (r .0) e), r .1, c .computed-holds old (r .0) behind (r .1) h (r .2),
-            λ x l t. right-more m old (r .0) S (o .closed) (r .3) e (omega (arith, exprs-count, q)) (omega (arith, holds-length (r .2), length-widths exprs, q)) f s x l (down x t))
+        now old behind h r = (
+          set (r .0) e (computed m old (r .0) e),
+          r .1,
+          c .computed-holds old (r .0) behind (r .1) h (r .2),
+          λ x l t. right-more m old (r .0) S (o .closed) (r .3) e (omega (arith, exprs-count, q)) (omega (arith, holds-length (r .2), length-widths exprs, q)) f s x l (down x t),
+        )
 
     -- S and an e that is not there
     same-on : {values : List ℕ} (S T : ℕ → Type 0) (e : ℕ) → RightOn signals exprs stmts S bytes values → length (recordsIn exprs) ≤ e → ((d : ℕ) → Mem d (needs (modelIn signals exprs stmts) e) → S d) → ((x : ℕ) → S x → T x) → ((x : ℕ) → T x → (x ≡ e) ⊎ S x) → RightOn signals exprs stmts T bytes values
