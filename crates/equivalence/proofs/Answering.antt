@@ -21,7 +21,8 @@ use Rattle.behaviour.specs.Behaviour.{allBits, firedFits, accepts}
 use Rattle.simulation.specs.Wellformed.{orElse}
 use Rattle.simulation.specs.Tick.{looped}
 use Rattle.simulation.specs.Run.{Call, signalBytes, exprBits, tickBits, short, noBit, wrongCount, wrongFired, onLoop, firstOf, refusal}
-use Rattle.equivalence.specs.Demand.{Entry, callOf, firedBy, tickBy, enough}
+use Rattle.equivalence.specs.Demand.{firedBy, tickBy, enough}
+use Rattle.simulation.specs.Shown.{Entry, entryCall}
 
 -- a test, and the refusal that stands for it
 pub data Tested : Option (ℕ × ℕ) → Bool → Type 0 where

@@ -48,7 +48,8 @@ use Rattle.forms.proofs.Counting.{noSignal, kept, slot-signals, slot-count, slo
 use Rattle.forms.proofs.Suiting.{each-from}
 use Rattle.forms.proofs.Sounds.{lowered-sound, each-append, each-same}
 use Rattle.equivalence.specs.Registers.{bitsOf, readOf, secondRead, registersOf, registersAll}
-use Rattle.equivalence.specs.Demand.{Entry, callOf, usedLists, shownBytes, ByModel, shownByModel, firedBy, tickBy, enough, made, after, ByCells, bytesOf, shownByCells, Agrees, done, refused, AllAgree, Demand3}
+use Rattle.equivalence.specs.Demand.{usedLists, firedBy, tickBy, enough, made, after, ByCells, bytesOf, shownByCells, Agrees, done, refused, AllAgree, Demand3}
+use Rattle.simulation.specs.Shown.{Entry, entryCall, shownBytes, ByModel, shownByModel}
 use Rattle.equivalence.proofs.Loops.{never-looped}
 use Rattle.equivalence.proofs.Inputs.{port-bits, total-append}
 use Rattle.equivalence.proofs.Ticking.{runs, all-signals, registers-after, wires-after, ports-after}
@@ -218,16 +219,16 @@ module _ {limits : Limits} {n : Netlist} (a : Lowered limits n) {widest : ℕ} (
 
   module _ (bytes : List ℕ) (S : State) (g : Good bytes S) (e : Entry) where
     abbrev c : Call
-    c = callOf (wordsOf (loweredModel n)) bytes e
+    c = entryCall (wordsOf (loweredModel n)) bytes e
 
-    model-is : callModel (callOf (wordsOf (loweredModel n)) bytes e) ≡ loweredModel n
+    model-is : callModel (entryCall (wordsOf (loweredModel n)) bytes e) ≡ loweredModel n
     model-is = model-read (loweredModel n)
 
     abbrev bytes′ : List ℕ
-    bytes′ = run widest (callOf (wordsOf (loweredModel n)) bytes e) .bytes
+    bytes′ = run widest (entryCall (wordsOf (loweredModel n)) bytes e) .bytes
 
     -- an accepted tick
-    module _ (q : answer widest (callOf (wordsOf (loweredModel n)) bytes e) ≡ none) where
+    module _ (q : answer widest (entryCall (wordsOf (loweredModel n)) bytes e) ≡ none) where
       abbrev t : List Bits
       t = stateOf bytes
 
@@ -299,8 +300,8 @@ module _ {limits : Limits} {n : Netlist} (a : Lowered limits n) {widest : ℕ} (
   all-agree : (es : List Entry) (bytes : List ℕ) (S : State) → Good bytes S → AllAgree (shownByModel widest (wordsOf (loweredModel n)) (loweredModel n .signals) bytes es) (shownByCells n S es)
   all-agree [] bytes S g = tt
   all-agree (e ∷ es) bytes S g =
-      let k = stepped bytes S g e (answer widest (callOf (wordsOf (loweredModel n)) bytes e)) (made n e) (tested bytes S g e) refl refl in
-      (k .0, all-agree es (run widest (callOf (wordsOf (loweredModel n)) bytes e) .bytes) (after n S e) (k .1))
+      let k = stepped bytes S g e (answer widest (entryCall (wordsOf (loweredModel n)) bytes e)) (made n e) (tested bytes S g e) refl refl in
+      (k .0, all-agree es (run widest (entryCall (wordsOf (loweredModel n)) bytes e) .bytes) (after n S e) (k .1))
 
 -- the statement
 pub demand3 : Demand3

@@ -24,7 +24,8 @@ use Rattle.wires.specs.Wires.{Wires}
 use Rattle.meaning.specs.Held.{held, valuesAt}
 use Rattle.meaning.specs.Mapped.{portSignals}
 use Rattle.meaning.proofs.Equations.{Shown}
-use Rattle.equivalence.specs.Demand.{shownBytes, bytesOf}
+use Rattle.equivalence.specs.Demand.{bytesOf}
+use Rattle.simulation.specs.Shown.{shownBytes}
 use Rattle.equivalence.proofs.Vectors.{values-all}
 
 -- the bits of the signals with label 1

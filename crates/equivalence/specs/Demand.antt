@@ -16,42 +16,15 @@ use Rattle.recorder.specs.Record.{Signal, Model}
 use Rattle.recorder.specs.Lists.{Lists, lists}
 use Rattle.lowering.specs.Lower.{Lowered, Accepted, Lowering, lowerWords}
 use Rattle.behaviour.specs.Behaviour.{Fired, Tick, State, start, tick, accepts, NoWireLoop}
-use Rattle.simulation.specs.Run.{Call, Outcome, run, exprBits, signalBytes}
+use Rattle.simulation.specs.Run.{exprBits, signalBytes}
+use Rattle.simulation.specs.Shown.{Entry, ByModel, shownByModel}
 use Rattle.forms.specs.Lowered.{loweredModel, Roomy}
-
--- A CALL: tick bits, the fired signal and edge or none, and the three works that it is lent, of any length and contents
-pub record Entry : Type 0 where
-  pub ticks : List ℕ
-  pub fired : Option (ℕ × ℕ)
-  pub workBits : List ℕ
-  pub workExprs : List ℕ
-  pub workSignals : List ℕ
 
 -- THE MODEL
 
 -- a run is lent just the words that lowering used
 abbrev pub usedLists : Lists → Tapes → Lists
 usedLists l t = lists (take (t .signals .used) (l .signals)) (take (t .exprs .used) (l .exprs)) (take (t .stmts .used) (l .stmts))
-
-abbrev pub callOf : Lists → List ℕ → Entry → Call
-callOf l bytes e = record { lists = l; bytes = bytes; ticks = e .ticks; fired = e .fired; workBits = e .workBits; workExprs = e .workExprs; workSignals = e .workSignals }
-
--- the bytes of the output ports' signals (label 1), in order
-abbrev pub shownBytes : List Signal → List ℕ → List (List ℕ)
-shownBytes [] bytes = []
-shownBytes (s ∷ ss) bytes = pick (eqb (s .label) 1) (take (s .width) bytes ∷ shownBytes ss (drop (s .width) bytes)) (shownBytes ss (drop (s .width) bytes))
-
--- after a call: how it ended, and what the output ports show
-pub record ByModel : Type 0 where
-  pub answer : Option (ℕ × ℕ)
-  pub outputs : List (List ℕ)
-
--- each call gets the signal bytes as the last one left them
-abbrev pub shownByModel : ℕ → Lists → List Signal → List ℕ → List Entry → List ByModel
-shownByModel widest l ss bytes [] = []
-shownByModel widest l ss bytes (e ∷ es) =
-    let o = run widest (callOf l bytes e) in
-    record { answer = o .answer; outputs = shownBytes ss (o .bytes) } ∷ shownByModel widest l ss (o .bytes) es
 
 -- THE CELLS
 

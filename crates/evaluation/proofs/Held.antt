@@ -54,12 +54,12 @@ flat-total (w ∷ ws) (v ∷ vs) h = omega (arith, h .0, length-append v (flat v
 -- MAPS
 
 module _ {A B : Type 0} (f : A → B) where
-  map-take : (n : ℕ) (l : List A) → take n (map f l) ≡ map f (take n l)
+  pub map-take : (n : ℕ) (l : List A) → take n (map f l) ≡ map f (take n l)
   map-take zero l = refl
   map-take (suc n) [] = refl
   map-take (suc n) (a ∷ l) = ap (λ (t : List B). f a ∷ t) (map-take n l)
 
-  map-drop : (n : ℕ) (l : List A) → drop n (map f l) ≡ map f (drop n l)
+  pub map-drop : (n : ℕ) (l : List A) → drop n (map f l) ≡ map f (drop n l)
   map-drop zero l = refl
   map-drop (suc n) [] = refl
   map-drop (suc n) (a ∷ l) = map-drop n l

@@ -4,18 +4,19 @@ use mathlib.Core.Path.{_≡_, refl, sym, _∙_, ap, ap₂, subst}
 use mathlib.Core.Logic.{_⊎_, inl, inr, _≢_}
 use mathlib.Core.Bool.{Bool, true, false, _&&_, _||_, not}
 use mathlib.Core.List.{List, [], _∷_, _++_, map}
+use mathlib.Core.Option.{none, some, Option·some-ne-none}
 use native.Mathlib.Omega.{arith}
 use native.Mathlib.Numerals.{add-one}
 use native.Mathlib.Nat.{add-zero, add-suc, not-suc-le-zero, zero-add, add-mul, mul-add, mul-assoc, mul-comm, mul-mul-mul-comm, mul-le-mul}
 use lib.Bits.{bitAnd, bitOr, bitXor}
-use lib.Dec.{eqb}
+use lib.Dec.{eqb, leb}
 use lib.ListN.{length, getD, take, drop, set, length-set, length-map, length-drop, drop-of-length-le}
 use lib.Seq.{sets, getD-take, getD-drop, getD-set-other, getD-set-same, drop-cons, length-take-le}
-use borrow.Author.Tests.{eq-eqb, ne-eqb, eqb-true, eqb-false}
+use borrow.Author.Tests.{eq-eqb, ne-eqb, eqb-true, eqb-false, leb-true}
 use Rattle.bits.specs.Bits.{pick, Bits, digit, number, binary, same, sameBits, differ}
 use Rattle.recorder.specs.Lists.{over}
 use Rattle.recorder.proofs.Room.{copy-start, copy-step, copy-end, length-over}
-use Rattle.simulation.specs.Run.{isOne}
+use Rattle.simulation.specs.Run.{isOne, noBit}
 use Rattle.evaluation.specs.Bytes.{part, sameBytes, gateOf}
 
 -- A PART
@@ -82,6 +83,15 @@ isOne-digit false = refl
 pub bits-back : (bs : Bits) → map isOne (map digit bs) ≡ bs
 bits-back [] = refl
 bits-back (b ∷ bs) = ap₂ _∷_ (isOne-digit b) (bits-back bs)
+
+-- bytes that are bits
+pub bytes-back : (k : ℕ) (bytes : List ℕ) → noBit k bytes ≡ none → map digit (map isOne bytes) ≡ bytes
+bytes-back k [] h = refl
+bytes-back k (b ∷ bytes) h = go (leb b 1) refl (bytes-back (suc k) bytes) h
+  where
+    go : (t : Bool) → leb b 1 ≡ t → (noBit (suc k) bytes ≡ none → map digit (map isOne bytes) ≡ bytes) → pick t (noBit (suc k) bytes) (some (14, k)) ≡ none → map digit (map isOne (b ∷ bytes)) ≡ b ∷ bytes
+    go true e ih q = ap₂ _∷_ (digit-bit b (omega (arith, leb-true b 1 e))) (ih q)
+    go false e ih q = absurd (Option·some-ne-none _ q)
 
 digit-le : (b : Bool) → digit b ≤ 1
 digit-le true = omega arith

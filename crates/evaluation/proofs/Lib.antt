@@ -6,4 +6,6 @@ pub mod Evaluating
 pub mod Answers
 pub mod Joining
 pub mod Whole
+pub mod Preparing
+pub mod Storing
 pub mod Settling

@@ -8,31 +8,30 @@ use mathlib.Core.Option.{none}
 use native.Mathlib.Omega.{arith}
 use native.Mathlib.Decide.{ℕ-discrete}
 use lib.Dec.{leb}
-use lib.ListN.{length, getD, set, take, replicate, length-map, length-set}
+use lib.ListN.{length, getD, set, take, replicate, length-set}
 use lib.Seq.{getD-set-same, getD-set-other, set-getD, take-suc}
 use Rattle.bits.specs.Bits.{pick, Bits}
 use Rattle.settle.specs.Tests.{all-out, clash, answer}
-use Rattle.recorder.specs.Record.{Signal, Model}
-use Rattle.recorder.specs.Read.{readExpr, modelOf}
+use Rattle.recorder.specs.Record.{Model}
+use Rattle.recorder.specs.Lists.{lists}
+use Rattle.recorder.specs.Read.{modelOf}
 use Rattle.simulation.specs.Tick.{looped, valuesIn, settle}
-use Rattle.simulation.specs.Index.{recordsIn, widthsIn, Starts, Driven}
+use Rattle.simulation.specs.Index.{recordsIn, widthsIn}
 use Rattle.simulation.proofs.Steps.{length-widths}
 use Rattle.simulation.proofs.Tally.{getD-zeros}
 use Rattle.ordering.specs.Order.{needs}
 use Rattle.ordering.specs.Marks.{marked, ready, Stuck, left, adds}
-use Rattle.ordering.specs.Words.{Tabled}
 use Rattle.ordering.specs.Words.{modelIn as exprsModel}
-use Rattle.ordering.proofs.Fields.{read-count}
 use Rattle.ordering.proofs.Marking.{unlooped-marked}
 use Rattle.ordering.proofs.Sorted.{left-set, adds-new, Quiet, quiet-none, quiet-more, quiet-stuck}
 use Rattle.evaluation.specs.Bytes.{Holds}
 use Rattle.evaluation.specs.Consistent.{stored, computed, Right, Consistent, Settling}
 use Rattle.evaluation.specs.Ready.{modelIn, Prepared, Room, Computed}
-use Rattle.evaluation.specs.Ticks.{Filled, Ordered, Settles, Stores, Settled}
+use Rattle.evaluation.specs.Ticks.{NoFault, Filled, Ordered, Settles, Stores, Settled}
 use Rattle.evaluation.specs.Settling.{InOrder, InMarks, RightOn, SettlesOne, SettlesPass}
 use Rattle.evaluation.proofs.Held.{holds-length}
 use Rattle.evaluation.proofs.Consistent.{still-right, now-right, consistent-settles}
-use Rattle.evaluation.proofs.Whole.{is-sound, signals-wide, all-read}
+use Rattle.evaluation.proofs.Whole.{is-sound}
 
 -- a new value of e, which needs only what is right: all that was right is, and e
 module _ (m : Model) (old vs : List Bits) (S : ℕ → Type 0) (closed : (e d : ℕ) → S e → Mem d (needs m e) → S d) (right : (e : ℕ) → e < length (m .exprs) → S e → Right m old vs e) where
@@ -144,15 +143,14 @@ module _ {signals exprs stmts exprTable signalTable : List ℕ} (p : Prepared si
   abbrev m : Model
   m = modelIn signals exprs stmts
 
-  pub exprs-count : length (modelIn signals exprs stmts .exprs) ≡ length (recordsIn exprs)
-  unfolding modelOf
-  exprs-count = read-count readExpr (recordsIn exprs) (all-read p)
+  exprs-count : length (modelIn signals exprs stmts .exprs) ≡ length (recordsIn exprs)
+  exprs-count = Rattle.simulation.proofs.Found.exprs-count (p .widest) (lists signals exprs stmts) (p .faultless)
 
-  signals-count : length (widthsIn signals) ≡ length (modelIn signals exprs stmts .signals)
-  signals-count = ap length (signals-wide p) ∙ length-map (m .signals) (λ (x : Signal). x .width)
+  signals-count : length (modelIn signals exprs stmts .signals) ≡ length (recordsIn signals)
+  signals-count = Rattle.simulation.proofs.Found.signals-count (p .widest) (lists signals exprs stmts) (p .faultless)
 
-  pub tabled : {starts drivers : List ℕ} → Starts exprs starts → Driven stmts drivers → Tabled exprs starts stmts drivers
-  tabled s d = record { readable = all-read p; started = s; driven = d }
+  pub no-fault : NoFault signals exprs stmts
+  no-fault = record { widest = p .widest; faultless = p .faultless }
 
   module _ {bytes : List ℕ} where
     -- nothing is in S
@@ -300,4 +298,4 @@ module _ {signals exprs stmts exprTable signalTable : List ℕ} (p : Prepared si
     }
       where
         is : (old vs : List Bits) (behind : List ℕ) → Holds (widthsIn signals) old behind bytes → Consistent (modelIn signals exprs stmts) old vs → Settling (modelIn signals exprs stmts) old vs
-        is old vs behind h c = consistent-settles (p .widest) m old vs (is-sound p) (holds-length h ∙ signals-count) c
+        is old vs behind h c = consistent-settles (p .widest) m old vs (is-sound p) (holds-length h ∙ length-widths signals ∙ sym signals-count) c

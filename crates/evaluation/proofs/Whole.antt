@@ -136,8 +136,23 @@ module _ {signals exprs stmts exprTable signalTable : List ℕ} (p : Prepared si
   pub exprs-wide : widthsIn exprs ≡ exprWidths (modelIn signals exprs stmts)
   exprs-wide = expr-widths (p .widest) (rawOf (lists signals exprs stmts)) (p .faultless)
 
-  pub all-read : EachReads readExpr (recordsIn exprs)
+  all-read : EachReads readExpr (recordsIn exprs)
   all-read = exprs-read (p .widest) (rawOf (lists signals exprs stmts)) (p .faultless)
+
+  -- what is assigned to a signal is there, and as wide
+  module _ (s : ℕ) {d : ℕ} (hd : given assigns (stmtsIn stmts) s ≡ some d) where
+    suited : suits (widthsIn signals) (widthsIn exprs) s d ≡ true
+    unfolding modelOf
+    suited = ap₂ (λ (sw ew : List ℕ). suits sw ew s d) signals-wide exprs-wide ∙ assigned-suits (p .widest) m is-sound s d hd
+
+    wide-there : wide (widthsIn exprs) (length (widthsIn exprs)) d (getD (widthsIn signals) s 0) ≡ true
+    wide-there = and-right (ltb s (length (widthsIn signals))) (wide (widthsIn exprs) (length (widthsIn exprs)) d (getD (widthsIn signals) s 0)) suited
+
+    pub driver-there : d < length (widthsIn exprs)
+    driver-there = ltb-true d (length (widthsIn exprs)) (and-left (ltb d (length (widthsIn exprs))) (eqb (getD (widthsIn exprs) d 0) (getD (widthsIn signals) s 0)) wide-there)
+
+    pub driver-wide : getD (widthsIn exprs) d 0 ≡ getD (widthsIn signals) s 0
+    driver-wide = eqb-true (getD (widthsIn exprs) d 0) (getD (widthsIn signals) s 0) (and-right (ltb d (length (widthsIn exprs))) (eqb (getD (widthsIn exprs) d 0) (getD (widthsIn signals) s 0)) wide-there)
 
   module _ {e : ℕ} (q : e < length (recordsIn exprs)) where
     pub expr-reads : readExpr (getD (recordsIn exprs) e []) ≡ some (exprIn exprs e)
@@ -236,31 +251,18 @@ module _ {signals exprs stmts exprTable signalTable : List ℕ} (p : Prepared si
 
         -- from the value of what is assigned
         module _ {d : ℕ} (hd : given assigns (stmtsIn stmts) s ≡ some d) where
-          suited : suits (widthsIn signals) (widthsIn exprs) s d ≡ true
-          unfolding modelOf
-          suited = ap₂ (λ (sw ew : List ℕ). suits sw ew s d) signals-wide exprs-wide ∙ assigned-suits (p .widest) m is-sound s d hd
-
-          wide-there : wide (widthsIn exprs) (length (widthsIn exprs)) d (getD (widthsIn signals) s 0) ≡ true
-          wide-there = and-right (ltb s (length (widthsIn signals))) (wide (widthsIn exprs) (length (widthsIn exprs)) d (getD (widthsIn signals) s 0)) suited
-
-          driver-there : d < length (widthsIn exprs)
-          driver-there = ltb-true d (length (widthsIn exprs)) (and-left (ltb d (length (widthsIn exprs))) (eqb (getD (widthsIn exprs) d 0) (getD (widthsIn signals) s 0)) wide-there)
-
-          driver-wide : getD (widthsIn exprs) d 0 ≡ getD (widthsIn signals) s 0
-          driver-wide = eqb-true (getD (widthsIn exprs) d 0) (getD (widthsIn signals) s 0) (and-right (ltb d (length (widthsIn exprs))) (eqb (getD (widthsIn exprs) d 0) (getD (widthsIn signals) s 0)) wide-there)
-
           pub driver-asks : length values < 18446744073709551616 → Indexed (widthsIn exprs) exprTable × (d ≤ length (recordsIn exprs)) × (offset (widthsIn exprs) (length (recordsIn exprs)) ≤ 18446744073709551615)
-          driver-asks v = (p .expr-offsets, omega (arith, driver-there, length-widths exprs), omega (arith, r .values-room))
+          driver-asks v = (p .expr-offsets, omega (arith, driver-there s hd, length-widths exprs), omega (arith, r .values-room))
 
           module _ {from : ℕ} (hf : from ≡ offset (widthsIn exprs) d) where
             value-end : from + l + w ≤ length values
-            value-end = omega (arith, window-fits, driver-wide, offset-before (widthsIn exprs) d (length (recordsIn exprs)) (omega (arith, driver-there, length-widths exprs)), r .values-room)
+            value-end = omega (arith, window-fits, driver-wide s hd, offset-before (widthsIn exprs) d (length (recordsIn exprs)) (omega (arith, driver-there s hd, length-widths exprs)), r .values-room)
 
             pub driver-fits : length values < 18446744073709551616 → from + l < 18446744073709551616
             driver-fits v = omega (arith, value-end)
 
             apart : Dec (d < e) → (from + l + w ≤ to) ⊎ (to ≤ from + l)
-            apart (yes y) = inl (omega (arith, window-fits, driver-wide, offset-before (widthsIn exprs) d e y))
+            apart (yes y) = inl (omega (arith, window-fits, driver-wide s hd, offset-before (widthsIn exprs) d e y))
             apart (no n) = inr (omega (arith, Rattle.simulation.proofs.Offsets.offset-le (widthsIn exprs) e d (omega arith)))
 
             pub driver-moves : (to + w ≤ length values) × (from + l + w ≤ length values) × ((from + l + w ≤ to) ⊎ (to ≤ from + l))
@@ -268,4 +270,4 @@ module _ {signals exprs stmts exprTable signalTable : List ℕ} (p : Prepared si
 
             pub driver-done : {values′ : List ℕ} → values′ ≡ over values to (part values (from + l) w) → Computed signals exprs stmts bytes e values values′
             unfolding modelOf
-            driver-done z = finish (λ old vs behind rest ho hv. z ∙ ap (over values to) (ap (λ (i : ℕ). part values (i + l) w) hf ∙ holds-window hv d l w driver-there (omega (arith, window-fits, driver-wide)) ∙ ap (λ (o : Option ℕ). map digit (window (become vs o (getD old s [])) l w)) (sym hd)))
+            driver-done z = finish (λ old vs behind rest ho hv. z ∙ ap (over values to) (ap (λ (i : ℕ). part values (i + l) w) hf ∙ holds-window hv d l w (driver-there s hd) (omega (arith, window-fits, driver-wide s hd)) ∙ ap (λ (o : Option ℕ). map digit (window (become vs o (getD old s [])) l w)) (sym hd)))

@@ -7,7 +7,9 @@ use lib.ListN.{length, getD, take, set}
 use Rattle.bits.specs.Bits.{Bits}
 use Rattle.recorder.specs.Record.{Signal, Model}
 use Rattle.recorder.specs.Read.{readSignal, readAll}
-use Rattle.recorder.specs.Words.{EachReads}
+use Rattle.recorder.specs.Lists.{lists}
+use Rattle.recorder.specs.Words.{rawOf, EachReads}
+use Rattle.simulation.specs.Wellformed.{firstFault}
 use Rattle.simulation.specs.Index.{recordsIn, widthsIn}
 use Rattle.simulation.specs.Tick.{Firing, valuesIn, settle, commit, setInputs, tick}
 use Rattle.simulation.specs.Run.{isOne, inputWidth, total, noBit}
@@ -15,6 +17,11 @@ use Rattle.ordering.specs.Order.{needs}
 use Rattle.evaluation.specs.Bytes.{Holds}
 use Rattle.evaluation.specs.Consistent.{stored, Consistent}
 use Rattle.evaluation.specs.Ready.{modelIn}
+
+-- a model without a fault
+pub record NoFault (signals exprs stmts : List ℕ) : Type 0 where
+  pub widest : ℕ
+  pub faultless : firstFault widest (rawOf (lists signals exprs stmts)) ≡ none
 
 -- bytes that hold some values of these widths
 pub record Filled (ws bytes : List ℕ) : Type 0 where

@@ -48,7 +48,7 @@ left-set marks e (suc n) h q f = go (ℕ-discrete n e) (λ (p : e < n). left-set
         let i = ih (omega (arith, h, d)) in
         ap (λ (x : ℕ). suc (pick (leb 1 x) 0 1 + left (set marks e 1) n)) a ∙ (let z : suc (pick (marked marks n) 0 1 + left (set marks e 1) n) ≡ pick (marked marks n) 0 1 + left marks n = omega (arith, i) in z)
 
-left-all : (marks : List ℕ) (n : ℕ) → left marks n ≡ 0 → (e : ℕ) → e < n → marked marks e ≡ true
+pub left-all : (marks : List ℕ) (n : ℕ) → left marks n ≡ 0 → (e : ℕ) → e < n → marked marks e ≡ true
 left-all marks zero h e p = absurd (not-suc-le-zero p)
 left-all marks (suc n) h e p = go (marked marks n) refl (ℕ-discrete e n) (λ (z : left marks n ≡ 0). left-all marks n z e)
   where

@@ -1,1 +1,3 @@
 -- The specs of runner.
+pub mod Calls
+pub mod Parts

@@ -8,3 +8,4 @@ pub mod Kept
 pub mod Cases
 pub mod Index
 pub mod Fault
+pub mod Shown

@@ -1,4 +1,5 @@
-use Rattle.evaluation.proofs.Settling.{tabled, settles-none, settles-more}
+use Rattle.evaluation.proofs.Settling.{no-fault, settles-none, settles-more}
+use Rattle.evaluation.proofs.Preparing.{tabled}
 use borrow.Author.Needs.{needs}
 use Rattle.runner.proofs.settling.settle_one.Statement.{statement}
 use Rattle.runner.proofs.settling.settle_one.Tie as tie
@@ -9,7 +10,7 @@ use Rattle.runner.proofs.sort.adds_one.Reads as adds-one-reads
 
 -- src/settling.rt:73:9
 adds-one-requires : tie.Need-adds-one-requires
-adds-one-requires c κs = (tabled (c .before .before .before .before .before .before .before .before .before .before .before .pre .0) (c .before .before .before .before .before .before .before .before .before .before .before .pre .1) (c .before .before .before .before .before .before .before .before .before .before .before .pre .2), c .before .before .before .before .before .before .before .before .before .before .before .pre .4)
+adds-one-requires c κs = (tabled (no-fault (c .before .before .before .before .before .before .before .before .before .before .before .pre .0)) (c .before .before .before .before .before .before .before .before .before .before .before .pre .1) (c .before .before .before .before .before .before .before .before .before .before .before .pre .2), c .before .before .before .before .before .before .before .before .before .before .before .pre .4)
 
 -- src/settling.rt:74:9
 same-length : tie.Need-same-length

@@ -1,0 +1,44 @@
+-- What the parts of a list's run leave.
+use Prim.Native.Nat.{ℕ, _≤_}
+use mathlib.Core.Path.{_≡_}
+use mathlib.Core.List.{List, [], _∷_, map}
+use mathlib.Core.Option.{Option, none, some}
+use lib.ListN.{length}
+use Rattle.bits.specs.Bits.{Bits}
+use Rattle.recorder.specs.Lists.{Lists, over}
+use Rattle.recorder.specs.Record.{Model}
+use Rattle.recorder.specs.Read.{modelOf}
+use Rattle.recorder.specs.Words.{rawOf}
+use Rattle.simulation.specs.Wellformed.{largest}
+use Rattle.simulation.specs.Index.{widthsIn}
+use Rattle.simulation.specs.Tick.{tick}
+use Rattle.simulation.specs.Run.{isOne, firing, exprBits, noBit, wrongCount, wrongFired, firstOf}
+use Rattle.simulation.specs.Shown.{Entry, ByModel, shownByModel, bytesAfterAll}
+use Rattle.evaluation.specs.Bytes.{Holds}
+use Rattle.evaluation.specs.Ready.{modelIn}
+use Rattle.runner.specs.Calls.{entries, answersOf, outputsOf}
+
+-- what refuses one tick on a model of `count` signals and `inputs` input bits
+abbrev pub tickCauses : ℕ → ℕ → List ℕ → Option (ℕ × ℕ) → Option (ℕ × ℕ)
+tickCauses count inputs ticks fired = firstOf (wrongCount inputs ticks ∷ noBit 0 ticks ∷ wrongFired count fired ∷ [])
+
+-- the signals after a tick, as they were if it was refused
+abbrev pub afterTick : Model → List ℕ → Option (ℕ × ℕ) → Option (ℕ × ℕ) → List Bits → List Bits
+afterTick m ticks fired none old = tick m (map isOne ticks) (firing fired) old
+afterTick m ticks fired (some r) old = old
+
+pub record RunsTick (signals exprs stmts ticks : List ℕ) (fired answer : Option (ℕ × ℕ)) (bytes bytes′ : List ℕ) : Type 0 where
+  pub runs : (old : List Bits) (behind : List ℕ) → Holds (widthsIn signals) old behind bytes → Holds (widthsIn signals) (afterTick (modelIn signals exprs stmts) ticks fired answer old) behind bytes′
+
+-- works that are long enough for a model
+abbrev pub Enough : Model → List ℕ → List ℕ → List ℕ → Type 0
+Enough m wb we ws = (exprBits m ≤ length wb) × (length (m .exprs) ≤ length we) × (length (m .signals) ≤ length ws)
+
+-- all ticks, as the calls of a run with whatever works are long enough
+abbrev pub made : Lists → List ℕ → List Entry → List ByModel
+made l bytes es = shownByModel largest l (modelOf (rawOf l) .signals) bytes es
+
+pub record RunsTicks (l : Lists) (heads bits bytes bytes′ answers answers′ shown shown′ : List ℕ) : Type 0 where
+  pub bytes-are : (wb we ws : List ℕ) → Enough (modelOf (rawOf l)) wb we ws → bytes′ ≡ bytesAfterAll largest l bytes (entries wb we ws heads bits)
+  pub answers-are : (wb we ws : List ℕ) → Enough (modelOf (rawOf l)) wb we ws → answers′ ≡ over answers 0 (answersOf (made l bytes (entries wb we ws heads bits)))
+  pub shown-are : (wb we ws : List ℕ) → Enough (modelOf (rawOf l)) wb we ws → shown′ ≡ over shown 0 (outputsOf (made l bytes (entries wb we ws heads bits)))
