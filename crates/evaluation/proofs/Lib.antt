@@ -9,3 +9,4 @@ pub mod Whole
 pub mod Preparing
 pub mod Storing
 pub mod Committing
+pub mod Settling

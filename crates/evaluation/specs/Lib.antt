@@ -3,3 +3,4 @@ pub mod Bytes
 pub mod Ready
 pub mod Ticks
 pub mod Loads
+pub mod Settling
