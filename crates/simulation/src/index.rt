@@ -1,6 +1,7 @@
 // Where a list's records stand, their widths and offsets, and what is assigned to a signal. A table holds the first; for the others the list
 // is walked.
 use crate::Driver;
+use crate::zero::zero_words;
 use recorder::Cut;
 use recorder::read::cut;
 ghost use mathlib.Core.Path.{_≡_};
@@ -9,9 +10,8 @@ ghost use Prim.Native.Nat.{_+_, _≤_, _<_, min};
 ghost use mathlib.Core.Option.{none};
 ghost use lib.ListN.{length, getD};
 ghost use Rattle.recorder.specs.Read.{split};
-ghost use Rattle.simulation.specs.Index.{sizeAt, fieldsAt, recordsIn, widthsIn, offset as sumTo, startOf, clipped, Listed, Indexed, Starts, stmtsIn, driverOf, Driven, isAssign, assignsTo, noted};
+ghost use Rattle.simulation.specs.Index.{sizeAt, fieldsAt, recordsIn, widthsIn, offset as sumTo, startOf, clipped, Indexed, Starts, stmtsIn, driverOf, Driven, isAssign, assignsTo, noted};
 ghost use Rattle.simulation.specs.Tick.{given, assigns as byAssign};
-ghost use Rattle.simulation.specs.Run.{zeroed};
 
 pub fn wide(x: u32) -> usize
     ensures { λ r. ⌜ r ≡ x ⌝ }
@@ -100,55 +100,6 @@ pub fn sum_to(list: &[u32], limit: usize) -> usize
         k += 1;
     }
     sum
-}
-
-// The width of record i, 0 if there is none.
-fn walk_to(list: &[u32], i: usize) -> u32
-    ensures { λ r. ⌜ r ≡ getD (widthsIn (now (list .entry))) i 0 ⌝ }
-{
-    let mut at: usize = 0;
-    let mut k: usize = 0;
-    while at < list.len() {
-        let size = size(list, at);
-        if size == 0 {
-            return 0;
-        }
-        if k == i {
-            return field(list, at, size, 1);
-        }
-        at += size;
-        k += 1;
-    }
-    0
-}
-
-// The width of record i, from the table or else from the list.
-pub fn width(list: &[u32], table: &[u32], i: usize) -> u32
-    requires { ⌜ Listed (widthsIn (now list)) (now table) × (i < length (recordsIn (now list))) ⌝ }
-    ensures { λ r. ⌜ r ≡ getD (widthsIn (now (list .entry))) i 0 ⌝ }
-{
-    if i < table.len() {
-        table[i]
-    } else {
-        walk_to(list, i)
-    }
-}
-
-// Fills the table with the first widths.
-pub fn fill(list: &[u32], table: &mut [u32])
-    ensures { λ _. ⌜ Listed (widthsIn (now (list .entry))) (now (table .exit)) ⌝ }
-{
-    let mut at: usize = 0;
-    let mut k: usize = 0;
-    while k < table.len() {
-        let size = size(list, at);
-        if size == 0 {
-            return;
-        }
-        table[k] = field(list, at, size, 1);
-        at += size;
-        k += 1;
-    }
 }
 
 // A number as a table holds it.
@@ -293,16 +244,6 @@ pub fn driver(stmts: &[u32], table: &[u32], s: usize) -> Driver
         }
     }
     walk_driver(stmts, s)
-}
-
-fn zero_words(table: &mut [u32])
-    ensures { λ _. ⌜ now (table .exit) ≡ zeroed (now (table .entry)) ⌝ }
-{
-    let mut i = 0;
-    while i < table.len() {
-        table[i] = 0;
-        i += 1;
-    }
 }
 
 // Notes the statement at an index, if it is the first assignment on its signal.
