@@ -41,18 +41,23 @@ pub fn size(list: &[u32], at: usize) -> usize
     }
 }
 
-// A field of the record at an index, 0 behind the last.
+// A field of the record at an index, 0 behind the last and behind the list.
 pub fn field(list: &[u32], at: usize, size: usize, j: usize) -> u32
-    requires { ⌜ at + size ≤ length (now list) ⌝ }
     ensures { λ r. ⌜ r ≡ getD (fieldsAt (now (list .entry)) at size) j 0 ⌝ }
 {
     if size == 0 {
         return 0;
     }
-    if j < size - 1 {
-        return list[at + 1 + j];
+    if j >= size - 1 {
+        return 0;
     }
-    0
+    if at >= list.len() {
+        return 0;
+    }
+    if j >= list.len() - at - 1 {
+        return 0;
+    }
+    list[at + 1 + j]
 }
 
 pub struct Counted {
@@ -126,10 +131,9 @@ fn walk_start(list: &[u32], k: usize) -> usize
     at
 }
 
-// The word at which record k begins, from the table or else from the list.
+// The word at which record k begins, from the table, if it is right, or else from the list.
 pub fn start(list: &[u32], table: &[u32], k: usize) -> usize
-    requires { ⌜ Starts (now list) (now table) × (k < length (recordsIn (now list))) ⌝ }
-    ensures { λ r. ⌜ r ≡ startOf (now (list .entry)) k ⌝ }
+    ensures { λ r. ⌜ (Starts (now (list .entry)) (now (table .entry)) → k < length (recordsIn (now (list .entry))) → r ≡ startOf (now (list .entry)) k) ⌝ }
 {
     if k < table.len() {
         let w = table[k];
@@ -157,10 +161,9 @@ pub fn fill_starts(list: &[u32], table: &mut [u32])
     }
 }
 
-// The sum of the first k widths, from the table or else from the list.
+// The sum of the first k widths, from the table, if it is right, or else from the list.
 pub fn offset(list: &[u32], table: &[u32], k: usize) -> usize
-    requires { ⌜ Indexed (widthsIn (now list)) (now table) × (k ≤ length (recordsIn (now list))) × (sumTo (widthsIn (now list)) (length (recordsIn (now list))) ≤ 18446744073709551615) ⌝ }
-    ensures { λ r. ⌜ r ≡ sumTo (widthsIn (now (list .entry))) k ⌝ }
+    ensures { λ r. ⌜ (Indexed (widthsIn (now (list .entry))) (now (table .entry)) → k ≤ length (recordsIn (now (list .entry))) → sumTo (widthsIn (now (list .entry))) (length (recordsIn (now (list .entry)))) ≤ 18446744073709551615 → r ≡ sumTo (widthsIn (now (list .entry))) k) ⌝ }
 {
     if k < table.len() {
         let w = table[k];
@@ -229,10 +232,9 @@ fn walk_driver(stmts: &[u32], s: usize) -> Driver
     Driver::None
 }
 
-// The expression that is assigned to signal s, from the table or else from the list.
+// The expression that is assigned to signal s, from the table, if it is right, or else from the list.
 pub fn driver(stmts: &[u32], table: &[u32], s: usize) -> Driver
-    requires { ⌜ Driven (now stmts) (now table) ⌝ }
-    ensures { λ r. ⌜ driverOf r ≡ given byAssign (stmtsIn (now (stmts .entry))) s ⌝ }
+    ensures { λ r. ⌜ (Driven (now (stmts .entry)) (now (table .entry)) → driverOf r ≡ given byAssign (stmtsIn (now (stmts .entry))) s) ⌝ }
 {
     if s < table.len() {
         let w = table[s];
