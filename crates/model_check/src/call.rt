@@ -14,7 +14,7 @@ ghost use mathlib.Core.Path.{_≡_};
 ghost use mathlib.Core.Bool.{_&&_};
 ghost use mathlib.Core.List.{[]};
 ghost use mathlib.Core.Option.{none, some};
-ghost use Prim.Native.Nat.{_+_, _≤_, min};
+ghost use Prim.Native.Nat.{_≤_, min};
 ghost use lib.Dec.{leb, ltb};
 ghost use lib.ListN.{length, take};
 ghost use Rattle.bits.specs.Bits.{pick};
@@ -23,7 +23,7 @@ ghost use Rattle.recorder.specs.Read.{only};
 ghost use Rattle.simulation.specs.Wellformed.{orElse};
 ghost use Rattle.simulation.specs.Index.{fieldsAt, recordsIn, widthsIn, Listed};
 ghost use Rattle.simulation.specs.Run.{answerOf, firedOf, noBit, wrongCount, wrongFired, firstOf};
-ghost use Rattle.simulation.specs.Fault.{widthTotal, inputField, inputTotal, lengthCauses, bitCauses, callCauses, callOf, checkedBy};
+ghost use Rattle.simulation.specs.Fault.{widthTotal, inputField, inputTotal, lengthCauses, tickCauses, bitCauses, callCauses, callOf, checkedBy};
 
 // The first of two answers.
 fn either(a: Ran, b: Ran) -> Ran
@@ -51,8 +51,8 @@ fn width_total(list: &[u32]) -> usize
     sum_to(list, list.len())
 }
 
-// The first buffer that is too short.
-fn lengths(
+// Refusal 1: the first buffer that is too short.
+pub fn call_lengths(
     signals: &[u32],
     exprs: &[u32],
     bytes: &[u8],
@@ -86,8 +86,18 @@ fn no_bit(bytes: &[u8], n: usize) -> Ran
     Ran::Done
 }
 
+// 14 for a signal byte: the first of them, as far as there are any, that is no bit.
+pub fn byte_fault(signals: &[u32], bytes: &[u8]) -> Ran
+    ensures { λ r. ⌜ answerOf r ≡ noBit 0 (take (widthTotal (now (signals .entry))) (now (bytes .entry))) ⌝ }
+{
+    let n = width_total(signals);
+    if bytes.len() < n {
+        return no_bit(bytes, bytes.len());
+    }
+    no_bit(bytes, n)
+}
+
 fn input_width(list: &[u32], at: usize, size: usize) -> usize
-    requires { ⌜ at + size ≤ length (now list) ⌝ }
     ensures { λ r. ⌜ r ≡ inputField (fieldsAt (now (list .entry)) at size) ⌝ }
 {
     if field(list, at, size, 0) == 0 {
@@ -97,7 +107,7 @@ fn input_width(list: &[u32], at: usize, size: usize) -> usize
 }
 
 // The widths of all inputs, as far as their sum can be named.
-fn input_total(signals: &[u32]) -> usize
+pub fn input_total(signals: &[u32]) -> usize
     ensures { λ r. ⌜ r ≡ min (inputTotal (now (signals .entry))) 18446744073709551615 ⌝ }
 {
     let mut at: usize = 0;
@@ -143,17 +153,25 @@ fn wrong_fired(signals: usize, fired: Fired) -> Ran
     }
 }
 
-// The first byte that is no bit, a wrong count of tick bits, an edge that is none.
+// 14 for one tick on a model of so many signals and input bits: a wrong count of tick bits, the first that is no bit, an edge that is none.
+pub fn tick_fault(count: usize, bits: usize, ticks: &[u8], fired: Fired) -> Ran
+    ensures { λ r. ⌜ answerOf r ≡ firstOf (tickCauses count bits (now (ticks .entry)) (firedOf fired)) ⌝ }
+{
+    let a = wrong_count(bits, ticks);
+    let b = no_bit(ticks, ticks.len());
+    let c = wrong_fired(count, fired);
+    either(a, either(b, c))
+}
+
+// Refusal 14, for bytes that are enough.
 fn bits(signals: &[u32], bytes: &[u8], ticks: &[u8], fired: Fired) -> Ran
     requires { ⌜ widthTotal (now signals) ≤ length (now bytes) ⌝ }
     ensures { λ r. ⌜ answerOf r ≡ firstOf (bitCauses (now (signals .entry)) (now (bytes .entry)) (now (ticks .entry)) (firedOf fired)) ⌝ }
 {
     let s = count(signals);
-    let a = no_bit(bytes, width_total(signals));
-    let b = wrong_count(input_total(signals), ticks);
-    let c = no_bit(ticks, ticks.len());
-    let d = wrong_fired(s.count, fired);
-    either(a, either(b, either(c, d)))
+    let a = byte_fault(signals, bytes);
+    let b = tick_fault(s.count, input_total(signals), ticks, fired);
+    either(a, b)
 }
 
 // Refusals 1 and 14, for a model without a fault.
@@ -169,7 +187,7 @@ fn call_fault(
 ) -> Ran
     ensures { λ r. ⌜ answerOf r ≡ callCauses (callOf (lists (now (signals .entry)) (now (exprs .entry)) []) (now (bytes .entry)) (now (ticks .entry)) (firedOf fired) (now («work_bits» .entry)) (now («work_exprs» .entry)) (now («work_signals» .entry))) ⌝ }
 {
-    let a = lengths(signals, exprs, bytes, work_bits, work_exprs, work_signals);
+    let a = call_lengths(signals, exprs, bytes, work_bits, work_exprs, work_signals);
     let Ran::Done = a else {
         return a;
     };

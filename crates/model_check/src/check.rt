@@ -523,7 +523,7 @@ fn head_fits(
     table: &[u32],
     n: usize,
 ) -> bool
-    requires { ⌜ (at + size ≤ length (now stmts)) × Widths (now signals) (now «signal_table») count (now exprs) (now table) n ⌝ }
+    requires { ⌜ Widths (now signals) (now «signal_table») count (now exprs) (now table) n ⌝ }
     ensures { λ r. ⌜ r ≡ headTest (widthsIn (now (signals .entry))) (widthsIn (now (exprs .entry))) (fieldsAt (now (stmts .entry)) at size) ⌝ }
 {
     if !suited(
@@ -556,7 +556,7 @@ fn reset_fits(
     table: &[u32],
     n: usize,
 ) -> bool
-    requires { ⌜ (at + size ≤ length (now stmts)) × Widths (now signals) (now «signal_table») count (now exprs) (now table) n ⌝ }
+    requires { ⌜ Widths (now signals) (now «signal_table») count (now exprs) (now table) n ⌝ }
     ensures { λ r. ⌜ r ≡ resetTest (widthsIn (now (signals .entry))) (widthsIn (now (exprs .entry))) (fieldsAt (now (stmts .entry)) at size) ⌝ }
 {
     if !control(signals, signal_table, count, field(stmts, at, size, 6)) {

@@ -12,11 +12,11 @@ use Rattle.model_check.proofs.call.call_fault.Tie as tie
 use Rattle.model_check.proofs.call.call_fault.Reads as reads
 use Rattle.model_check.proofs.call.call_fault.Lts as lts
 use Rattle.model_check.proofs.call.bits.Reads as bits-reads
-use Rattle.model_check.proofs.call.lengths.Reads as lengths-reads
+use Rattle.model_check.proofs.call.call_lengths.Reads as call-lengths-reads
 
 -- src/call.rt:172:9
-lengths-requires : tie.Need-lengths-requires
-lengths-requires c κs = search needs
+call-lengths-requires : tie.Need-call-lengths-requires
+call-lengths-requires c κs = search needs
 
 enum-told : tie.Need-enum-told
 enum-told c = search needs
@@ -27,16 +27,16 @@ enum-told-2 c = search needs
 
 -- src/call.rt:174:9
 returns : tie.Need-returns
-returns c = ap answerOf (c .enum-told2 .given .1) ∙ ap (λ o. orElse o (firstOf (bitCauses (c .before .before .before .before .before .before .before .before .before .before .args .signals .now) (c .before .before .before .before .before .before .before .before .before .before .args .bytes .now) (c .before .before .before .before .before .before .before .before .before .before .args .ticks .now) (firedOf (c .before .before .before .before .before .before .before .before .before .before .args .fired))))) (sym (ap answerOf (c .enum-told2 .given .1)) ∙ c .before .before .lengths .ensures)
+returns c = ap answerOf (c .enum-told2 .given .1) ∙ ap (λ o. orElse o (firstOf (bitCauses (c .before .before .before .before .before .before .before .before .before .before .args .signals .now) (c .before .before .before .before .before .before .before .before .before .before .args .bytes .now) (c .before .before .before .before .before .before .before .before .before .before .args .ticks .now) (firedOf (c .before .before .before .before .before .before .before .before .before .before .args .fired))))) (sym (ap answerOf (c .enum-told2 .given .1)) ∙ c .before .before .call-lengths .ensures)
 
 -- src/call.rt:176:5
 bits-requires : tie.Need-bits-requires
-bits-requires c κs = long-enough (widthTotal (c .before .before .before .before .before .before .before .before .before .before .args .signals .now)) (c .before .before .before .before .before .before .before .before .before .before .args .bytes .now) (short (widthTotal (c .before .before .before .before .before .before .before .before .before .before .args .exprs .now)) (c .before .before .before .before .before .before .before .before .before .before .args .work-bits .now) ∷ short (length (recordsIn (c .before .before .before .before .before .before .before .before .before .before .args .exprs .now))) (c .before .before .before .before .before .before .before .before .before .before .args .work-exprs .now) ∷ short (length (recordsIn (c .before .before .before .before .before .before .before .before .before .before .args .signals .now))) (c .before .before .before .before .before .before .before .before .before .before .args .work-signals .now) ∷ []) (sym (ap answerOf (c .enum-told .given .1)) ∙ c .before .before .lengths .ensures)
+bits-requires c κs = long-enough (widthTotal (c .before .before .before .before .before .before .before .before .before .before .args .signals .now)) (c .before .before .before .before .before .before .before .before .before .before .args .bytes .now) (short (widthTotal (c .before .before .before .before .before .before .before .before .before .before .args .exprs .now)) (c .before .before .before .before .before .before .before .before .before .before .args .work-bits .now) ∷ short (length (recordsIn (c .before .before .before .before .before .before .before .before .before .before .args .exprs .now))) (c .before .before .before .before .before .before .before .before .before .before .args .work-exprs .now) ∷ short (length (recordsIn (c .before .before .before .before .before .before .before .before .before .before .args .signals .now))) (c .before .before .before .before .before .before .before .before .before .before .args .work-signals .now) ∷ []) (sym (ap answerOf (c .enum-told .given .1)) ∙ c .before .before .call-lengths .ensures)
 
 -- src/call.rt:160:1
 returns-2 : tie.Need-returns-2
-returns-2 c = c .bits .ensures ∙ ap (λ o. orElse o (firstOf (bitCauses (c .before .before .before .before .before .before .before .before .before .before .before .args .signals .now) (c .before .before .before .before .before .before .before .before .before .before .before .args .bytes .now) (c .before .before .before .before .before .before .before .before .before .before .before .args .ticks .now) (firedOf (c .before .before .before .before .before .before .before .before .before .before .before .args .fired))))) (sym (ap answerOf (c .before .enum-told .given .1)) ∙ c .before .before .before .lengths .ensures)
+returns-2 c = c .bits .ensures ∙ ap (λ o. orElse o (firstOf (bitCauses (c .before .before .before .before .before .before .before .before .before .before .before .args .signals .now) (c .before .before .before .before .before .before .before .before .before .before .before .args .bytes .now) (c .before .before .before .before .before .before .before .before .before .before .before .args .ticks .now) (firedOf (c .before .before .before .before .before .before .before .before .before .before .before .args .fired))))) (sym (ap answerOf (c .before .enum-told .given .1)) ∙ c .before .before .before .call-lengths .ensures)
 
 pub call-fault-spec : {M : Type 1} → statement M
 call-fault-spec =
-    tie.close (tie.spec lengths-requires enum-told enum-told-2 returns bits-requires returns-2)
+    tie.close (tie.spec call-lengths-requires enum-told enum-told-2 returns bits-requires returns-2)

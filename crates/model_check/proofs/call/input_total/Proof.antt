@@ -33,7 +33,7 @@ returns c = summing-end (c .before .before .before .loop .inv .1) (left-out _ _ 
 
 -- src/call.rt:109:25
 input-width-requires : tie.Need-input-width-requires Inv-loop μ-loop
-input-width-requires c κs = (within _ _ _ (c .before .size .ensures) (c .if1 .left))
+input-width-requires c κs = search needs
 
 -- src/call.rt:109:9
 plus-requires : tie.Need-plus-requires Inv-loop μ-loop

@@ -35,7 +35,7 @@ loop-holds c = (omega arith, refl)
 
 -- src/check.rt:226:38
 field-requires : tie.Need-field-requires Inv-loop μ-loop
-field-requires c κs = c .before .before .before .before .before .pre .2
+field-requires c κs = tt
 
 -- src/check.rt:226:13
 operand-requires : tie.Need-operand-requires Inv-loop μ-loop

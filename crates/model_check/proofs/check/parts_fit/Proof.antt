@@ -41,7 +41,7 @@ loop-holds c = (omega arith, omega arith, refl)
 
 -- src/check.rt:247:22
 field-requires : tie.Need-field-requires Inv-loop μ-loop
-field-requires c κs = c .before .before .before .before .before .before .pre .2
+field-requires c κs = search needs
 
 -- src/check.rt:247:13
 wide-requires-2 : tie.Need-wide-requires-2 Inv-loop μ-loop

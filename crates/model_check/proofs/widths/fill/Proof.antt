@@ -37,7 +37,7 @@ returns c = filled-all _ _ _ (c .before .before .before .loop .inv .3) (walked-o
 
 -- src/index.rt:139:20
 field-requires : tie.Need-field-requires Inv-loop μ-loop
-field-requires c κs = walked-within (c .before .before .before .loop .inv .0) _ (c .before .size .ensures) (c .if1 .left)
+field-requires c κs = search needs
 
 -- src/index.rt:139:9
 mul-table : tie.Need-mul-table Inv-loop μ-loop

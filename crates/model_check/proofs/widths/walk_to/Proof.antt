@@ -33,7 +33,7 @@ returns c = width-past (c .before .before .before .before .before .args .list .n
 
 -- src/index.rt:112:13
 field-requires : tie.Need-field-requires Inv-loop μ-loop
-field-requires c κs = walked-within (c .before .before .before .before .loop .inv .0) _ (c .before .before .size .ensures) (c .before .if1 .left)
+field-requires c κs = search needs
 
 -- src/index.rt:112:13
 returns-2 : tie.Need-returns-2 Inv-loop μ-loop

@@ -7,10 +7,10 @@ use lib.ListN.{length}
 use mathlib.Core.Path.{_∙_}
 use native.Mathlib.Omega.{arith}
 use borrow.Author.Needs.{needs}
-use Rattle.model_check.proofs.call.lengths.Statement.{statement}
-use Rattle.model_check.proofs.call.lengths.Tie as tie
-use Rattle.model_check.proofs.call.lengths.Reads as reads
-use Rattle.model_check.proofs.call.lengths.Lts as lts
+use Rattle.model_check.proofs.call.call_lengths.Statement.{statement}
+use Rattle.model_check.proofs.call.call_lengths.Tie as tie
+use Rattle.model_check.proofs.call.call_lengths.Reads as reads
+use Rattle.model_check.proofs.call.call_lengths.Lts as lts
 use Rattle.model_check.proofs.call.either.Reads as either-reads
 use Rattle.model_check.proofs.call.too_short.Reads as too-short-reads
 use Rattle.model_check.proofs.call.width_total.Reads as width-total-reads
@@ -69,8 +69,8 @@ returns c = four (short (widthTotal (c .before .before .before .before .before .
     (c .before .before .before .too-short4 .ensures ∙ short-min (length (recordsIn (c .before .before .before .before .before .before .before .before .before .before .before .before .before .before .before .before .before .args .signals .now))) (c .before .before .before .before .before .before .before .before .before .before .before .before .before .before .before .before .before .args .work-signals .now) (c .before .before .before .before .count2 .result .count) (omega (arith, c .before .before .before .before .count2 .ensures .0, records-count (c .before .before .before .before .before .before .before .before .before .before .before .before .before .before .before .before .before .args .signals .now), c .before .before .before .before .before .before .before .before .before .before .before .before .before .before .before .before .before .good .0 .0)) (omega (arith, c .before .before .before .before .before .before .before .before .before .before .before .before .before .before .before .before .before .good .1 .1 .1 .1 .1 .0 .1)))
     (c .before .before .either .ensures) (c .before .either2 .ensures) (c .either3 .ensures)
 
-pub lengths-spec : {M : Type 1} → statement M
-lengths-spec =
+pub call-lengths-spec : {M : Type 1} → statement M
+call-lengths-spec =
     tie.close
     (tie.spec
     width-total-requires
