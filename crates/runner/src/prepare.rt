@@ -2,7 +2,7 @@
 use crate::loops::lowest_on_loop;
 use crate::sort::sort;
 use ordering::Loop;
-use simulation::check::zero_bytes;
+use simulation::zero::zero_bytes;
 use simulation::index::fill_drivers;
 use simulation::index::fill_offsets;
 use simulation::index::fill_starts;

@@ -12,7 +12,7 @@ use Rattle.runner.proofs.prepare.prepare.Reads as reads
 use Rattle.runner.proofs.prepare.prepare.Lts as lts
 use Rattle.runner.proofs.loops.lowest_on_loop.Reads as lowest-on-loop-reads
 use Rattle.runner.proofs.sort.sort.Reads as sort-reads
-use Rattle.simulation.proofs.check.zero_bytes.Reads as zero-bytes-reads
+use Rattle.simulation.proofs.zero.zero_bytes.Reads as zero-bytes-reads
 use Rattle.simulation.proofs.index.fill_drivers.Reads as fill-drivers-reads
 use Rattle.simulation.proofs.index.fill_offsets.Reads as fill-offsets-reads
 use Rattle.simulation.proofs.index.fill_starts.Reads as fill-starts-reads
