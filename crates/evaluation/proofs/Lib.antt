@@ -8,4 +8,5 @@ pub mod Joining
 pub mod Whole
 pub mod Preparing
 pub mod Storing
+pub mod Committing
 pub mod Settling

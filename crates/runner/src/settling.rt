@@ -3,7 +3,7 @@ use crate::expression::eval_expr;
 use crate::loops::either;
 use crate::sort::adds_one;
 use crate::store::store_assigned;
-use simulation::check::zero_bytes;
+use simulation::zero::zero_bytes;
 use simulation::index::wide;
 ghost use mathlib.Core.Path.{_≡_};
 ghost use mathlib.Core.Option.{none};

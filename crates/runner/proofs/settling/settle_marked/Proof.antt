@@ -7,7 +7,7 @@ use Rattle.runner.proofs.settling.settle_marked.Tie as tie
 use Rattle.runner.proofs.settling.settle_marked.Reads as reads
 use Rattle.runner.proofs.settling.settle_marked.Lts as lts
 use Rattle.runner.proofs.settling.settle_pass.Reads as settle-pass-reads
-use Rattle.simulation.proofs.check.zero_bytes.Reads as zero-bytes-reads
+use Rattle.simulation.proofs.zero.zero_bytes.Reads as zero-bytes-reads
 
 abbrev Inv-loop : tie.InvT-loop
 Inv-loop signals exprs stmts starts expr-table signal-table driver-table n bytes values₀ marks₀ values marks = Passed signals exprs stmts bytes values₀ marks₀ values marks
