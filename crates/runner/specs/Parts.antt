@@ -13,12 +13,16 @@ use Rattle.simulation.specs.Wellformed.{largest, malformed}
 use Rattle.simulation.specs.Index.{widthsIn}
 use Rattle.simulation.specs.Tick.{tick, looped}
 use Rattle.simulation.specs.Run.{answerOf, isOne, firing, signalBytes, exprBits, tickBits, noBit, onLoop, firstOf, bytesAfter}
-use Rattle.simulation.specs.Fault.{tickCauses, callOf}
+use Rattle.simulation.specs.Fault.{tickCauses as causesOfTick, callOf}
 use Rattle.simulation.specs.declared.Ran.{Ran}
 use Rattle.simulation.specs.Shown.{Entry, ByModel, shownByModel, bytesAfterAll}
 use Rattle.evaluation.specs.Bytes.{Holds}
 use Rattle.evaluation.specs.Ready.{modelIn}
 use Rattle.runner.specs.Calls.{entries, answersOf, outputsOf}
+
+-- what refuses one tick on a model of `count` signals and `inputs` input bits
+abbrev pub tickCauses : ℕ → ℕ → List ℕ → Option (ℕ × ℕ) → Option (ℕ × ℕ)
+tickCauses count inputs ticks fired = firstOf (causesOfTick count inputs ticks fired)
 
 -- the signals after a tick, as they were if it was refused
 abbrev pub afterTick : Model → List ℕ → Option (ℕ × ℕ) → Option (ℕ × ℕ) → List Bits → List Bits
@@ -38,7 +42,7 @@ pub record Unrefused (l : Lists) (bytes ticks : List ℕ) (fired : Option (ℕ �
   pub bytes-enough : signalBytes (modelOf (rawOf l)) ≤ length bytes
   pub enough : Enough (modelOf (rawOf l)) wb we ws
   pub bits : noBit 0 (take (signalBytes (modelOf (rawOf l))) bytes) ≡ none
-  pub no-cause : firstOf (tickCauses (length (modelOf (rawOf l) .signals)) (tickBits (modelOf (rawOf l))) ticks fired) ≡ none
+  pub no-cause : tickCauses (length (modelOf (rawOf l) .signals)) (tickBits (modelOf (rawOf l))) ticks fired ≡ none
 
 -- its answer, 13 or none, and the signal bytes
 pub record Tries (l : Lists) (bytes ticks : List ℕ) (fired : Option (ℕ × ℕ)) (r : Ran) (bytes′ : List ℕ) : Type 0 where

@@ -15,13 +15,12 @@ ghost use lib.ListN.{length};
 ghost use Rattle.recorder.specs.Lists.{lists};
 ghost use Rattle.simulation.specs.Wellformed.{largest, malformed};
 ghost use Rattle.simulation.specs.Index.{recordsIn, widthsIn, Starts, Driven};
-ghost use Rattle.simulation.specs.Run.{answerOf, firedOf, total, inputWidth, firstOf};
-ghost use Rattle.simulation.specs.Fault.{tickCauses};
+ghost use Rattle.simulation.specs.Run.{answerOf, firedOf, total, inputWidth};
 ghost use Rattle.simulation.specs.Tick.{looped};
 ghost use Rattle.evaluation.specs.Ready.{Prepared, Room, modelIn};
 ghost use Rattle.evaluation.specs.Ticks.{Filled, Ordered, signalsIn};
 ghost use Rattle.runner.specs.Calls.{outputWidth};
-ghost use Rattle.runner.specs.Parts.{RunsTick, RunsTicks};
+ghost use Rattle.runner.specs.Parts.{tickCauses, RunsTick, RunsTicks};
 
 // One tick of a model of n expressions, `count` signals and `inputs` input bits, unless it is refused.
 fn run_tick(
@@ -44,7 +43,7 @@ fn run_tick(
     work_signals: &mut [u8],
 ) -> Ran
     requires { ⌜ Prepared (now signals) (now exprs) (now stmts) (now «expr_table») (now «signal_table») × Starts (now exprs) (now starts) × Driven (now stmts) (now «driver_table») × Room (now signals) (now exprs) (now bytes) (now values) × (n ≡ length (recordsIn (now exprs))) × (count ≡ length (recordsIn (now signals))) × (n ≤ length (now «work_exprs»)) × (count ≤ length (now «work_signals»)) × Ordered (modelIn (now signals) (now exprs) (now stmts)) n (now order) × (looped (modelIn (now signals) (now exprs) (now stmts)) ≡ none) × Filled (widthsIn (now exprs)) (now values) × Filled (widthsIn (now signals)) (now bytes) × (inputs ≡ total inputWidth (signalsIn (now signals))) ⌝ }
-    ensures answered { λ r. ⌜ answerOf r ≡ firstOf (tickCauses count inputs (now (ticks .entry)) (firedOf fired)) ⌝ }
+    ensures answered { λ r. ⌜ answerOf r ≡ tickCauses count inputs (now (ticks .entry)) (firedOf fired) ⌝ }
     ensures runs { λ r. ⌜ RunsTick (now (signals .entry)) (now (exprs .entry)) (now (stmts .entry)) (now (ticks .entry)) (firedOf fired) (answerOf r) (now (bytes .entry)) (now (bytes .exit)) ⌝ }
     ensures filled { λ _. ⌜ Filled (widthsIn (now (exprs .entry))) (now (values .exit)) ⌝ }
 {
