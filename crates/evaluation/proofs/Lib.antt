@@ -7,4 +7,6 @@ pub mod Answers
 pub mod Joining
 pub mod Whole
 pub mod Preparing
+pub mod Signals
 pub mod Storing
+pub mod Calling

@@ -1,1 +1,2 @@
 -- The laws of runner.
+pub mod Showing
