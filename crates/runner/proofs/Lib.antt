@@ -1,2 +1,3 @@
 -- The laws of runner.
 pub mod Showing
+pub mod Ticking
