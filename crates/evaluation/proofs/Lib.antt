@@ -10,3 +10,5 @@ pub mod Preparing
 pub mod Signals
 pub mod Storing
 pub mod Calling
+pub mod Committing
+pub mod Settling

@@ -13,15 +13,16 @@ use Rattle.recorder.specs.Read.{readExpr, modelOf}
 use Rattle.recorder.specs.Words.{rawOf}
 use Rattle.simulation.specs.Index.{recordsIn, widthsIn, Indexed, Starts, Driven}
 use Rattle.simulation.specs.Tick.{looped}
+use Rattle.simulation.specs.Run.{zeroed}
 use Rattle.simulation.proofs.Sound.{exprs-read, sound}
 use Rattle.simulation.proofs.Found.{signals-count, exprs-count}
 use Rattle.ordering.specs.Order.{needs}
-use Rattle.ordering.specs.Marks.{left, Noted}
+use Rattle.ordering.specs.Marks.{left, Noted, Sorting}
 use Rattle.ordering.specs.Words.{modelWith, Tabled, Faultless}
 use Rattle.ordering.specs.Words.{modelIn as partIn}
 use Rattle.ordering.specs.Sorts.{SortsAll}
 use Rattle.ordering.proofs.Marking.{marked-unlooped}
-use Rattle.ordering.proofs.Sorted.{left-all}
+use Rattle.ordering.proofs.Sorted.{sorting-none, left-all}
 use Rattle.evaluation.specs.Ready.{modelIn, Prepared}
 use Rattle.evaluation.specs.Ticks.{NoFault, Ordered}
 
@@ -33,6 +34,10 @@ model-is signals exprs stmts = refl
 -- an order of none
 pub unordered : (m : Model) (n : ℕ) (order : List ℕ) → Ordered m n (take 0 order)
 unordered m n order = record { all = λ p e h. absurd (not-suc-le-zero (le-trans h p)); behind = λ p j h. absurd (not-suc-le-zero (le-trans h p)) }
+
+-- before the first pass
+pub sorting-zeroed : (m : Model) (n : ℕ) (marks : List ℕ) {marks′ order : List ℕ} → marks′ ≡ zeroed marks → Sorting m n marks′ order 0
+sorting-zeroed m n marks {marks′} {order} e = subst (λ (l : List ℕ). Sorting m n l order 0) (sym e) (sorting-none m n (length marks) order)
 
 module _ {signals exprs stmts : List ℕ} (f : NoFault signals exprs stmts) where
   pub tabled : {starts drivers : List ℕ} → Starts exprs starts → Driven stmts drivers → Tabled exprs starts stmts drivers

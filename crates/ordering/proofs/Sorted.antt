@@ -92,7 +92,7 @@ noted-more m marks order k e r s h = record { each = λ d q. one d q (ℕ-discre
 pub sorting-none : (m : Model) (n k : ℕ) (order : List ℕ) → Sorting m n (replicate k 0) order 0
 sorting-none m n k order = record { reached = reached-none m k; counted = let z = left-zeros k n in omega (arith, z); noted = λ h. noted-none m k order }
 
-adds-new : (m : Model) (marks : List ℕ) (e : ℕ) → adds m marks e ≡ true → (marked marks e ≡ false) × (ready m marks e ≡ true)
+pub adds-new : (m : Model) (marks : List ℕ) (e : ℕ) → adds m marks e ≡ true → (marked marks e ≡ false) × (ready m marks e ≡ true)
 adds-new m marks e h = go (marked marks e) refl h
   where
     go : (b : Bool) → marked marks e ≡ b → pick b false (ready m marks e) ≡ true → (marked marks e ≡ false) × (ready m marks e ≡ true)

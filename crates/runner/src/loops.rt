@@ -3,7 +3,7 @@ use ordering::Loop;
 use crate::marks::driver_marked;
 use crate::marks::is_marked;
 use crate::marks::touched;
-use simulation::check::zero_bytes;
+use simulation::zero::zero_bytes;
 ghost use mathlib.Core.Path.{_≡_};
 ghost use mathlib.Core.Bool.{Bool, true, false, _||_};
 ghost use Prim.Native.Nat.{_+_, _≤_, _<_};
@@ -52,7 +52,7 @@ fn touch_one(
     true
 }
 
-fn either(a: bool, b: bool) -> bool
+pub fn either(a: bool, b: bool) -> bool
     ensures { λ r. ⌜ r ≡ (a || b) ⌝ }
 {
     if a {

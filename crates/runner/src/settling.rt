@@ -1,8 +1,9 @@
 // The values of all expressions: along an order if it has them all, else in passes, marking those that are done.
 use crate::expression::eval_expr;
+use crate::loops::either;
 use crate::sort::adds_one;
 use crate::store::store_assigned;
-use simulation::check::zero_bytes;
+use simulation::zero::zero_bytes;
 use simulation::index::wide;
 ghost use mathlib.Core.Path.{_≡_};
 ghost use mathlib.Core.Option.{none};
@@ -11,6 +12,7 @@ ghost use lib.ListN.{length, getD};
 ghost use Rattle.simulation.specs.Index.{recordsIn, widthsIn, Starts, Driven};
 ghost use Rattle.simulation.specs.Tick.{looped};
 ghost use Rattle.evaluation.specs.Ready.{Prepared, Room, modelIn};
+ghost use Rattle.evaluation.specs.Settling.{InMarks, RightOn, SettlesOne, SettlesPass};
 ghost use Rattle.evaluation.specs.Ticks.{Filled, Ordered, Settles, Settled};
 
 // Along an order of all n expressions.
@@ -64,7 +66,10 @@ fn settle_one(
     bytes: &[u8],
     values: &mut [u8],
     marks: &mut [u8],
-) -> bool {
+) -> bool
+    requires { ⌜ Prepared (now signals) (now exprs) (now stmts) (now «expr_table») (now «signal_table») × Starts (now exprs) (now starts) × Driven (now stmts) (now «driver_table») × Room (now signals) (now exprs) (now bytes) (now values) × (e < length (recordsIn (now exprs))) × (e < length (now marks)) ⌝ }
+    ensures { λ r. ⌜ SettlesOne (now (signals .entry)) (now (exprs .entry)) (now (stmts .entry)) (now (bytes .entry)) e (now (values .entry)) (now (marks .entry)) r (now (values .exit)) (now (marks .exit)) ⌝ }
+{
     if !adds_one(exprs, starts, stmts, driver_table, marks, e) {
         return false;
     }
@@ -97,11 +102,14 @@ fn settle_pass(
     bytes: &[u8],
     values: &mut [u8],
     marks: &mut [u8],
-) -> bool {
+) -> bool
+    requires { ⌜ Prepared (now signals) (now exprs) (now stmts) (now «expr_table») (now «signal_table») × Starts (now exprs) (now starts) × Driven (now stmts) (now «driver_table») × Room (now signals) (now exprs) (now bytes) (now values) × (n ≡ length (recordsIn (now exprs))) × (n ≤ length (now marks)) × RightOn (now signals) (now exprs) (now stmts) (InMarks (now marks)) (now bytes) (now values) ⌝ }
+    ensures { λ r. ⌜ SettlesPass (now (signals .entry)) (now (exprs .entry)) (now (stmts .entry)) n (now (bytes .entry)) (now (marks .entry)) r (now (values .exit)) (now (marks .exit)) ⌝ }
+{
     let mut any = false;
     let mut e: usize = 0;
     while e < n {
-        if settle_one(
+        let added = settle_one(
             signals,
             exprs,
             stmts,
@@ -113,9 +121,8 @@ fn settle_pass(
             bytes,
             values,
             marks,
-        ) {
-            any = true;
-        }
+        );
+        any = either(any, added);
         e += 1;
     }
     any

@@ -10,7 +10,7 @@ use native.Mathlib.Nat.{not-suc-le-zero}
 use native.Mathlib.Decide.{decLt}
 use lib.Dec.{eqb, leb, ltb}
 use lib.ListN.{length, getD, take, drop, drop-of-length-le}
-use lib.Seq.{drop-cons}
+use lib.Seq.{drop-cons, take-all, take-length}
 use borrow.Author.Tests.{le-leb, lt-leb, eq-eqb, ne-eqb, lt-ltb, le-ltb}
 use Rattle.bits.specs.Bits.{pick}
 use Rattle.recorder.specs.Record.{Signal, Model}
@@ -32,8 +32,11 @@ pub orElse-none : {A : Type 0} (o : Option A) → orElse o none ≡ o
 orElse-none none = refl
 orElse-none (some a) = refl
 
+pub three : {a b c x y : Option (ℕ × ℕ)} (a′ b′ c′ : Option (ℕ × ℕ)) → a ≡ a′ → b ≡ b′ → c ≡ c′ → x ≡ orElse b c → y ≡ orElse a x → y ≡ firstOf (a′ ∷ b′ ∷ c′ ∷ [])
+three a′ b′ c′ qa qb qc qx qy = qy ∙ ap₂ orElse qa (qx ∙ ap₂ orElse qb (qc ∙ sym (orElse-none c′)))
+
 pub four : {a b c d x y z : Option (ℕ × ℕ)} (a′ b′ c′ d′ : Option (ℕ × ℕ)) → a ≡ a′ → b ≡ b′ → c ≡ c′ → d ≡ d′ → x ≡ orElse c d → y ≡ orElse b x → z ≡ orElse a y → z ≡ firstOf (a′ ∷ b′ ∷ c′ ∷ d′ ∷ [])
-four a′ b′ c′ d′ qa qb qc qd qx qy qz = qz ∙ ap₂ orElse qa (qy ∙ ap₂ orElse qb (qx ∙ ap₂ orElse qc (qd ∙ sym (orElse-none d′))))
+four a′ b′ c′ d′ qa qb qc qd qx qy qz = qz ∙ ap₂ orElse qa (three b′ c′ d′ qb qc qd qx qy)
 
 firsts-append : (xs ys : List (Option (ℕ × ℕ))) → firstOf (xs ++ ys) ≡ orElse (firstOf xs) (firstOf ys)
 firsts-append [] ys = refl
@@ -86,9 +89,6 @@ inputs-le (r ∷ rs) = go (eqb (getD r 0 0) 0) (inputs-le rs)
     go false h = omega arith
 
 -- as many as there are bytes can be named
-pub width-fits : (l : List ℕ) (sum n : ℕ) → sum ≡ min (widthTotal l) 18446744073709551615 → widthTotal l ≤ n → n < 18446744073709551615 → sum ≡ widthTotal l
-width-fits l sum n e h q = omega arith
-
 pub input-fits : (l : List ℕ) (sum n : ℕ) → sum ≡ min (inputTotal l) 18446744073709551615 → widthTotal l ≤ n → n < 18446744073709551615 → sum ≡ inputTotal l
 input-fits l sum n e h q = let z = inputs-le (recordsIn l) in omega arith
 
@@ -129,6 +129,14 @@ module _ (l : List ℕ) (i : ℕ) where
 
   pub bit-end : length l ≤ i → none ≡ noBit i (drop i l)
   bit-end h = ap (noBit i) (sym (drop-of-length-le l h))
+
+-- the first of the signals' bytes, which may be too few, or the sum of whose widths cannot be named
+module _ (l bytes : List ℕ) (sum : ℕ) (e : sum ≡ min (widthTotal l) 18446744073709551615) where
+  pub bytes-all : length bytes < sum → noBit 0 (take (length bytes) bytes) ≡ noBit 0 (take (widthTotal l) bytes)
+  bytes-all h = ap (noBit 0) (take-length bytes ∙ sym (take-all (widthTotal l) bytes (omega arith)))
+
+  pub bytes-front : sum ≤ length bytes → length bytes < 18446744073709551615 → noBit 0 (take sum bytes) ≡ noBit 0 (take (widthTotal l) bytes)
+  bytes-front h q = let z : sum ≡ widthTotal l = omega arith in ap (λ (n : ℕ). noBit 0 (take n bytes)) z
 
 pub count-right : (n : ℕ) (l : List ℕ) → length l ≡ n → none ≡ wrongCount n l
 count-right n l h = sym (ap (λ (b : Bool). pick b none (some (14, n))) (eq-eqb (length l) n h))

@@ -57,6 +57,9 @@ field-out l at size j h = sym (List·getD-eq-default (fieldsAt l at size) 0 (sho
     short (x ∷ r) (suc n) zero h = absurd (not-suc-le-zero h)
     short (x ∷ r) (suc n) (suc j) h = let q = short r n j (omega arith) in omega arith
 
+pub field-past : (l : List ℕ) (at size j : ℕ) → j < size - 1 → length l ≤ at + 1 + j → 0 ≡ getD (fieldsAt l at size) j 0
+field-past l at size j h q = sym (List·getD-eq-default l 0 q) ∙ field-in l at size j h
+
 -- WHERE A RECORD BEGINS
 
 sizes-at : (rs : List (List ℕ)) (k : ℕ) → k < length rs → getD (map (λ (r : List ℕ). length r + 1) rs) k 0 ≡ length (getD rs k []) + 1

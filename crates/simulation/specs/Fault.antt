@@ -123,13 +123,13 @@ lengthCauses signals exprs bytes workBits workExprs workSignals =
     ∷ short (length (recordsIn signals)) workSignals
     ∷ []
 
+-- what can be wrong with one tick on a model of so many signals and input bits
+abbrev pub tickCauses : ℕ → ℕ → List ℕ → Option (ℕ × ℕ) → List (Option (ℕ × ℕ))
+tickCauses signals bits ticks fired = wrongCount bits ticks ∷ noBit 0 ticks ∷ wrongFired signals fired ∷ []
+
 abbrev pub bitCauses : List ℕ → List ℕ → List ℕ → Option (ℕ × ℕ) → List (Option (ℕ × ℕ))
 bitCauses signals bytes ticks fired =
-    noBit 0 (take (widthTotal signals) bytes)
-    ∷ wrongCount (inputTotal signals) ticks
-    ∷ noBit 0 ticks
-    ∷ wrongFired (length (recordsIn signals)) fired
-    ∷ []
+    noBit 0 (take (widthTotal signals) bytes) ∷ tickCauses (length (recordsIn signals)) (inputTotal signals) ticks fired
 
 abbrev pub callCauses : Call → Option (ℕ × ℕ)
 callCauses c =

@@ -1,6 +1,7 @@
 // Where a list's records stand, their widths and offsets, and what is assigned to a signal. A table holds the first; for the others the list
 // is walked.
 use crate::Driver;
+use crate::zero::zero_words;
 use recorder::Cut;
 use recorder::read::cut;
 ghost use mathlib.Core.Path.{_≡_};
@@ -9,9 +10,8 @@ ghost use Prim.Native.Nat.{_+_, _≤_, _<_, min};
 ghost use mathlib.Core.Option.{none};
 ghost use lib.ListN.{length, getD};
 ghost use Rattle.recorder.specs.Read.{split};
-ghost use Rattle.simulation.specs.Index.{sizeAt, fieldsAt, recordsIn, widthsIn, offset as sumTo, startOf, clipped, Listed, Indexed, Starts, stmtsIn, driverOf, Driven, isAssign, assignsTo, noted};
+ghost use Rattle.simulation.specs.Index.{sizeAt, fieldsAt, recordsIn, widthsIn, offset as sumTo, startOf, clipped, Indexed, Starts, stmtsIn, driverOf, Driven, isAssign, assignsTo, noted};
 ghost use Rattle.simulation.specs.Tick.{given, assigns as byAssign};
-ghost use Rattle.simulation.specs.Run.{zeroed};
 
 pub fn wide(x: u32) -> usize
     ensures { λ r. ⌜ r ≡ x ⌝ }
@@ -41,18 +41,23 @@ pub fn size(list: &[u32], at: usize) -> usize
     }
 }
 
-// A field of the record at an index, 0 behind the last.
+// A field of the record at an index, 0 behind the last and behind the list.
 pub fn field(list: &[u32], at: usize, size: usize, j: usize) -> u32
-    requires { ⌜ at + size ≤ length (now list) ⌝ }
     ensures { λ r. ⌜ r ≡ getD (fieldsAt (now (list .entry)) at size) j 0 ⌝ }
 {
     if size == 0 {
         return 0;
     }
-    if j < size - 1 {
-        return list[at + 1 + j];
+    if j >= size - 1 {
+        return 0;
     }
-    0
+    if at >= list.len() {
+        return 0;
+    }
+    if j >= list.len() - at - 1 {
+        return 0;
+    }
+    list[at + 1 + j]
 }
 
 pub struct Counted {
@@ -102,55 +107,6 @@ pub fn sum_to(list: &[u32], limit: usize) -> usize
     sum
 }
 
-// The width of record i, 0 if there is none.
-fn walk_to(list: &[u32], i: usize) -> u32
-    ensures { λ r. ⌜ r ≡ getD (widthsIn (now (list .entry))) i 0 ⌝ }
-{
-    let mut at: usize = 0;
-    let mut k: usize = 0;
-    while at < list.len() {
-        let size = size(list, at);
-        if size == 0 {
-            return 0;
-        }
-        if k == i {
-            return field(list, at, size, 1);
-        }
-        at += size;
-        k += 1;
-    }
-    0
-}
-
-// The width of record i, from the table or else from the list.
-pub fn width(list: &[u32], table: &[u32], i: usize) -> u32
-    requires { ⌜ Listed (widthsIn (now list)) (now table) × (i < length (recordsIn (now list))) ⌝ }
-    ensures { λ r. ⌜ r ≡ getD (widthsIn (now (list .entry))) i 0 ⌝ }
-{
-    if i < table.len() {
-        table[i]
-    } else {
-        walk_to(list, i)
-    }
-}
-
-// Fills the table with the first widths.
-pub fn fill(list: &[u32], table: &mut [u32])
-    ensures { λ _. ⌜ Listed (widthsIn (now (list .entry))) (now (table .exit)) ⌝ }
-{
-    let mut at: usize = 0;
-    let mut k: usize = 0;
-    while k < table.len() {
-        let size = size(list, at);
-        if size == 0 {
-            return;
-        }
-        table[k] = field(list, at, size, 1);
-        at += size;
-        k += 1;
-    }
-}
-
 // A number as a table holds it.
 pub fn clip(x: usize) -> u32
     ensures { λ r. ⌜ r ≡ clipped x ⌝ }
@@ -175,10 +131,9 @@ fn walk_start(list: &[u32], k: usize) -> usize
     at
 }
 
-// The word at which record k begins, from the table or else from the list.
+// The word at which record k begins, from the table, if it is right, or else from the list.
 pub fn start(list: &[u32], table: &[u32], k: usize) -> usize
-    requires { ⌜ Starts (now list) (now table) × (k < length (recordsIn (now list))) ⌝ }
-    ensures { λ r. ⌜ r ≡ startOf (now (list .entry)) k ⌝ }
+    ensures { λ r. ⌜ (Starts (now (list .entry)) (now (table .entry)) → k < length (recordsIn (now (list .entry))) → r ≡ startOf (now (list .entry)) k) ⌝ }
 {
     if k < table.len() {
         let w = table[k];
@@ -206,10 +161,9 @@ pub fn fill_starts(list: &[u32], table: &mut [u32])
     }
 }
 
-// The sum of the first k widths, from the table or else from the list.
+// The sum of the first k widths, from the table, if it is right, or else from the list.
 pub fn offset(list: &[u32], table: &[u32], k: usize) -> usize
-    requires { ⌜ Indexed (widthsIn (now list)) (now table) × (k ≤ length (recordsIn (now list))) × (sumTo (widthsIn (now list)) (length (recordsIn (now list))) ≤ 18446744073709551615) ⌝ }
-    ensures { λ r. ⌜ r ≡ sumTo (widthsIn (now (list .entry))) k ⌝ }
+    ensures { λ r. ⌜ (Indexed (widthsIn (now (list .entry))) (now (table .entry)) → k ≤ length (recordsIn (now (list .entry))) → sumTo (widthsIn (now (list .entry))) (length (recordsIn (now (list .entry)))) ≤ 18446744073709551615 → r ≡ sumTo (widthsIn (now (list .entry))) k) ⌝ }
 {
     if k < table.len() {
         let w = table[k];
@@ -278,10 +232,9 @@ fn walk_driver(stmts: &[u32], s: usize) -> Driver
     Driver::None
 }
 
-// The expression that is assigned to signal s, from the table or else from the list.
+// The expression that is assigned to signal s, from the table, if it is right, or else from the list.
 pub fn driver(stmts: &[u32], table: &[u32], s: usize) -> Driver
-    requires { ⌜ Driven (now stmts) (now table) ⌝ }
-    ensures { λ r. ⌜ driverOf r ≡ given byAssign (stmtsIn (now (stmts .entry))) s ⌝ }
+    ensures { λ r. ⌜ (Driven (now (stmts .entry)) (now (table .entry)) → driverOf r ≡ given byAssign (stmtsIn (now (stmts .entry))) s) ⌝ }
 {
     if s < table.len() {
         let w = table[s];
@@ -293,16 +246,6 @@ pub fn driver(stmts: &[u32], table: &[u32], s: usize) -> Driver
         }
     }
     walk_driver(stmts, s)
-}
-
-fn zero_words(table: &mut [u32])
-    ensures { λ _. ⌜ now (table .exit) ≡ zeroed (now (table .entry)) ⌝ }
-{
-    let mut i = 0;
-    while i < table.len() {
-        table[i] = 0;
-        i += 1;
-    }
 }
 
 // Notes the statement at an index, if it is the first assignment on its signal.

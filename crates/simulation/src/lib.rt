@@ -1,7 +1,6 @@
 // The run of a model: one call is one tick.
-pub mod call;
-pub mod check;
 pub mod index;
+pub mod zero;
 
 use recorder::SignalId;
 use refusal::Refusal;

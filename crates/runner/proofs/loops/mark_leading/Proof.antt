@@ -9,7 +9,7 @@ use Rattle.runner.proofs.loops.mark_leading.Tie as tie
 use Rattle.runner.proofs.loops.mark_leading.Reads as reads
 use Rattle.runner.proofs.loops.mark_leading.Lts as lts
 use Rattle.runner.proofs.loops.touch_pass.Reads as touch-pass-reads
-use Rattle.simulation.proofs.check.zero_bytes.Reads as zero-bytes-reads
+use Rattle.simulation.proofs.zero.zero_bytes.Reads as zero-bytes-reads
 
 abbrev Inv-loop : tie.InvT-loop
 Inv-loop exprs starts stmts drivers marks₀ signals s n marks = Backed (modelWith signals exprs stmts) s marks × (length marks ≡ length marks₀)

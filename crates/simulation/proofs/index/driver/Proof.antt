@@ -17,7 +17,7 @@ shared-slice-read-w c = search needs
 
 -- src/index.rt:293:13
 returns : tie.Need-returns
-returns c = coded-none _ (sym (c .before .before .before .before .before .pre .driver-at (c .before .before .before .before .before .args .s) (c .before .before .if1 .taken)) ∙ c .if2 .taken)
+returns c = λ right. coded-none _ (sym (right .driver-at (c .before .before .before .before .before .args .s) (c .before .before .if1 .taken)) ∙ c .if2 .taken)
 
 -- src/index.rt:296:31
 sub-t11 : tie.Need-sub-t11
@@ -25,7 +25,7 @@ sub-t11 c = search needs
 
 -- src/index.rt:296:13
 returns-2 : tie.Need-returns-2
-returns-2 c = coded-some _ _ (c .before .before .before .before .before .before .pre .driver-at (c .before .before .before .before .before .before .args .s) (c .before .before .before .if1 .taken)) (c .before .if2 .left) (c .if3 .taken)
+returns-2 c = λ right. coded-some _ _ (right .driver-at (c .before .before .before .before .before .before .args .s) (c .before .before .before .if1 .taken)) (c .before .if2 .left) (c .if3 .taken)
 
 -- src/index.rt:299:5
 walk-driver-requires : tie.Need-walk-driver-requires
@@ -33,7 +33,7 @@ walk-driver-requires c κs = search needs
 
 -- src/index.rt:286:1
 returns-3 : tie.Need-returns-3
-returns-3 c = search needs
+returns-3 c = λ right. c .walk-driver .ensures
 
 pub driver-spec : {M : Type 1} → statement M
 driver-spec =

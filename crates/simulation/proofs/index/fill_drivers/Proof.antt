@@ -13,7 +13,7 @@ use Rattle.simulation.proofs.index.fill_drivers.Reads as reads
 use Rattle.simulation.proofs.index.fill_drivers.Lts as lts
 use Rattle.simulation.proofs.index.note.Reads as note-reads
 use Rattle.simulation.proofs.index.size.Reads as size-reads
-use Rattle.simulation.proofs.index.zero_words.Reads as zero-words-reads
+use Rattle.simulation.proofs.zero.zero_words.Reads as zero-words-reads
 
 abbrev Inv-loop : tie.InvT-loop
 Inv-loop stmts table₀ at₀ table at = (at ≤ length stmts) × (length table ≡ length table₀) × Noting stmts at table

@@ -52,7 +52,7 @@ returns c = indexed-all _ _ _ (filled-more _ _ _ _ (c .before .before .before .b
 
 -- src/index.rt:240:30
 field-requires : tie.Need-field-requires Inv-loop μ-loop
-field-requires c κs = walked-within (c .before .before .before .before .loop .inv .0) _ (c .before .size .ensures) (c .if1 .left)
+field-requires c κs = search needs
 
 -- src/index.rt:240:25
 wide-requires : tie.Need-wide-requires Inv-loop μ-loop

@@ -26,7 +26,7 @@ wide-requires c κs = search needs
 
 -- src/index.rt:221:13
 returns : tie.Need-returns
-returns c = c .wide .ensures ∙ indexed-read (c .before .before .before .before .before .before .pre .0) (c .before .before .before .before .before .before .args .k) (c .before .before .before .if1 .taken) (omega (arith, c .before .before .before .before .before .before .pre .1, length-widths (c .before .before .before .before .before .before .args .list .now))) (c .before .if2 .taken)
+returns c = λ right here small. c .wide .ensures ∙ indexed-read right (c .before .before .before .before .before .before .args .k) (c .before .before .before .if1 .taken) (omega (arith, here, length-widths (c .before .before .before .before .before .before .args .list .now))) (c .before .if2 .taken)
 
 -- src/index.rt:224:5
 sum-to-requires : tie.Need-sum-to-requires
@@ -34,7 +34,7 @@ sum-to-requires c κs = search needs
 
 -- src/index.rt:214:1
 returns-2 : tie.Need-returns-2
-returns-2 c = sum-fits (widthsIn (c .before .before .before .before .args .list .now)) (c .before .before .before .before .args .k) (length (recordsIn (c .before .before .before .before .args .list .now))) _ (c .sum-to .ensures) (c .before .before .before .before .pre .1) (c .before .before .before .before .pre .2)
+returns-2 c = λ right here small. sum-fits (widthsIn (c .before .before .before .before .args .list .now)) (c .before .before .before .before .args .k) (length (recordsIn (c .before .before .before .before .args .list .now))) _ (c .sum-to .ensures) here small
 
 pub offset-spec : {M : Type 1} → statement M
 offset-spec =

@@ -22,7 +22,7 @@ wide-requires c κs = search needs
 
 -- src/index.rt:190:13
 returns : tie.Need-returns
-returns c = c .wide .ensures ∙ starts-read (c .before .before .before .before .before .before .pre .0) (c .before .before .before .before .before .before .args .k) (c .before .before .before .if1 .taken) (c .before .before .before .before .before .before .pre .1) (c .before .if2 .taken)
+returns c = λ right here. c .wide .ensures ∙ starts-read right (c .before .before .before .before .before .before .args .k) (c .before .before .before .if1 .taken) here (c .before .if2 .taken)
 
 -- src/index.rt:193:5
 walk-start-requires : tie.Need-walk-start-requires
@@ -30,7 +30,7 @@ walk-start-requires c κs = search needs
 
 -- src/index.rt:183:1
 returns-2 : tie.Need-returns-2
-returns-2 c = search needs
+returns-2 c = λ right here. c .walk-start .ensures
 
 pub start-spec : {M : Type 1} → statement M
 start-spec =

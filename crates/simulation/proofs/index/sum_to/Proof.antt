@@ -34,7 +34,7 @@ returns c = sum-past _ _ (c .before .before .before .before .before .args .limit
 
 -- src/index.rt:93:30
 field-requires : tie.Need-field-requires Inv-loop μ-loop
-field-requires c κs = walked-within (c .before .before .before .loop .inv .0) _ (c .before .size .ensures) (c .if1 .left)
+field-requires c κs = search needs
 
 -- src/index.rt:93:25
 wide-requires : tie.Need-wide-requires Inv-loop μ-loop

@@ -38,7 +38,7 @@ assigns-requires c κs = within _ _ _ (c .before .size .ensures) (c .if1 .left)
 
 -- src/index.rt:278:31
 field-requires : tie.Need-field-requires Inv-loop μ-loop
-field-requires c κs = within _ _ _ (c .before .before .before .size .ensures) (c .before .before .if1 .left)
+field-requires c κs = search needs
 
 -- src/index.rt:278:13
 returns-2 : tie.Need-returns-2 Inv-loop μ-loop

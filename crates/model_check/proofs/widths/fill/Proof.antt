@@ -1,0 +1,92 @@
+use borrow.Author.Needs.{needs}
+use native.Mathlib.Omega.{arith}
+use mathlib.Core.Path.{_≡_, refl, sym, _∙_}
+use Prim.Native.Nat.{_-_, _≤_}
+use lib.ListN.{length, length-set}
+use Rattle.simulation.specs.Index.{widthsIn}
+use Rattle.simulation.proofs.Offsets.{Filled, widthOf, filled-none, filled-more, filled-all, filled-full}
+use Rattle.simulation.proofs.Steps.{Walked, walked-start, walked-next, walked-out, walked-width, walked-within, length-widths}
+use Rattle.model_check.proofs.widths.fill.Statement.{statement}
+use Rattle.model_check.proofs.widths.fill.Tie as tie
+use Rattle.model_check.proofs.widths.fill.Reads as reads
+use Rattle.model_check.proofs.widths.fill.Lts as lts
+use Rattle.simulation.proofs.index.field.Reads as field-reads
+use Rattle.simulation.proofs.index.size.Reads as size-reads
+
+abbrev Inv-loop : tie.InvT-loop
+Inv-loop list table₀ at₀ k₀ table at k = Walked list at k × (k ≤ length table₀) × (length table ≡ length table₀) × Filled (widthOf (widthsIn list)) table k
+
+abbrev μ-loop : tie.MeasureT-loop
+μ-loop list table₀ at₀ k₀ table at k = length table₀ - k
+
+-- src/index.rt:134:5
+loop-holds : tie.Need-loop-holds Inv-loop μ-loop
+loop-holds c = (walked-start _, omega arith, refl, filled-none _ _)
+
+-- src/index.rt:135:13
+size-requires : tie.Need-size-requires Inv-loop μ-loop
+size-requires c κs = search needs
+
+-- src/index.rt:137:13
+same-length : tie.Need-same-length Inv-loop μ-loop
+same-length c = c .before .before .before .loop .inv .2
+
+-- src/index.rt:137:13
+returns : tie.Need-returns Inv-loop μ-loop
+returns c = filled-all _ _ _ (c .before .before .before .loop .inv .3) (walked-out (c .before .before .before .loop .inv .0) _ (c .before .size .ensures) (c .if1 .taken) ∙ sym (length-widths _))
+
+-- src/index.rt:139:20
+field-requires : tie.Need-field-requires Inv-loop μ-loop
+field-requires c κs = search needs
+
+-- src/index.rt:139:9
+mul-table : tie.Need-mul-table Inv-loop μ-loop
+mul-table c = omega (arith, c .before .before .before .before .before .before .before .good .1 .0 .1)
+
+-- src/index.rt:139:9
+slice-write-table : tie.Need-slice-write-table Inv-loop μ-loop
+slice-write-table c = search needs
+
+-- src/index.rt:140:9
+add-at : tie.Need-add-at Inv-loop μ-loop
+add-at c = let w = walked-within (c .before .before .before .before .loop .inv .0) _ (c .before .before .size .ensures) (c .before .if1 .left) in omega (arith, c .before .before .before .before .before .before .before .good .0 .0)
+
+-- src/index.rt:141:9
+add-k : tie.Need-add-k Inv-loop μ-loop
+add-k c = omega (arith, c .before .before .before .before .before .before .before .good .1 .0 .1)
+
+-- src/index.rt:134:5
+loop-less : tie.Need-loop-less Inv-loop μ-loop
+loop-less c = omega arith
+
+-- src/index.rt:134:5
+loop-again : tie.Need-loop-again Inv-loop μ-loop
+loop-again c = (walked-next (c .before .before .before .before .loop .inv .0) _ (c .before .before .size .ensures) (c .before .if1 .left), omega arith, simp length-set (c .before .before .before .before .loop .inv .2), filled-more _ _ _ _ (c .before .before .before .before .loop .inv .3) (c .field .ensures ∙ sym (walked-width (c .before .before .before .before .loop .inv .0) _ (c .before .before .size .ensures) (c .before .if1 .left))))
+
+-- src/index.rt:129:1
+same-length-2 : tie.Need-same-length-2 Inv-loop μ-loop
+same-length-2 c = c .before .loop .inv .2
+
+-- src/index.rt:129:1
+returns-2 : tie.Need-returns-2 Inv-loop μ-loop
+returns-2 c = filled-full _ _ _ (c .before .loop .inv .3) (omega (arith, c .loop-test .left))
+
+pub fill-spec : {M : Type 1} → statement M
+fill-spec =
+    tie.close
+    (tie.spec
+    Inv-loop
+    μ-loop
+    loop-holds
+    size-requires
+    same-length
+    returns
+    field-requires
+    mul-table
+    slice-write-table
+    add-at
+    add-k
+    loop-less
+    loop-again
+    same-length-2
+    returns-2)
