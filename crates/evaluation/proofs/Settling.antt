@@ -1,8 +1,8 @@
 -- Settling expression by expression, along an order or in passes: whoever has the right value keeps it. Assumes nothing.
-use Prim.Native.Nat.{ℕ, zero, suc, _+_, _≤_, _<_}
+use Prim.Native.Nat.{ℕ, suc, _+_, _≤_, _<_}
 use mathlib.Core.Path.{_≡_, refl, sym, _∙_, ap, subst}
 use mathlib.Core.Logic.{_⊎_, inl, inr}
-use mathlib.Core.Bool.{Bool, true, false, not, _||_, false≢true, Bool·not-not}
+use mathlib.Core.Bool.{Bool, true, false, not, _||_, false≢true, Bool-discrete, Bool·not-not, or-true, or-false}
 use mathlib.Core.List.{List, [], _∷_, _++_, List·Memᴰ as Mem, List·Memᴰ·head as here, List·Memᴰ·tail as there, List·Memᴰ·cases-cons as cases-cons, List·Memᴰ·not-nil as not-nil, List·Memᴰ·eq-of-singleton as singleton, List·Memᴰ·append-cases as append-cases, Memᴰ·append-left as mem-left}
 use mathlib.Core.Option.{none}
 use native.Mathlib.Omega.{arith}
@@ -11,21 +11,21 @@ use lib.Dec.{leb}
 use lib.ListN.{length, getD, set, take, replicate, length-set}
 use lib.Seq.{getD-set-same, getD-set-other, set-getD, take-suc}
 use Rattle.bits.specs.Bits.{pick, Bits}
-use Rattle.settle.specs.Tests.{all-out, clash, answer}
+use Rattle.settle.specs.Tests.{all-out}
 use Rattle.recorder.specs.Record.{Model}
 use Rattle.recorder.specs.Lists.{lists}
 use Rattle.recorder.specs.Read.{modelOf}
-use Rattle.simulation.specs.Tick.{looped, valuesIn, settle}
+use Rattle.simulation.specs.Tick.{looped, valuesIn}
 use Rattle.simulation.specs.Index.{recordsIn, widthsIn}
 use Rattle.simulation.proofs.Steps.{length-widths}
 use Rattle.simulation.proofs.Tally.{getD-zeros}
 use Rattle.ordering.specs.Order.{needs}
-use Rattle.ordering.specs.Marks.{marked, ready, Stuck, left, adds}
+use Rattle.ordering.specs.Marks.{marked, ready, left, adds}
 use Rattle.ordering.specs.Words.{modelIn as exprsModel}
 use Rattle.ordering.proofs.Marking.{unlooped-marked}
 use Rattle.ordering.proofs.Sorted.{left-set, adds-new, Quiet, quiet-none, quiet-more, quiet-stuck}
 use Rattle.evaluation.specs.Bytes.{Holds}
-use Rattle.evaluation.specs.Consistent.{stored, computed, Right, Consistent, Settling}
+use Rattle.evaluation.specs.Consistent.{computed, Right, Consistent, Settling}
 use Rattle.evaluation.specs.Ready.{modelIn, Prepared, Room, Computed}
 use Rattle.evaluation.specs.Ticks.{NoFault, Filled, Ordered, Settles, Stores, Settled}
 use Rattle.evaluation.specs.Settling.{InOrder, InMarks, RightOn, SettlesOne, SettlesPass}
@@ -33,9 +33,14 @@ use Rattle.evaluation.proofs.Held.{holds-length}
 use Rattle.evaluation.proofs.Consistent.{still-right, now-right, consistent-settles}
 use Rattle.evaluation.proofs.Whole.{is-sound}
 
--- a new value of e, which needs only what is right: all that was right is, and e
+-- e needs only what is in S: so do S and e
+closed-more : (m : Model) (S : ℕ → Type 0) → ((e d : ℕ) → S e → Mem d (needs m e) → S d) → (e : ℕ) → ((d : ℕ) → Mem d (needs m e) → S d) → (x d : ℕ) → (x ≡ e) ⊎ S x → Mem d (needs m x) → S d
+closed-more m S c e f x d (inl y) k = f d (subst (λ (i : ℕ). Mem d (needs m i)) y k)
+closed-more m S c e f x d (inr z) k = c x d z k
+
+-- and where S is right, so is e by its new value, and S as before
 module _ (m : Model) (old vs : List Bits) (S : ℕ → Type 0) (closed : (e d : ℕ) → S e → Mem d (needs m e) → S d) (right : (e : ℕ) → e < length (m .exprs) → S e → Right m old vs e) where
-  pub right-more : (e : ℕ) → e < length (m .exprs) → e < length vs → ((d : ℕ) → Mem d (needs m e) → S d) → Dec (S e) → (x : ℕ) → x < length (m .exprs) → (x ≡ e) ⊎ S x → Right m old (set vs e (computed m old vs e)) x
+  right-more : (e : ℕ) → e < length (m .exprs) → e < length vs → ((d : ℕ) → Mem d (needs m e) → S d) → Dec (S e) → (x : ℕ) → x < length (m .exprs) → (x ≡ e) ⊎ S x → Right m old (set vs e (computed m old vs e)) x
   right-more e p q f (yes s) x h t = subst (λ (l : List Bits). Right m old l x) (sym same) (go t)
     where
       same : set vs e (computed m old vs e) ≡ vs
@@ -47,7 +52,7 @@ module _ (m : Model) (old vs : List Bits) (S : ℕ → Type 0) (closed : (e d : 
   right-more e p q f (no n) x h (inl y) = subst (λ (i : ℕ). Right m old (set vs e (computed m old vs e)) i) (sym y) (now-right m old vs e q (λ k. n (f e k)))
   right-more e p q f (no n) x h (inr z) = still-right m old vs e (computed m old vs e) x (λ y. n (subst S y z)) (λ k. n (closed x e z k)) (right x h z)
 
-pub mem-decided : (x : ℕ) (l : List ℕ) → Dec (Mem x l)
+mem-decided : (x : ℕ) (l : List ℕ) → Dec (Mem x l)
 mem-decided x [] = no not-nil
 mem-decided x (y ∷ l) = go (ℕ-discrete x y) (mem-decided x l)
   where
@@ -59,10 +64,6 @@ mem-decided x (y ∷ l) = go (ℕ-discrete x y) (mem-decided x l)
         out : (x ≡ y) ⊎ Mem x l → ⊥
         out (inl p) = n p
         out (inr q) = k q
-
-true-decided : (b : Bool) → Dec (b ≡ true)
-true-decided true = yes refl
-true-decided false = no false≢true
 
 -- number j of an order is e: the first j + 1 are the first j and e
 module _ (m : Model) {n : ℕ} {order : List ℕ} (hl : n ≤ length order) (ho : Ordered m n order) {j e : ℕ} (hj : j < n) (he : e ≡ getD order j 0) where
@@ -114,6 +115,9 @@ module _ (signals exprs stmts : List ℕ) where
     pub marks-long : length marks ≡ length marks₀
 
 module _ {signals exprs stmts bytes : List ℕ} where
+  pub settles-same : {values values′ : List ℕ} → values′ ≡ values → Settles signals exprs stmts bytes values → Settles signals exprs stmts bytes values′
+  settles-same z s = subst (λ (l : List ℕ). Settles signals exprs stmts bytes l) (sym z) s
+
   pub passing-start : {n : ℕ} {values marks : List ℕ} → RightOn signals exprs stmts (InMarks marks) bytes values → Passing signals exprs stmts n bytes values marks values marks false 0
   passing-start {marks = marks} r = record { right = r; within = omega arith; fewer = λ z. absurd (false≢true z); no-more = omega arith; quiet = λ z. quiet-none (modelIn signals exprs stmts) marks; values-long = refl; marks-long = refl }
 
@@ -160,12 +164,8 @@ module _ {signals exprs stmts exprTable signalTable : List ℕ} (p : Prepared si
     -- S and e, evaluated
     more-on : {values values′ : List ℕ} (S T : ℕ → Type 0) (e : ℕ) → RightOn signals exprs stmts S bytes values → Computed signals exprs stmts bytes e values values′ → e < length (recordsIn exprs) → Dec (S e) → ((d : ℕ) → Mem d (needs (modelIn signals exprs stmts) e) → S d) → ((x : ℕ) → S x → T x) → ((x : ℕ) → T x → (x ≡ e) ⊎ S x)
         → RightOn signals exprs stmts T bytes values′
-    more-on {values} {values′} S T e o c q s f up down = record { closed = λ x d t k. up d (close x d (down x t) k); right-on = λ old behind h. now old behind h (o .right-on old behind h) }
+    more-on {values} {values′} S T e o c q s f up down = record { closed = λ x d t k. up d (closed-more m S (o .closed) e f x d (down x t) k); right-on = λ old behind h. now old behind h (o .right-on old behind h) }
       where
-        close : (x d : ℕ) → (x ≡ e) ⊎ S x → Mem d (needs (modelIn signals exprs stmts) x) → S d
-        close x d (inl y) k = f d (subst (λ (i : ℕ). Mem d (needs (modelIn signals exprs stmts) i)) y k)
-        close x d (inr z) k = o .closed x d z k
-
         now : (old : List Bits) (behind : List ℕ) → Holds (widthsIn signals) old behind bytes → (vs : List Bits) × (rest : List ℕ) × Holds (widthsIn exprs) vs rest values × ((x : ℕ) → x < length (modelIn signals exprs stmts .exprs) → S x → Right (modelIn signals exprs stmts) old vs x)
             → (vs : List Bits) × (rest : List ℕ) × Holds (widthsIn exprs) vs rest values′ × ((x : ℕ) → x < length (modelIn signals exprs stmts .exprs) → T x → Right (modelIn signals exprs stmts) old vs x)
         now old behind h r = (
@@ -177,12 +177,8 @@ module _ {signals exprs stmts exprTable signalTable : List ℕ} (p : Prepared si
 
     -- S and an e that is not there
     same-on : {values : List ℕ} (S T : ℕ → Type 0) (e : ℕ) → RightOn signals exprs stmts S bytes values → length (recordsIn exprs) ≤ e → ((d : ℕ) → Mem d (needs (modelIn signals exprs stmts) e) → S d) → ((x : ℕ) → S x → T x) → ((x : ℕ) → T x → (x ≡ e) ⊎ S x) → RightOn signals exprs stmts T bytes values
-    same-on {values} S T e o q f up down = record { closed = λ x d t k. up d (close x d (down x t) k); right-on = λ old behind h. let r = o .right-on old behind h in (r .0, r .1, r .2, λ x l t. r .3 x l (there-is x l (down x t))) }
+    same-on {values} S T e o q f up down = record { closed = λ x d t k. up d (closed-more m S (o .closed) e f x d (down x t) k); right-on = λ old behind h. let r = o .right-on old behind h in (r .0, r .1, r .2, λ x l t. r .3 x l (there-is x l (down x t))) }
       where
-        close : (x d : ℕ) → (x ≡ e) ⊎ S x → Mem d (needs (modelIn signals exprs stmts) x) → S d
-        close x d (inl y) k = f d (subst (λ (i : ℕ). Mem d (needs (modelIn signals exprs stmts) i)) y k)
-        close x d (inr z) k = o .closed x d z k
-
         there-is : (x : ℕ) → x < length (modelIn signals exprs stmts .exprs) → (x ≡ e) ⊎ S x → S x
         there-is x l (inl y) = absurd (omega (arith, exprs-count, q, y, l))
         there-is x l (inr z) = z
@@ -218,7 +214,7 @@ module _ {signals exprs stmts exprTable signalTable : List ℕ} (p : Prepared si
     -- expression e is marked
     marked-on : {values values′ : List ℕ} (marks : List ℕ) {e : ℕ} → RightOn signals exprs stmts (InMarks marks) bytes values → e < length (recordsIn exprs) → e < length marks → ready (modelIn signals exprs stmts) marks e ≡ true → Computed signals exprs stmts bytes e values values′ → RightOn signals exprs stmts (InMarks (set marks e 1)) bytes values′
     marked-on marks {e} r q l h c =
-        more-on (InMarks marks) (InMarks (set marks e 1)) e r c q (true-decided (marked marks e)) (all-out (marked marks) (needs m e) h) (λ x k. up x k (ℕ-discrete x e)) (λ x k. down x k (ℕ-discrete x e))
+        more-on (InMarks marks) (InMarks (set marks e 1)) e r c q (Bool-discrete (marked marks e) true) (all-out (marked marks) (needs m e) h) (λ x k. up x k (ℕ-discrete x e)) (λ x k. down x k (ℕ-discrete x e))
       where
         up : (x : ℕ) → InMarks marks x → Dec (x ≡ e) → InMarks (set marks e 1) x
         up x k (yes y) = ap (λ (i : ℕ). leb 1 i) (ap (λ (i : ℕ). getD (set marks e 1) i 0) y ∙ getD-set-same marks e 1 0 l)
@@ -238,7 +234,7 @@ module _ {signals exprs stmts exprTable signalTable : List ℕ} (p : Prepared si
             let there : e < length marks = let y = t .marks-long in omega (arith, y, l, h) in
             let less : left (set marks e 1) n < left marks n = let y = left-set marks e n h there (w .0) in omega (arith, y) in
             let g = t .no-more in
-            let yes : next ≡ true = x ∙ or-any any in
+            let yes : next ≡ true = x ∙ or-true any in
             subst (λ (u : List ℕ). Passing signals exprs stmts n bytes values₀ marks₀ values′ u next (e + 1)) (sym d)
             (record {
               right = marked-on marks (t .right) (omega (arith, hn, h)) there (w .1) (c refl);
@@ -249,12 +245,8 @@ module _ {signals exprs stmts exprTable signalTable : List ℕ} (p : Prepared si
               values-long = k ∙ t .values-long;
               marks-long = length-set marks e 1 ∙ t .marks-long;
             })
-          where
-            or-any : (a : Bool) → (a || true) ≡ true
-            or-any true = refl
-            or-any false = refl
         go false q d c z x =
-            let same : next ≡ any = x ∙ or-none any in
+            let same : next ≡ any = x ∙ or-false any in
             subst (λ (u : List ℕ). Passing signals exprs stmts n bytes values₀ marks₀ values′ u next (e + 1)) (sym d)
             (record {
               right = subst (λ (u : List ℕ). RightOn signals exprs stmts (InMarks marks) bytes u) (sym (z refl)) (t .right);
@@ -265,10 +257,6 @@ module _ {signals exprs stmts exprTable signalTable : List ℕ} (p : Prepared si
               values-long = k ∙ t .values-long;
               marks-long = t .marks-long;
             })
-          where
-            or-none : (a : Bool) → (a || false) ≡ a
-            or-none true = refl
-            or-none false = refl
 
     pub passing-end : {n : ℕ} → n ≡ length (recordsIn exprs) → {values₀ marks₀ values marks : List ℕ} {any : Bool} {e : ℕ} → Passing signals exprs stmts n bytes values₀ marks₀ values marks any e → n ≤ e → SettlesPass signals exprs stmts n bytes marks₀ any values marks
     passing-end {n} hn {marks = marks} {e = e} t h =

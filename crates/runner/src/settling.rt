@@ -8,7 +8,7 @@ use simulation::index::wide;
 ghost use mathlib.Core.Path.{_≡_};
 ghost use mathlib.Core.Option.{none};
 ghost use Prim.Native.Nat.{_≤_, _<_};
-ghost use lib.ListN.{length, getD};
+ghost use lib.ListN.{length};
 ghost use Rattle.simulation.specs.Index.{recordsIn, widthsIn, Starts, Driven};
 ghost use Rattle.simulation.specs.Tick.{looped};
 ghost use Rattle.evaluation.specs.Ready.{Prepared, Room, modelIn};

@@ -32,9 +32,9 @@ pub fn tick(
     work_exprs: &mut [u8],
     work_signals: &mut [u8],
 )
-    requires { ⌜ Prepared (now signals) (now exprs) (now stmts) (now «expr_table») (now «signal_table») × Starts (now exprs) (now starts) × Driven (now stmts) (now «driver_table») × Room (now signals) (now exprs) (now bytes) (now values) × (n ≡ length (recordsIn (now exprs))) × (count ≡ length (recordsIn (now signals))) × (n ≤ length (now «work_exprs»)) × (count ≤ length (now «work_signals»)) × Ordered (modelIn (now signals) (now exprs) (now stmts)) n (now order) × (looped (modelIn (now signals) (now exprs) (now stmts)) ≡ none) × Filled (widthsIn (now exprs)) (now values) × GoodTicks (now signals) (now ticks) ⌝ }
+    requires { ⌜ Prepared (now signals) (now exprs) (now stmts) (now «expr_table») (now «signal_table») × Starts (now exprs) (now starts) × Driven (now stmts) (now «driver_table») × Room (now signals) (now exprs) (now bytes) (now values) × (n ≡ length (recordsIn (now exprs))) × (count ≡ length (recordsIn (now signals))) × (n ≤ length (now «work_exprs»)) × (count ≤ length (now «work_signals»)) × Ordered (modelIn (now signals) (now exprs) (now stmts)) n (now order) × (looped (modelIn (now signals) (now exprs) (now stmts)) ≡ none) × Filled (widthsIn (now exprs)) (now values) × GoodTicks (now signals) (now ticks) × Filled (widthsIn (now signals)) (now bytes) ⌝ }
     ensures ticked { λ _. ⌜ Ticks (now (signals .entry)) (now (exprs .entry)) (now (stmts .entry)) (now (ticks .entry)) (firing (firedOf fired)) (now (bytes .entry)) (now (bytes .exit)) ⌝ }
-    ensures filled { λ _. ⌜ (Filled (widthsIn (now (signals .entry))) (now (bytes .entry)) → Filled (widthsIn (now (exprs .entry))) (now (values .exit))) ⌝ }
+    ensures filled { λ _. ⌜ Filled (widthsIn (now (exprs .entry))) (now (values .exit)) ⌝ }
 {
     set_inputs(signals, ticks, bytes);
     settle(
