@@ -7,6 +7,8 @@ pub mod Answers
 pub mod Joining
 pub mod Whole
 pub mod Preparing
+pub mod Signals
 pub mod Storing
+pub mod Calling
 pub mod Committing
 pub mod Settling

@@ -9,19 +9,18 @@ use native.Mathlib.Numerals.{add-one}
 use native.Mathlib.Nat.{not-suc-le-zero, zero-add}
 use native.Mathlib.Decide.{ℕ-discrete}
 use lib.ListN.{length, getD, take, drop, set, length-set, length-map, length-drop}
-use lib.Seq.{getD-set-same, getD-set-other, set-getD, ext-getD, drop-cons, drop-drop, length-take-le}
+use lib.Seq.{getD-set-same, getD-set-other, set-getD, ext-getD, drop-drop, length-take-le}
 use borrow.Author.Tests.{eq-eqb, ne-eqb}
 use Rattle.bits.specs.Bits.{pick, Bits, digit}
 use Rattle.settle.specs.Table.{tabFrom, length-tab, getD-tab}
-use Rattle.recorder.specs.Record.{Signal, sized, signalWords}
+use Rattle.recorder.specs.Record.{Signal}
 use Rattle.recorder.specs.Lists.{over}
-use Rattle.recorder.specs.Read.{readSignal, modelOf}
-use Rattle.recorder.proofs.Roundtrip.{signal-said}
+use Rattle.recorder.specs.Read.{modelOf}
 use Rattle.simulation.specs.Tick.{given, assigns, become, setInputs}
 use Rattle.simulation.specs.Run.{inputWidth, total, isOne}
 use Rattle.simulation.specs.Index.{sizeAt, recordsIn, widthsIn, offset, Indexed, stmtsIn}
 use Rattle.simulation.proofs.Offsets.{offset-next}
-use Rattle.simulation.proofs.Steps.{Walked, walked-start, walked-next, walked-there, walked-within, width-of, length-widths}
+use Rattle.simulation.proofs.Steps.{Walked, walked-start, walked-next, length-widths}
 use Rattle.evaluation.specs.Consistent.{assigned}
 use Rattle.evaluation.specs.Bytes.{part, Holds}
 use Rattle.evaluation.specs.Ready.{modelIn, Prepared, Room}
@@ -29,7 +28,8 @@ use Rattle.evaluation.specs.Ticks.{signalsIn, ReadSignals, GoodTicks, In
 use Rattle.evaluation.proofs.InBytes.{bytes-back}
 use Rattle.evaluation.proofs.Held.{map-take, map-drop, holds-length, holds-width, holds-part, holds-set}
 use Rattle.evaluation.proofs.Evaluating.{offset-before}
-use Rattle.evaluation.proofs.Whole.{read-length, read-at, record-inside, record-word, signals-wide, driver-there, driver-wide}
+use Rattle.evaluation.proofs.Whole.{signals-wide, driver-there, driver-wide}
+use Rattle.evaluation.proofs.Signals.{no-signal, signalAt, signals-long, signal-there, label-is, total-left, width-is, own-width, next-byte, signal-end}
 
 -- ONE VALUE
 
@@ -160,9 +160,6 @@ from-end zero (s ∷ ss) bs t q e = absurd (omega arith)
 from-end (suc k) (s ∷ ss) bs [] q e = absurd (omega arith)
 from-end (suc k) (s ∷ ss) bs (v ∷ t) q e = ap (λ (l : List Bits). v ∷ l) (from-end k ss bs t (omega arith) (omega arith))
 
-abbrev no-signal : Signal
-no-signal = record { label = 0; width = 0; owner = 0 }
-
 -- the state that the bytes hold becomes that with all inputs
 abbrev Becomes : (signals ticks bytes : List ℕ) → ℕ → ℕ → List Bits → List ℕ → Type 0
 Becomes signals ticks bytes k pos goal behind = (t : List Bits) × Holds (widthsIn signals) t behind bytes × (inputsFrom k (signalsIn signals) (drop pos (map isOne ticks)) t ≡ goal)
@@ -177,9 +174,6 @@ pub record Taking (signals ticks bytes₀ bytes : List ℕ) (at to pos : ℕ) : 
   pub so-far : (old : List Bits) (behind : List ℕ) → Holds (widthsIn signals) old behind bytes₀ → Becomes signals ticks bytes count pos (setInputs (signalsIn signals) (map isOne ticks) old) behind
 
 module _ {signals ticks : List ℕ} (h : ReadSignals signals) (ticked : GoodTicks signals ticks) where
-  ss-long : length (signalsIn signals) ≡ length (recordsIn signals)
-  ss-long = read-length readSignal (recordsIn signals) (h .readable)
-
   pub taking-start : (bytes₀ : List ℕ) → Taking signals ticks bytes₀ bytes₀ 0 0 0
   taking-start bytes₀ = record {
     count = 0;
@@ -197,109 +191,84 @@ module _ {signals ticks : List ℕ} (h : ReadSignals signals) (ticked : GoodTick
         done : (goal : List Bits) (behind : List ℕ) → Becomes signals ticks bytes (g .count) pos goal behind → Holds (widthsIn signals) goal behind bytes
         done goal behind b =
             subst (λ (l : List Bits). Holds (widthsIn signals) l behind bytes)
-            (sym (from-end (g .count) (signalsIn signals) (drop pos (map isOne ticks)) (b .0) (omega (arith, ss-long)) (holds-length (b .1) ∙ length-widths signals ∙ sym ss-long)) ∙ b .2)
+            (sym (from-end (g .count) (signalsIn signals) (drop pos (map isOne ticks)) (b .0) (omega (arith, signals-long h)) (holds-length (b .1) ∙ length-widths signals ∙ sym (signals-long h))) ∙ b .2)
             (b .1)
 
     -- the next signal
-    module _ {size : ℕ} (e : size ≡ sizeAt signals at) (d : size ≡ 0 → ⊥) where
+    module _ {size : ℕ} (e : size ≡ sizeAt signals at) (d : size ≡ 0 → ⊥) {w : ℕ} (hw : w ≡ getD signals (at + 2) 0) where
       abbrev x : Signal
-      x = getD (signalsIn signals) (g .count) no-signal
+      x = signalAt signals (g .count)
 
       there : g .count < length (recordsIn signals)
-      there = walked-there (g .walked) size e d
+      there = signal-there h (g .walked) e d
 
-      said : signalWords x ≡ sized (getD (recordsIn signals) (g .count) [])
-      said = signal-said (getD (recordsIn signals) (g .count) []) (read-at readSignal (recordsIn signals) (h .readable) (g .count) there no-signal)
+      pub input-room : offset (widthsIn signals) (length (recordsIn signals)) ≤ length bytes₀ → to + w ≤ length bytes
+      input-room r = omega (arith, r, g .byte-is, g .as-long, signal-end h (g .walked) e d hw)
 
-      four : length (sized (getD (recordsIn signals) (g .count) [])) ≡ 4
-      four = ap length (sym said)
+      byte-next : to + w ≡ offset (widthsIn signals) (g .count + 1)
+      byte-next = omega (arith, g .byte-is, next-byte h (g .walked) e d hw)
 
-      pub signal-inside : at + 4 ≤ length signals
-      signal-inside = omega (arith, g .walked .begins, four, record-inside signals (g .count) there)
+      -- it is an input
+      module _ (l : getD signals (at + 1) 0 ≡ 0) where
+        labelled : x .label ≡ 0
+        labelled = sym (label-is h (g .walked) e d) ∙ l
 
-      word : (j : ℕ) → j < 4 → getD signals (at + j) 0 ≡ getD (signalWords x) j 0
-      word j q = ap (λ (n : ℕ). getD signals (n + j) 0) (g .walked .begins) ∙ record-word signals (g .count) there j (omega (arith, four)) ∙ ap (λ (ws : List ℕ). getD ws j 0) (sym said)
+        bits-next : pos + w + total inputWidth (drop (g .count + 1) (signalsIn signals)) ≡ length ticks
+        bits-next = omega (arith, g .bits-left, total-left h (g .walked) e d inputWidth, ap (λ (b : Bool). pick b (x .width) 0) (eq-eqb (x .label) 0 labelled), width-is h (g .walked) e d hw)
 
-      pub signal-step : at + size ≤ length signals
-      signal-step = walked-within (g .walked) size e d
+        pub input-copies : offset (widthsIn signals) (length (recordsIn signals)) ≤ length bytes₀ → (to + w ≤ length bytes) × (pos + w ≤ length ticks)
+        input-copies r = (input-room r, omega (arith, bits-next))
 
-      module _ {w : ℕ} (hw : w ≡ getD signals (at + 2) 0) where
-        width-is : w ≡ x .width
-        width-is = hw ∙ word 2 (omega arith)
-
-        own-width : getD (widthsIn signals) (g .count) 0 ≡ w
-        own-width = width-of signals (g .count) ∙ ap (λ (ws : List ℕ). getD ws 2 0) (sym said) ∙ sym width-is
-
-        pub signal-room : offset (widthsIn signals) (length (recordsIn signals)) ≤ length bytes₀ → to + w ≤ length bytes
-        signal-room r = omega (arith, r, g .byte-is, g .as-long, own-width, offset-before (widthsIn signals) (g .count) (length (recordsIn signals)) there)
-
-        next-byte : to + w ≡ offset (widthsIn signals) (g .count + 1)
-        next-byte = omega (arith, g .byte-is, own-width, offset-next (widthsIn signals) (g .count))
-
-        left-is : total inputWidth (drop (g .count) (signalsIn signals)) ≡ inputWidth x + total inputWidth (drop (g .count + 1) (signalsIn signals))
-        left-is = ap (total inputWidth) (drop-cons (signalsIn signals) (g .count) no-signal (omega (arith, ss-long, there)) ∙ ap (λ (n : ℕ). x ∷ drop n (signalsIn signals)) (sym (add-one (g .count))))
-
-        -- it is an input
-        module _ (l : getD signals (at + 1) 0 ≡ 0) where
-          labelled : x .label ≡ 0
-          labelled = sym (word 1 (omega arith)) ∙ l
-
-          bits-next : pos + w + total inputWidth (drop (g .count + 1) (signalsIn signals)) ≡ length ticks
-          bits-next = omega (arith, g .bits-left, left-is, ap (λ (b : Bool). pick b (x .width) 0) (eq-eqb (x .label) 0 labelled), width-is)
-
-          pub input-copies : offset (widthsIn signals) (length (recordsIn signals)) ≤ length bytes₀ → (to + w ≤ length bytes) × (pos + w ≤ length ticks)
-          input-copies r = (signal-room r, omega (arith, bits-next))
-
-          pub input-taken : {bytes′ : List ℕ} → length bytes′ ≡ length bytes → bytes′ ≡ over bytes to (part ticks pos w) → Taking signals ticks bytes₀ bytes′ (at + size) (to + w) (pos + w)
-          input-taken {bytes′} n z = record {
-            count = g .count + 1;
-            walked = walked-next (g .walked) size e d;
-            byte-is = next-byte;
-            bits-left = bits-next;
-            as-long = n ∙ g .as-long;
-            so-far = λ old behind ho. step (setInputs (signalsIn signals) (map isOne ticks) old) behind (g .so-far old behind ho);
-          }
-            where
-              long : length (take w (drop pos (map isOne ticks))) ≡ w
-              long = length-take-le w (drop pos (map isOne ticks)) (omega (arith, bits-next, length-drop pos (map isOne ticks), length-map ticks isOne))
-
-              bytes-are : part ticks pos w ≡ map digit (take w (drop pos (map isOne ticks)))
-              bytes-are =
-                  ap (λ (b : List ℕ). part b pos w) (sym (bytes-back 0 ticks (ticked .all-bits)))
-                  ∙ ap (take w) (map-drop digit pos (map isOne ticks))
-                  ∙ map-take digit w (drop pos (map isOne ticks))
-
-              step : (goal : List Bits) (behind : List ℕ) → Becomes signals ticks bytes (g .count) pos goal behind → Becomes signals ticks bytes′ (g .count + 1) (pos + w) goal behind
-              step goal behind b = (
-                set (b .0) (g .count) (take w (drop pos (map isOne ticks))),
-                subst (λ (y : List ℕ). Holds (widthsIn signals) (set (b .0) (g .count) (take w (drop pos (map isOne ticks)))) behind y)
-                    (sym (z ∙ ap₂ (λ (i : ℕ) (y : List ℕ). over bytes i y) (g .byte-is) bytes-are))
-                    (holds-set (b .1) (g .count) (take w (drop pos (map isOne ticks))) (omega (arith, there, length-widths signals)) (long ∙ sym own-width)),
-                ap₂ (λ (j : ℕ) (y : Bits). inputsFrom j (signalsIn signals) y (set (b .0) (g .count) (take w (drop pos (map isOne ticks))))) (add-one (g .count)) (sym (drop-drop w pos (map isOne ticks)))
-                    ∙ ap (λ (i : ℕ). inputsFrom (suc (g .count)) (signalsIn signals) (drop i (drop pos (map isOne ticks))) (set (b .0) (g .count) (take i (drop pos (map isOne ticks))))) width-is
-                    ∙ from-input no-signal (g .count) (signalsIn signals) (drop pos (map isOne ticks)) (b .0) (omega (arith, ss-long, there)) (omega (arith, there, holds-length (b .1), length-widths signals)) labelled
-                    ∙ b .2,
-              )
-
-        -- it is none
-        pub input-none : (getD signals (at + 1) 0 ≡ 0 → ⊥) → Taking signals ticks bytes₀ bytes (at + size) (to + w) pos
-        input-none l = record {
+        pub input-taken : {bytes′ : List ℕ} → length bytes′ ≡ length bytes → bytes′ ≡ over bytes to (part ticks pos w) → Taking signals ticks bytes₀ bytes′ (at + size) (to + w) (pos + w)
+        input-taken {bytes′} n z = record {
           count = g .count + 1;
           walked = walked-next (g .walked) size e d;
-          byte-is = next-byte;
-          bits-left = omega (arith, g .bits-left, left-is, ap (λ (b : Bool). pick b (x .width) 0) (ne-eqb (x .label) 0 labelled));
-          as-long = g .as-long;
+          byte-is = byte-next;
+          bits-left = bits-next;
+          as-long = n ∙ g .as-long;
           so-far = λ old behind ho. step (setInputs (signalsIn signals) (map isOne ticks) old) behind (g .so-far old behind ho);
         }
           where
-            labelled : x .label ≡ 0 → ⊥
-            labelled q = l (word 1 (omega arith) ∙ q)
+            long : length (take w (drop pos (map isOne ticks))) ≡ w
+            long = length-take-le w (drop pos (map isOne ticks)) (omega (arith, bits-next, length-drop pos (map isOne ticks), length-map ticks isOne))
 
-            step : (goal : List Bits) (behind : List ℕ) → Becomes signals ticks bytes (g .count) pos goal behind → Becomes signals ticks bytes (g .count + 1) pos goal behind
+            bytes-are : part ticks pos w ≡ map digit (take w (drop pos (map isOne ticks)))
+            bytes-are =
+                ap (λ (b : List ℕ). part b pos w) (sym (bytes-back 0 ticks (ticked .all-bits)))
+                ∙ ap (take w) (map-drop digit pos (map isOne ticks))
+                ∙ map-take digit w (drop pos (map isOne ticks))
+
+            step : (goal : List Bits) (behind : List ℕ) → Becomes signals ticks bytes (g .count) pos goal behind → Becomes signals ticks bytes′ (g .count + 1) (pos + w) goal behind
             step goal behind b = (
-              b .0,
-              b .1,
-              ap (λ (j : ℕ). inputsFrom j (signalsIn signals) (drop pos (map isOne ticks)) (b .0)) (add-one (g .count))
-                  ∙ from-other no-signal (g .count) (signalsIn signals) (drop pos (map isOne ticks)) (b .0) (omega (arith, ss-long, there)) (omega (arith, there, holds-length (b .1), length-widths signals)) labelled
+              set (b .0) (g .count) (take w (drop pos (map isOne ticks))),
+              subst (λ (y : List ℕ). Holds (widthsIn signals) (set (b .0) (g .count) (take w (drop pos (map isOne ticks)))) behind y)
+                  (sym (z ∙ ap₂ (λ (i : ℕ) (y : List ℕ). over bytes i y) (g .byte-is) bytes-are))
+                  (holds-set (b .1) (g .count) (take w (drop pos (map isOne ticks))) (omega (arith, there, length-widths signals)) (long ∙ sym (own-width h (g .walked) e d hw))),
+              ap₂ (λ (j : ℕ) (y : Bits). inputsFrom j (signalsIn signals) y (set (b .0) (g .count) (take w (drop pos (map isOne ticks))))) (add-one (g .count)) (sym (drop-drop w pos (map isOne ticks)))
+                  ∙ ap (λ (i : ℕ). inputsFrom (suc (g .count)) (signalsIn signals) (drop i (drop pos (map isOne ticks))) (set (b .0) (g .count) (take i (drop pos (map isOne ticks))))) (width-is h (g .walked) e d hw)
+                  ∙ from-input no-signal (g .count) (signalsIn signals) (drop pos (map isOne ticks)) (b .0) (omega (arith, signals-long h, there)) (omega (arith, there, holds-length (b .1), length-widths signals)) labelled
                   ∙ b .2,
             )
+
+      -- it is none
+      pub input-none : (getD signals (at + 1) 0 ≡ 0 → ⊥) → Taking signals ticks bytes₀ bytes (at + size) (to + w) pos
+      input-none l = record {
+        count = g .count + 1;
+        walked = walked-next (g .walked) size e d;
+        byte-is = byte-next;
+        bits-left = omega (arith, g .bits-left, total-left h (g .walked) e d inputWidth, ap (λ (b : Bool). pick b (x .width) 0) (ne-eqb (x .label) 0 labelled));
+        as-long = g .as-long;
+        so-far = λ old behind ho. step (setInputs (signalsIn signals) (map isOne ticks) old) behind (g .so-far old behind ho);
+      }
+        where
+          labelled : x .label ≡ 0 → ⊥
+          labelled q = l (label-is h (g .walked) e d ∙ q)
+
+          step : (goal : List Bits) (behind : List ℕ) → Becomes signals ticks bytes (g .count) pos goal behind → Becomes signals ticks bytes (g .count + 1) pos goal behind
+          step goal behind b = (
+            b .0,
+            b .1,
+            ap (λ (j : ℕ). inputsFrom j (signalsIn signals) (drop pos (map isOne ticks)) (b .0)) (add-one (g .count))
+                ∙ from-other no-signal (g .count) (signalsIn signals) (drop pos (map isOne ticks)) (b .0) (omega (arith, signals-long h, there)) (omega (arith, there, holds-length (b .1), length-widths signals)) labelled
+                ∙ b .2,
+          )

@@ -1,2 +1,4 @@
 -- The laws of runner.
 pub mod Tick
+pub mod Showing
+pub mod Ticking

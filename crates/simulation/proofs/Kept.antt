@@ -164,23 +164,23 @@ module _ (widest : ℕ) (m : Model) (h : Sound widest m) where
   fits-tick bs f t q k = fits-settle (commit m f (settle m (setInputs (m .signals) bs t))) (fits-commit f (settle m (setInputs (m .signals) bs t)) (fits-settle (setInputs (m .signals) bs t) (fits-inputs (m .signals) bs t q k)))
 
 -- THE WHOLE CALL
-abbrev AllNone : List (Option (ℕ × ℕ)) → Type 0
+abbrev pub AllNone : List (Option (ℕ × ℕ)) → Type 0
 AllNone [] = Unit {0}
 AllNone (o ∷ os) = (o ≡ none) × AllNone os
 
-all-none : (os : List (Option (ℕ × ℕ))) → firstOf os ≡ none → AllNone os
+pub all-none : (os : List (Option (ℕ × ℕ))) → firstOf os ≡ none → AllNone os
 all-none [] h = tt
 all-none (none ∷ os) h = (refl, all-none os h)
 all-none (some r ∷ os) h = absurd (Option·some-ne-none r h)
 
-short-none : (n : ℕ) (b : List ℕ) → short n b ≡ none → n ≤ length b
+pub short-none : (n : ℕ) (b : List ℕ) → short n b ≡ none → n ≤ length b
 short-none n b h = go (ltb (length b) n) refl h
   where
     go : (z : Bool) → ltb (length b) n ≡ z → _≡_ {A = Option (ℕ × ℕ)} (only z (some (1, min n 18446744073709551615))) none → n ≤ length b
     go true e k = absurd (Option·some-ne-none _ k)
     go false e k = ltb-false (length b) n e
 
-count-none : (n : ℕ) (b : List ℕ) → wrongCount n b ≡ none → length b ≡ n
+pub count-none : (n : ℕ) (b : List ℕ) → wrongCount n b ≡ none → length b ≡ n
 count-none n b h = go (eqb (length b) n) refl h
   where
     go : (z : Bool) → eqb (length b) n ≡ z → _≡_ {A = Option (ℕ × ℕ)} (pick z none (some (14, n))) none → length b ≡ n
@@ -266,11 +266,11 @@ isOne-digit : (b : Bool) → isOne (digit b) ≡ b
 isOne-digit true = refl
 isOne-digit false = refl
 
-back-bits : (bs : Bits) (rest : List ℕ) → map isOne (map digit bs ++ rest) ≡ bs ++ map isOne rest
+pub back-bits : (bs : Bits) (rest : List ℕ) → map isOne (map digit bs ++ rest) ≡ bs ++ map isOne rest
 back-bits [] rest = refl
 back-bits (b ∷ bs) rest = ap₂ _∷_ (isOne-digit b) (back-bits bs rest)
 
-cut-flat : (ss : List Signal) (t : List Bits) (rest : Bits) → Fits ss t → perSignal ss (flat t ++ rest) ≡ t
+pub cut-flat : (ss : List Signal) (t : List Bits) (rest : Bits) → Fits ss t → perSignal ss (flat t ++ rest) ≡ t
 cut-flat [] [] rest h = refl
 cut-flat [] (v ∷ t) rest h = absurd h
 cut-flat (s ∷ ss) [] rest h = absurd h

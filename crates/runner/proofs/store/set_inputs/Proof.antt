@@ -1,4 +1,5 @@
-use Rattle.evaluation.proofs.Storing.{Taking, taking-start, taking-end, signal-inside, signal-step, signal-room, input-copies, input-taken, input-none}
+use Rattle.evaluation.proofs.Storing.{Taking, taking-start, taking-end, input-room, input-copies, input-taken, input-none}
+use Rattle.evaluation.proofs.Signals.{signal-inside, signal-step}
 use Rattle.simulation.proofs.Steps.{walked-out, walked-end}
 use lib.ListN.{length}
 use mathlib.Core.List.{List}
@@ -38,15 +39,15 @@ returns c = let s = c .before .before .before .before .before .before .before in
 
 -- src/store.rt:82:34
 add-wide : tie.Need-add-wide Inv-loop μ-loop
-add-wide c = let s = c .before .before .before .before .before .before .before in omega (arith, signal-inside (s .pre .0) (s .pre .1) (c .before .before .before .loop .inv) (c .before .size .ensures) (c .if1 .left), s .good .0)
+add-wide c = let s = c .before .before .before .before .before .before .before in omega (arith, signal-inside (s .pre .0) (c .before .before .before .loop .inv .walked) (c .before .size .ensures) (c .if1 .left), s .good .0)
 
 -- src/store.rt:82:26
 mul-wide : tie.Need-mul-wide Inv-loop μ-loop
-mul-wide c = let s = c .before .before .before .before .before .before .before in omega (arith, signal-inside (s .pre .0) (s .pre .1) (c .before .before .before .loop .inv) (c .before .size .ensures) (c .if1 .left), s .good .0)
+mul-wide c = let s = c .before .before .before .before .before .before .before in omega (arith, signal-inside (s .pre .0) (c .before .before .before .loop .inv .walked) (c .before .size .ensures) (c .if1 .left), s .good .0)
 
 -- src/store.rt:82:26
 shared-slice-read-wide : tie.Need-shared-slice-read-wide Inv-loop μ-loop
-shared-slice-read-wide c = let s = c .before .before .before .before .before .before .before .before in omega (arith, signal-inside (s .pre .0) (s .pre .1) (c .before .before .before .before .loop .inv) (c .before .before .size .ensures) (c .before .if1 .left))
+shared-slice-read-wide c = let s = c .before .before .before .before .before .before .before .before in omega (arith, signal-inside (s .pre .0) (c .before .before .before .before .loop .inv .walked) (c .before .before .size .ensures) (c .before .if1 .left))
 
 -- src/store.rt:82:13
 wide-requires : tie.Need-wide-requires Inv-loop μ-loop
@@ -54,15 +55,15 @@ wide-requires c κs = tt
 
 -- src/store.rt:83:20
 add-if2 : tie.Need-add-if2 Inv-loop μ-loop
-add-if2 c = let s = c .before .before .before .before .before .before .before .before .before in omega (arith, signal-inside (s .pre .0) (s .pre .1) (c .before .before .before .before .before .loop .inv) (c .before .before .before .size .ensures) (c .before .before .if1 .left), s .good .0)
+add-if2 c = let s = c .before .before .before .before .before .before .before .before .before in omega (arith, signal-inside (s .pre .0) (c .before .before .before .before .before .loop .inv .walked) (c .before .before .before .size .ensures) (c .before .before .if1 .left), s .good .0)
 
 -- src/store.rt:83:12
 mul-if2 : tie.Need-mul-if2 Inv-loop μ-loop
-mul-if2 c = let s = c .before .before .before .before .before .before .before .before .before in omega (arith, signal-inside (s .pre .0) (s .pre .1) (c .before .before .before .before .before .loop .inv) (c .before .before .before .size .ensures) (c .before .before .if1 .left), s .good .0)
+mul-if2 c = let s = c .before .before .before .before .before .before .before .before .before in omega (arith, signal-inside (s .pre .0) (c .before .before .before .before .before .loop .inv .walked) (c .before .before .before .size .ensures) (c .before .before .if1 .left), s .good .0)
 
 -- src/store.rt:83:12
 shared-slice-read-if2 : tie.Need-shared-slice-read-if2 Inv-loop μ-loop
-shared-slice-read-if2 c = let s = c .before .before .before .before .before .before .before .before .before .before in omega (arith, signal-inside (s .pre .0) (s .pre .1) (c .before .before .before .before .before .before .loop .inv) (c .before .before .before .before .size .ensures) (c .before .before .before .if1 .left))
+shared-slice-read-if2 c = let s = c .before .before .before .before .before .before .before .before .before .before in omega (arith, signal-inside (s .pre .0) (c .before .before .before .before .before .before .loop .inv .walked) (c .before .before .before .before .size .ensures) (c .before .before .before .if1 .left))
 
 -- src/store.rt:84:13
 copy-requires : tie.Need-copy-requires Inv-loop μ-loop
@@ -74,15 +75,15 @@ add-pos c = let s = c .before .before .before .before .before .before .before .b
 
 -- src/store.rt:87:9
 add-to : tie.Need-add-to Inv-loop μ-loop
-add-to c = let s = c .before .before .before .before .before .before .before .before .before .before .before in omega (arith, signal-room (s .pre .0) (s .pre .1) (c .before .before .before .before .before .before .before .loop .inv) (c .before .before .before .before .before .size .ensures) (c .before .before .before .before .if1 .left) (c .before .before .wide .ensures) (s .pre .2), c .before .before .before .before .before .before .before .loop .inv .as-long, s .good .1 .1 .0)
+add-to c = let s = c .before .before .before .before .before .before .before .before .before .before .before in omega (arith, input-room (s .pre .0) (s .pre .1) (c .before .before .before .before .before .before .before .loop .inv) (c .before .before .before .before .before .size .ensures) (c .before .before .before .before .if1 .left) (c .before .before .wide .ensures) (s .pre .2), c .before .before .before .before .before .before .before .loop .inv .as-long, s .good .1 .1 .0)
 
 -- src/store.rt:88:9
 add-at : tie.Need-add-at Inv-loop μ-loop
-add-at c = let s = c .before .before .before .before .before .before .before .before .before .before .before in omega (arith, signal-step (s .pre .0) (s .pre .1) (c .before .before .before .before .before .before .before .loop .inv) (c .before .before .before .before .before .size .ensures) (c .before .before .before .before .if1 .left), s .good .0)
+add-at c = let s = c .before .before .before .before .before .before .before .before .before .before .before in omega (arith, signal-step (s .pre .0) (c .before .before .before .before .before .before .before .loop .inv .walked) (c .before .before .before .before .before .size .ensures) (c .before .before .before .before .if1 .left), s .good .0)
 
 -- src/store.rt:77:5
 loop-less : tie.Need-loop-less Inv-loop μ-loop
-loop-less c = let s = c .before .before .before .before .before .before .before .before .before .before .before in omega (arith, signal-step (s .pre .0) (s .pre .1) (c .before .before .before .before .before .before .before .loop .inv) (c .before .before .before .before .before .size .ensures) (c .before .before .before .before .if1 .left), c .before .before .before .before .if1 .left)
+loop-less c = let s = c .before .before .before .before .before .before .before .before .before .before .before in omega (arith, signal-step (s .pre .0) (c .before .before .before .before .before .before .before .loop .inv .walked) (c .before .before .before .before .before .size .ensures) (c .before .before .before .before .if1 .left), c .before .before .before .before .if1 .left)
 
 -- src/store.rt:77:5
 loop-again : tie.Need-loop-again Inv-loop μ-loop
