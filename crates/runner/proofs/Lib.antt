@@ -2,3 +2,4 @@
 pub mod Tick
 pub mod Showing
 pub mod Ticking
+pub mod Running

@@ -1,7 +1,7 @@
 -- What the parts of a list's run leave.
 use Prim.Native.Nat.{ℕ, _≤_}
 use mathlib.Core.Path.{_≡_}
-use mathlib.Core.List.{List, [], _∷_, map}
+use mathlib.Core.List.{List, map}
 use mathlib.Core.Option.{Option, none, some}
 use lib.ListN.{length}
 use Rattle.bits.specs.Bits.{Bits}
@@ -12,7 +12,8 @@ use Rattle.recorder.specs.Words.{rawOf}
 use Rattle.simulation.specs.Wellformed.{largest}
 use Rattle.simulation.specs.Index.{widthsIn}
 use Rattle.simulation.specs.Tick.{tick}
-use Rattle.simulation.specs.Run.{isOne, firing, exprBits, noBit, wrongCount, wrongFired, firstOf}
+use Rattle.simulation.specs.Run.{isOne, firing, exprBits, firstOf}
+use Rattle.simulation.specs.Fault.{tickCauses as causes}
 use Rattle.simulation.specs.Shown.{Entry, ByModel, shownByModel, bytesAfterAll}
 use Rattle.evaluation.specs.Bytes.{Holds}
 use Rattle.evaluation.specs.Ready.{modelIn}
@@ -20,7 +21,7 @@ use Rattle.runner.specs.Calls.{entries, answersOf, outputsOf}
 
 -- what refuses one tick on a model of `count` signals and `inputs` input bits
 abbrev pub tickCauses : ℕ → ℕ → List ℕ → Option (ℕ × ℕ) → Option (ℕ × ℕ)
-tickCauses count inputs ticks fired = firstOf (wrongCount inputs ticks ∷ noBit 0 ticks ∷ wrongFired count fired ∷ [])
+tickCauses count inputs ticks fired = firstOf (causes count inputs ticks fired)
 
 -- the signals after a tick, as they were if it was refused
 abbrev pub afterTick : Model → List ℕ → Option (ℕ × ℕ) → Option (ℕ × ℕ) → List Bits → List Bits

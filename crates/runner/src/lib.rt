@@ -2,6 +2,7 @@
 mod bytes; // bytes.rt: copies, tests, numbers
 mod commit; // commit.rt: the registers load
 mod expression; // expression.rt: the value of one expression
+mod list; // list.rt: a list of ticks
 mod loops; // loops.rt: the lowest signal on a loop
 mod marks; // marks.rt: what an expression needs, marked
 mod prepare; // prepare.rt: tables, order and loop of a model

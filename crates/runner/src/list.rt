@@ -1,0 +1,134 @@
+// A list of ticks on a model that was checked and prepared once.
+use crate::show::end_of;
+use crate::show::fired_by;
+use crate::show::put_answer;
+use crate::show::show;
+use crate::ticks::tick;
+use model_check::call::tick_fault;
+use simulation::Fired;
+use simulation::Ran;
+use simulation::index::wide;
+ghost use mathlib.Core.Path.{_≡_};
+ghost use mathlib.Core.Option.{none};
+ghost use Prim.Native.Nat.{_*_, _/_, _≤_};
+ghost use lib.ListN.{length};
+ghost use Rattle.recorder.specs.Lists.{lists};
+ghost use Rattle.simulation.specs.Wellformed.{largest, malformed};
+ghost use Rattle.simulation.specs.Index.{recordsIn, widthsIn, Starts, Driven};
+ghost use Rattle.simulation.specs.Run.{answerOf, firedOf, total, inputWidth};
+ghost use Rattle.simulation.specs.Tick.{looped};
+ghost use Rattle.evaluation.specs.Ready.{Prepared, Room, modelIn};
+ghost use Rattle.evaluation.specs.Ticks.{Filled, Ordered, signalsIn};
+ghost use Rattle.runner.specs.Calls.{outputWidth};
+ghost use Rattle.runner.specs.Parts.{tickCauses, RunsTick, RunsTicks};
+
+// One tick of a model of n expressions, `count` signals and `inputs` input bits, unless it is refused.
+fn run_tick(
+    signals: &[u32],
+    exprs: &[u32],
+    stmts: &[u32],
+    starts: &[u32],
+    expr_table: &[u32],
+    signal_table: &[u32],
+    driver_table: &[u32],
+    order: &[u32],
+    n: usize,
+    count: usize,
+    inputs: usize,
+    ticks: &[u8],
+    fired: Fired,
+    bytes: &mut [u8],
+    values: &mut [u8],
+    work_exprs: &mut [u8],
+    work_signals: &mut [u8],
+) -> Ran
+    requires { ⌜ Prepared (now signals) (now exprs) (now stmts) (now «expr_table») (now «signal_table») × Starts (now exprs) (now starts) × Driven (now stmts) (now «driver_table») × Room (now signals) (now exprs) (now bytes) (now values) × (n ≡ length (recordsIn (now exprs))) × (count ≡ length (recordsIn (now signals))) × (n ≤ length (now «work_exprs»)) × (count ≤ length (now «work_signals»)) × Ordered (modelIn (now signals) (now exprs) (now stmts)) n (now order) × (looped (modelIn (now signals) (now exprs) (now stmts)) ≡ none) × Filled (widthsIn (now exprs)) (now values) × Filled (widthsIn (now signals)) (now bytes) × (inputs ≡ total inputWidth (signalsIn (now signals))) ⌝ }
+    ensures answered { λ r. ⌜ answerOf r ≡ tickCauses count inputs (now (ticks .entry)) (firedOf fired) ⌝ }
+    ensures runs { λ r. ⌜ RunsTick (now (signals .entry)) (now (exprs .entry)) (now (stmts .entry)) (now (ticks .entry)) (firedOf fired) (answerOf r) (now (bytes .entry)) (now (bytes .exit)) ⌝ }
+    ensures filled { λ _. ⌜ Filled (widthsIn (now (exprs .entry))) (now (values .exit)) ⌝ }
+{
+    match tick_fault(count, inputs, ticks, fired) {
+        Ran::Refused(x) => Ran::Refused(x),
+        Ran::Done => {
+            tick(
+                signals,
+                exprs,
+                stmts,
+                starts,
+                expr_table,
+                signal_table,
+                driver_table,
+                order,
+                n,
+                count,
+                ticks,
+                fired,
+                bytes,
+                values,
+                work_exprs,
+                work_signals,
+            );
+            Ran::Done
+        }
+    }
+}
+
+// All ticks: three words each in `heads`, their bits one after the other.
+pub fn run_ticks(
+    signals: &[u32],
+    exprs: &[u32],
+    stmts: &[u32],
+    starts: &[u32],
+    expr_table: &[u32],
+    signal_table: &[u32],
+    driver_table: &[u32],
+    order: &[u32],
+    n: usize,
+    count: usize,
+    inputs: usize,
+    heads: &[u32],
+    bits: &[u8],
+    bytes: &mut [u8],
+    values: &mut [u8],
+    work_exprs: &mut [u8],
+    work_signals: &mut [u8],
+    answers: &mut [u64],
+    shown: &mut [u8],
+)
+    requires { ⌜ Prepared (now signals) (now exprs) (now stmts) (now «expr_table») (now «signal_table») × Starts (now exprs) (now starts) × Driven (now stmts) (now «driver_table») × Room (now signals) (now exprs) (now bytes) (now values) × (n ≡ length (recordsIn (now exprs))) × (count ≡ length (recordsIn (now signals))) × (n ≤ length (now «work_exprs»)) × (count ≤ length (now «work_signals»)) × Ordered (modelIn (now signals) (now exprs) (now stmts)) n (now order) × (looped (modelIn (now signals) (now exprs) (now stmts)) ≡ none) × Filled (widthsIn (now exprs)) (now values) × Filled (widthsIn (now signals)) (now bytes) × (inputs ≡ total inputWidth (signalsIn (now signals))) × (2 * (length (now heads) / 3) ≤ length (now answers)) × (total outputWidth (signalsIn (now signals)) * (length (now heads) / 3) ≤ length (now shown)) × (malformed largest (lists (now signals) (now exprs) (now stmts)) ≡ none) ⌝ }
+    ensures { λ _. ⌜ RunsTicks (lists (now (signals .entry)) (now (exprs .entry)) (now (stmts .entry))) (now (heads .entry)) (now (bits .entry)) (now (bytes .entry)) (now (bytes .exit)) (now (answers .entry)) (now (answers .exit)) (now (shown .entry)) (now (shown .exit)) ⌝ }
+{
+    let mut at: usize = 0;
+    let mut pos: usize = 0;
+    let mut to: usize = 0;
+    let mut i: usize = 0;
+    let k = heads.len() / 3;
+    while i < k {
+        let end = end_of(bits, pos, wide(heads[at]));
+        let fired = fired_by(heads[at + 1], heads[at + 2]);
+        let r = run_tick(
+            signals,
+            exprs,
+            stmts,
+            starts,
+            expr_table,
+            signal_table,
+            driver_table,
+            order,
+            n,
+            count,
+            inputs,
+            &bits[pos..end],
+            fired,
+            bytes,
+            values,
+            work_exprs,
+            work_signals,
+        );
+        put_answer(answers, 2 * i, r);
+        to = show(signals, bytes, shown, to);
+        at += 3;
+        pos = end;
+        i += 1;
+    }
+}
