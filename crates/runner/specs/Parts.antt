@@ -1,19 +1,20 @@
 -- What the parts of a list's run leave.
 use Prim.Native.Nat.{ℕ, _≤_}
 use mathlib.Core.Path.{_≡_}
-use mathlib.Core.List.{List, map}
+use mathlib.Core.List.{List, [], map}
 use mathlib.Core.Option.{Option, none, some}
-use lib.ListN.{length}
+use lib.ListN.{length, take}
 use Rattle.bits.specs.Bits.{Bits}
 use Rattle.recorder.specs.Lists.{Lists, over}
 use Rattle.recorder.specs.Record.{Model}
 use Rattle.recorder.specs.Read.{modelOf}
 use Rattle.recorder.specs.Words.{rawOf}
-use Rattle.simulation.specs.Wellformed.{largest}
+use Rattle.simulation.specs.Wellformed.{largest, malformed}
 use Rattle.simulation.specs.Index.{widthsIn}
-use Rattle.simulation.specs.Tick.{tick}
-use Rattle.simulation.specs.Run.{isOne, firing, exprBits, firstOf}
-use Rattle.simulation.specs.Fault.{tickCauses as causes}
+use Rattle.simulation.specs.Tick.{tick, looped}
+use Rattle.simulation.specs.Run.{answerOf, isOne, firing, signalBytes, exprBits, tickBits, noBit, onLoop, firstOf, bytesAfter}
+use Rattle.simulation.specs.Fault.{tickCauses as causesOfTick, callOf}
+use Rattle.simulation.specs.declared.Ran.{Ran}
 use Rattle.simulation.specs.Shown.{Entry, ByModel, shownByModel, bytesAfterAll}
 use Rattle.evaluation.specs.Bytes.{Holds}
 use Rattle.evaluation.specs.Ready.{modelIn}
@@ -21,7 +22,7 @@ use Rattle.runner.specs.Calls.{entries, answersOf, outputsOf}
 
 -- what refuses one tick on a model of `count` signals and `inputs` input bits
 abbrev pub tickCauses : ℕ → ℕ → List ℕ → Option (ℕ × ℕ) → Option (ℕ × ℕ)
-tickCauses count inputs ticks fired = firstOf (causes count inputs ticks fired)
+tickCauses count inputs ticks fired = firstOf (causesOfTick count inputs ticks fired)
 
 -- the signals after a tick, as they were if it was refused
 abbrev pub afterTick : Model → List ℕ → Option (ℕ × ℕ) → Option (ℕ × ℕ) → List Bits → List Bits
@@ -34,6 +35,19 @@ pub record RunsTick (signals exprs stmts ticks : List ℕ) (fired answer : Optio
 -- works that are long enough for a model
 abbrev pub Enough : Model → List ℕ → List ℕ → List ℕ → Type 0
 Enough m wb we ws = (exprBits m ≤ length wb) × (length (m .exprs) ≤ length we) × (length (m .signals) ≤ length ws)
+
+-- a call that nothing refuses but maybe a loop
+pub record Unrefused (l : Lists) (bytes ticks : List ℕ) (fired : Option (ℕ × ℕ)) (wb we ws : List ℕ) : Type 0 where
+  pub well-formed : malformed largest l ≡ none
+  pub bytes-enough : signalBytes (modelOf (rawOf l)) ≤ length bytes
+  pub enough : Enough (modelOf (rawOf l)) wb we ws
+  pub bits : noBit 0 (take (signalBytes (modelOf (rawOf l))) bytes) ≡ none
+  pub no-cause : tickCauses (length (modelOf (rawOf l) .signals)) (tickBits (modelOf (rawOf l))) ticks fired ≡ none
+
+-- its answer, 13 or none, and the signal bytes
+pub record Tries (l : Lists) (bytes ticks : List ℕ) (fired : Option (ℕ × ℕ)) (r : Ran) (bytes′ : List ℕ) : Type 0 where
+  pub answered : answerOf r ≡ onLoop (looped (modelOf (rawOf l)))
+  pub left : bytes′ ≡ bytesAfter (callOf l bytes ticks fired [] [] []) (onLoop (looped (modelOf (rawOf l))))
 
 -- all ticks, as the calls of a run with whatever works are long enough
 abbrev pub made : Lists → List ℕ → List Entry → List ByModel

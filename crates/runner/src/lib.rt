@@ -12,3 +12,182 @@ mod sort; // sort.rt: an order of all expressions
 mod store; // store.rt: inputs and values in the signals' bytes
 mod tables; // tables.rt: where records and values stand, by tables
 mod ticks; // ticks.rt: one tick
+
+use model_check::call::check_call;
+use ordering::Loop;
+use prepare::prepare;
+use refusal::Refusal;
+use simulation::Fired;
+use simulation::Ran;
+use simulation::index::count;
+use simulation::zero::zero_bytes;
+use ticks::tick;
+ghost use Rattle.recorder.specs.Lists.{lists};
+ghost use Rattle.simulation.specs.Fault.{callOf};
+ghost use Rattle.simulation.specs.Run.{firedOf};
+ghost use Rattle.runner.specs.Calls.{Runs, Answers};
+ghost use Rattle.runner.specs.Parts.{Unrefused, Tries};
+
+// The largest width of a signal or an expression.
+pub const WIDEST: u32 = 4096;
+
+// The tick of a call that nothing refuses but maybe a loop (13). The tables are work.
+fn run_checked(
+    signals: &[u32],
+    exprs: &[u32],
+    stmts: &[u32],
+    bytes: &mut [u8],
+    ticks: &[u8],
+    fired: Fired,
+    work_bits: &mut [u8],
+    work_exprs: &mut [u8],
+    work_signals: &mut [u8],
+    starts: &mut [u32],
+    expr_table: &mut [u32],
+    signal_table: &mut [u32],
+    driver_table: &mut [u32],
+    order: &mut [u32],
+) -> Ran
+    requires { ⌜ Unrefused (lists (now signals) (now exprs) (now stmts)) (now bytes) (now ticks) (firedOf fired) (now «work_bits») (now «work_exprs») (now «work_signals») ⌝ }
+    ensures { λ r. ⌜ Tries (lists (now (signals .entry)) (now (exprs .entry)) (now (stmts .entry))) (now (bytes .entry)) (now (ticks .entry)) (firedOf fired) r (now (bytes .exit)) ⌝ }
+{
+    let counted_exprs = count(exprs);
+    let n = counted_exprs.count;
+    let counted_signals = count(signals);
+    let s = counted_signals.count;
+    let ready = prepare(
+        signals,
+        exprs,
+        stmts,
+        starts,
+        expr_table,
+        signal_table,
+        driver_table,
+        order,
+        n,
+        s,
+        work_exprs,
+    );
+    let found = ready.found;
+    match found {
+        Loop::At(x) => Ran::Refused(Refusal::CombinationalLoop(x)),
+        Loop::Free => {
+            let ordered = ready.ordered;
+            zero_bytes(work_bits);
+            tick(
+                signals,
+                exprs,
+                stmts,
+                starts,
+                expr_table,
+                signal_table,
+                driver_table,
+                &order[..ordered],
+                n,
+                s,
+                ticks,
+                fired,
+                bytes,
+                work_bits,
+                work_exprs,
+                work_signals,
+            );
+            Ran::Done
+        }
+    }
+}
+
+// 12, 1 and 14, then 13 and the tick.
+fn run_with(
+    signals: &[u32],
+    exprs: &[u32],
+    stmts: &[u32],
+    bytes: &mut [u8],
+    ticks: &[u8],
+    fired: Fired,
+    work_bits: &mut [u8],
+    work_exprs: &mut [u8],
+    work_signals: &mut [u8],
+    starts: &mut [u32],
+    expr_table: &mut [u32],
+    signal_table: &mut [u32],
+    driver_table: &mut [u32],
+    order: &mut [u32],
+) -> Ran
+    ensures { λ r. ⌜ Answers (callOf (lists (now (signals .entry)) (now (exprs .entry)) (now (stmts .entry))) (now (bytes .entry)) (now (ticks .entry)) (firedOf fired) (now («work_bits» .entry)) (now («work_exprs» .entry)) (now («work_signals» .entry))) r (now (bytes .exit)) ⌝ }
+{
+    let checked = check_call(
+        signals,
+        signal_table,
+        exprs,
+        expr_table,
+        stmts,
+        bytes,
+        ticks,
+        fired,
+        work_bits,
+        work_exprs,
+        work_signals,
+        WIDEST,
+    );
+    match checked {
+        Ran::Refused(x) => Ran::Refused(x),
+        Ran::Done => run_checked(
+            signals,
+            exprs,
+            stmts,
+            bytes,
+            ticks,
+            fired,
+            work_bits,
+            work_exprs,
+            work_signals,
+            starts,
+            expr_table,
+            signal_table,
+            driver_table,
+            order,
+        ),
+    }
+}
+
+// One tick. Tables of 65,536 records and signals are this call's own; what lies behind them is found by walking the lists.
+pub fn run(
+    signals: &[u32],
+    exprs: &[u32],
+    stmts: &[u32],
+    bytes: &mut [u8],
+    ticks: &[u8],
+    fired: Fired,
+    work_bits: &mut [u8],
+    work_exprs: &mut [u8],
+    work_signals: &mut [u8],
+) -> Ran
+    ensures { λ r. ⌜ Runs (callOf (lists (now (signals .entry)) (now (exprs .entry)) (now (stmts .entry))) (now (bytes .entry)) (now (ticks .entry)) (firedOf fired) (now («work_bits» .entry)) (now («work_exprs» .entry)) (now («work_signals» .entry))) r (now (bytes .exit)) (now («work_bits» .exit)) (now («work_exprs» .exit)) (now («work_signals» .exit)) ⌝ }
+{
+    let mut starts = [0u32; 65536];
+    let mut expr_table = [0u32; 65536];
+    let mut signal_table = [0u32; 65536];
+    let mut driver_table = [0u32; 65536];
+    let mut order = [0u32; 65536];
+    let r = run_with(
+        signals,
+        exprs,
+        stmts,
+        bytes,
+        ticks,
+        fired,
+        work_bits,
+        work_exprs,
+        work_signals,
+        &mut starts,
+        &mut expr_table,
+        &mut signal_table,
+        &mut driver_table,
+        &mut order,
+    );
+    zero_bytes(work_bits);
+    zero_bytes(work_exprs);
+    zero_bytes(work_signals);
+    r
+}
