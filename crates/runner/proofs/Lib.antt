@@ -3,3 +3,4 @@ pub mod Tick
 pub mod Showing
 pub mod Ticking
 pub mod Call
+pub mod Running

@@ -1,6 +1,6 @@
 use Rattle.runner.proofs.Showing.{Summing, summing-start, summing-end, sum-fits, summing-so, summing-not}
 use native.Mathlib.Omega.{arith}
-use Prim.Native.Nat.{ℕ, _+_, _-_}
+use Prim.Native.Nat.{_+_, _-_}
 use mathlib.Core.Path.{sym, subst}
 use mathlib.Core.Logic.{⊎-elim}
 use lib.ListN.{length}
