@@ -14,7 +14,7 @@ use Rattle.recorder.specs.Read.{modelOf}
 use Rattle.recorder.specs.Words.{rawOf}
 use Rattle.simulation.specs.declared.Ran.{Ran}
 use Rattle.simulation.specs.declared.Ran.the-variants.{Done, Refused}
-use Rattle.simulation.specs.Wellformed.{largest, malformed, orElse}
+use Rattle.simulation.specs.Wellformed.{largest, firstFault, malformed, orElse}
 use Rattle.simulation.specs.Tick.{looped}
 use Rattle.simulation.specs.Index.{recordsIn, widthsIn, offset}
 use Rattle.simulation.specs.Run.{Call, callModel, total, exprWidth, flat, noBit, tickBits, inputWidth, answerOf, isOne, firing, signalBytes, exprBits, causes, firstOf, onLoop, perSignal, ticked, bytesAfter, answer, run, zeroed}
@@ -83,29 +83,32 @@ module _ {signals exprs stmts bytes ticks : List ℕ} {fired : Option (ℕ × �
   abbrev l : Lists
   l = lists signals exprs stmts
 
+  fine : firstFault largest (rawOf (lists signals exprs stmts)) ≡ none
+  fine = faultless largest (lists signals exprs stmts) (u .well-formed)
+
   pub no-fault : NoFault signals exprs stmts
-  no-fault = record { widest = largest; faultless = faultless largest (lists signals exprs stmts) (u .well-formed) }
+  no-fault = record { widest = largest; faultless = fine }
 
   pub exprs-fit : {n : ℕ} → n ≡ length (recordsIn exprs) → n ≤ length we
-  exprs-fit e = let c = exprs-count largest l (no-fault .faultless) in let h = u .enough .1 in omega (arith, c, e, h)
+  exprs-fit e = let c = exprs-count largest l fine in let h = u .enough .1 in omega (arith, c, e, h)
 
   pub signals-fit : {n : ℕ} → n ≡ length (recordsIn signals) → n ≤ length ws
-  signals-fit e = let c = signals-count largest l (no-fault .faultless) in let h = u .enough .2 in omega (arith, c, e, h)
+  signals-fit e = let c = signals-count largest l fine in let h = u .enough .2 in omega (arith, c, e, h)
 
   bits-count : exprBits (modelOf (rawOf (lists signals exprs stmts))) ≡ offset (widthsIn exprs) (length (widthsIn exprs))
-  bits-count = total-offset exprWidth (modelOf (rawOf l) .exprs) ∙ ap (λ (x : List ℕ). offset x (length x)) (sym (exprs-wide largest l (no-fault .faultless)))
+  bits-count = total-offset exprWidth (modelOf (rawOf l) .exprs) ∙ ap (λ (x : List ℕ). offset x (length x)) (sym (exprs-wide largest l fine))
 
   pub values-fill : {zeros : List ℕ} → zeros ≡ zeroed wb → Filled (widthsIn exprs) zeros
   values-fill e = zeros-fill (widthsIn exprs) wb e (let c = bits-count in let h = u .enough .0 in omega (arith, c, h))
 
   pub room : {values : List ℕ} → length values ≡ length wb → Room signals exprs bytes values
   room e = record {
-    bytes-room = let c = bytes-count largest l (no-fault .faultless) in let h = u .bytes-enough in omega (arith, c, h);
-    values-room = let c = bits-count in let d = length-widths exprs in let h = u .enough .0 in subst (λ (n : ℕ). offset (widthsIn exprs) n ≤ _) d (omega (arith, c, h, e));
+    bytes-room = let c = bytes-count largest l fine in let h = u .bytes-enough in omega (arith, c, h);
+    values-room = let c = bits-count in let h = u .enough .0 in let k = ap (offset (widthsIn exprs)) (length-widths exprs) in omega (arith, c, h, e, k);
   }
 
   pub holds : Holds (widthsIn signals) (perSignal (modelOf (rawOf (lists signals exprs stmts)) .signals) (map isOne bytes)) (drop (signalBytes (modelOf (rawOf (lists signals exprs stmts)))) bytes) bytes
-  holds = bytes-hold largest l (no-fault .faultless) (u .bytes-enough) (u .bits)
+  holds = bytes-hold largest l fine (u .bytes-enough) (u .bits)
 
   pub bytes-fill : Filled (widthsIn signals) bytes
   bytes-fill = record { values = _; rest = _; holds = holds }
@@ -158,9 +161,9 @@ module _ (c : Call) where
       record { answered = e ∙ a; left = ap (bytesAfter c) a }
 
   -- or not
-  pub answers-tried : {k r : Ran} {bytes′ : List ℕ} → answerOf k ≡ none → answerOf k ≡ checkedBy largest c → Tries (c .lists) (c .bytes) (c .ticks) (c .fired) r bytes′ → Answers c r bytes′
+  pub answers-tried : (k : Ran) {r : Ran} {bytes′ : List ℕ} → answerOf k ≡ none → answerOf k ≡ checkedBy largest c → Tries (c .lists) (c .bytes) (c .ticks) (c .fired) r bytes′ → Answers c r bytes′
   unfolding ticked
-  answers-tried {k} {r} {bytes′} e q t =
+  answers-tried k {r} {bytes′} e q t =
       let a : onLoop (looped (callModel c)) ≡ answer largest c = ap (λ (o : Option (ℕ × ℕ)). orElse o (onLoop (looped (callModel c)))) (sym e ∙ q) ∙ sym (answer-checked largest c) in
       record { answered = t .answered ∙ a; left = t .left ∙ same-after (onLoop (looped (callModel c))) ∙ ap (bytesAfter c) a }
     where

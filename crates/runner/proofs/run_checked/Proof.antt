@@ -1,0 +1,144 @@
+use borrow.Author.Needs.{needs}
+use Rattle.runner.proofs.run_checked.Statement.{statement}
+use Rattle.runner.proofs.run_checked.Tie as tie
+use Rattle.runner.proofs.run_checked.Reads as reads
+use Rattle.runner.proofs.run_checked.Lts as lts
+use Rattle.runner.proofs.prepare.prepare.Reads as prepare-reads
+use Rattle.runner.proofs.ticks.tick.Reads as tick-reads
+use Rattle.simulation.proofs.index.count.Reads as count-reads
+use Rattle.simulation.proofs.zero.zero_bytes.Reads as zero-bytes-reads
+
+-- src/lib.rt:54:9
+count-requires : tie.Need-count-requires
+count-requires c κs = search needs
+
+-- src/lib.rt:56:9
+count-requires-2 : tie.Need-count-requires-2
+count-requires-2 c κs = search needs
+
+-- src/lib.rt:58:9
+prepare-requires : tie.Need-prepare-requires
+prepare-requires c κs = ?
+
+-- src/lib.rt:73:18
+enum-known-found : tie.Need-enum-known-found
+enum-known-found c = search needs
+
+-- src/lib.rt:75:17
+enum-told : tie.Need-enum-told
+enum-told c = search needs
+
+-- src/lib.rt:76:13
+zero-bytes-requires : tie.Need-zero-bytes-requires
+zero-bytes-requires c κs = search needs
+
+-- src/lib.rt:85:17
+slice-reshare-prefix-tick : tie.Need-slice-reshare-prefix-tick
+slice-reshare-prefix-tick c = search needs
+
+-- src/lib.rt:85:17
+slice-aggregate-tick : tie.Need-slice-aggregate-tick
+slice-aggregate-tick c = ?
+
+-- src/lib.rt:77:13
+tick-requires : tie.Need-tick-requires
+tick-requires c κs = ?
+
+-- src/lib.rt:35:1
+same-length : tie.Need-same-length
+same-length c = search needs
+
+-- src/lib.rt:35:1
+same-length-2 : tie.Need-same-length-2
+same-length-2 c = search needs
+
+-- src/lib.rt:35:1
+same-length-3 : tie.Need-same-length-3
+same-length-3 c = search needs
+
+-- src/lib.rt:35:1
+same-length-4 : tie.Need-same-length-4
+same-length-4 c = search needs
+
+-- src/lib.rt:35:1
+same-length-5 : tie.Need-same-length-5
+same-length-5 c = search needs
+
+-- src/lib.rt:35:1
+same-length-6 : tie.Need-same-length-6
+same-length-6 c = search needs
+
+-- src/lib.rt:35:1
+returns : tie.Need-returns
+returns c = ?
+
+-- src/lib.rt:35:1
+same-length-7 : tie.Need-same-length-7
+same-length-7 c = search needs
+
+-- src/lib.rt:35:1
+same-length-8 : tie.Need-same-length-8
+same-length-8 c = search needs
+
+-- src/lib.rt:35:1
+same-length-9 : tie.Need-same-length-9
+same-length-9 c = search needs
+
+-- src/lib.rt:35:1
+same-length-10 : tie.Need-same-length-10
+same-length-10 c = search needs
+
+-- src/lib.rt:35:1
+same-length-11 : tie.Need-same-length-11
+same-length-11 c = search needs
+
+-- src/lib.rt:35:1
+same-length-12 : tie.Need-same-length-12
+same-length-12 c = search needs
+
+-- src/lib.rt:35:1
+same-length-13 : tie.Need-same-length-13
+same-length-13 c = search needs
+
+-- src/lib.rt:35:1
+same-length-14 : tie.Need-same-length-14
+same-length-14 c = search needs
+
+-- src/lib.rt:35:1
+same-length-15 : tie.Need-same-length-15
+same-length-15 c = search needs
+
+-- src/lib.rt:35:1
+returns-2 : tie.Need-returns-2
+returns-2 c = ?
+
+pub run-checked-spec : {M : Type 1} → statement M
+run-checked-spec =
+    tie.close
+    (tie.spec
+    count-requires
+    count-requires-2
+    prepare-requires
+    enum-known-found
+    enum-told
+    zero-bytes-requires
+    slice-reshare-prefix-tick
+    slice-aggregate-tick
+    tick-requires
+    same-length
+    same-length-2
+    same-length-3
+    same-length-4
+    same-length-5
+    same-length-6
+    returns
+    same-length-7
+    same-length-8
+    same-length-9
+    same-length-10
+    same-length-11
+    same-length-12
+    same-length-13
+    same-length-14
+    same-length-15
+    returns-2)
