@@ -38,6 +38,10 @@ use Rattle.runner.proofs.Ticking.{good-ticks}
 firsts-none : {a b d : Option (ℕ × ℕ)} → a ≡ none → b ≡ none → d ≡ none → firstOf (a ∷ b ∷ d ∷ []) ≡ none
 firsts-none p q r = rw (p, q, r)
 
+-- zeros of a buffer's length, whatever it held in between
+pub zeroed-same : (n : ℕ) (b : List ℕ) {zeros : List ℕ} → n ≡ length b → zeros ≡ replicate n 0 → zeros ≡ zeroed b
+zeroed-same n b e z = z ∙ ap (λ (k : ℕ). replicate k 0) e
+
 -- ZEROS HOLD VALUES
 
 abbrev blanks : List ℕ → List Bits
@@ -161,10 +165,10 @@ module _ (c : Call) where
       record { answered = e ∙ a; left = ap (bytesAfter c) a }
 
   -- or not
-  pub answers-tried : (k : Ran) {r : Ran} {bytes′ : List ℕ} → answerOf k ≡ none → answerOf k ≡ checkedBy largest c → Tries (c .lists) (c .bytes) (c .ticks) (c .fired) r bytes′ → Answers c r bytes′
+  pub answers-tried : {r : Ran} {bytes′ : List ℕ} → none ≡ checkedBy largest c → Tries (c .lists) (c .bytes) (c .ticks) (c .fired) r bytes′ → Answers c r bytes′
   unfolding ticked
-  answers-tried k {r} {bytes′} e q t =
-      let a : onLoop (looped (callModel c)) ≡ answer largest c = ap (λ (o : Option (ℕ × ℕ)). orElse o (onLoop (looped (callModel c)))) (sym e ∙ q) ∙ sym (answer-checked largest c) in
+  answers-tried {r} {bytes′} q t =
+      let a : onLoop (looped (callModel c)) ≡ answer largest c = ap (λ (o : Option (ℕ × ℕ)). orElse o (onLoop (looped (callModel c)))) q ∙ sym (answer-checked largest c) in
       record { answered = t .answered ∙ a; left = t .left ∙ same-after (onLoop (looped (callModel c))) ∙ ap (bytesAfter c) a }
     where
       same-after : (o : Option (ℕ × ℕ)) → bytesAfter (callOf (c .lists) (c .bytes) (c .ticks) (c .fired) [] [] []) o ≡ bytesAfter c o

@@ -1,3 +1,8 @@
+use mathlib.Core.Path.{_∙_}
+use Rattle.recorder.specs.Lists.{lists}
+use Rattle.simulation.specs.Run.{firedOf}
+use Rattle.simulation.specs.Fault.{callOf}
+use Rattle.runner.proofs.Call.{runs, zeroed-same}
 use borrow.Author.Needs.{needs}
 use Rattle.runner.proofs.run.Statement.{statement}
 use Rattle.runner.proofs.run.Tie as tie
@@ -48,19 +53,19 @@ same-length c = search needs
 
 -- src/lib.rt:155:1
 same-length-2 : tie.Need-same-length-2
-same-length-2 c = ?
+same-length-2 c = c .before .before .before .before .before .before .before .before .before .before .zero-bytes .kept .0 ∙ c .before .before .before .before .before .before .before .before .before .before .before .before .before .before .before .before .before .before .before .before .before .before .before .before .before .run-with .kept .1 .1 .1 .1 .1 .1 .0
 
 -- src/lib.rt:155:1
 same-length-3 : tie.Need-same-length-3
-same-length-3 c = ?
+same-length-3 c = c .before .before .before .before .before .before .zero-bytes2 .kept .0 ∙ c .before .before .before .before .before .before .before .before .before .before .before .before .before .before .before .before .before .before .before .before .before .before .before .before .before .run-with .kept .1 .1 .1 .1 .1 .1 .1 .0
 
 -- src/lib.rt:155:1
 same-length-4 : tie.Need-same-length-4
-same-length-4 c = ?
+same-length-4 c = c .before .before .zero-bytes3 .kept .0 ∙ c .before .before .before .before .before .before .before .before .before .before .before .before .before .before .before .before .before .before .before .before .before .before .before .before .before .run-with .kept .1 .1 .1 .1 .1 .1 .1 .1 .0
 
 -- src/lib.rt:155:1
 returns : tie.Need-returns
-returns c = ?
+returns c = let a = c .before .before .before .before .before .before .before .before .before .before .before .before .before .before .before .before .before .before .before .before .before .before .before .before .before .before .before .before .before .before .before .before .before .before .before .before .before .before .before .before .before .before .before .args in runs (callOf (lists (a .signals .now) (a .exprs .now) (a .stmts .now)) (a .bytes .now) (a .ticks .now) (firedOf (a .fired)) (a .work-bits .now) (a .work-exprs .now) (a .work-signals .now)) (c .before .before .before .before .before .before .before .before .before .before .before .before .before .before .before .before .before .before .before .before .before .before .before .before .before .run-with .ensures) (zeroed-same _ (a .work-bits .now) (c .before .before .before .before .before .before .before .before .before .before .before .before .before .before .before .before .before .before .before .before .before .before .before .before .before .run-with .kept .1 .1 .1 .1 .1 .1 .0) (c .before .before .before .before .before .before .before .before .before .before .zero-bytes .ensures)) (zeroed-same _ (a .work-exprs .now) (c .before .before .before .before .before .before .before .before .before .before .before .before .before .before .before .before .before .before .before .before .before .before .before .before .before .run-with .kept .1 .1 .1 .1 .1 .1 .1 .0) (c .before .before .before .before .before .before .zero-bytes2 .ensures)) (zeroed-same _ (a .work-signals .now) (c .before .before .before .before .before .before .before .before .before .before .before .before .before .before .before .before .before .before .before .before .before .before .before .before .before .run-with .kept .1 .1 .1 .1 .1 .1 .1 .1 .0) (c .before .before .zero-bytes3 .ensures))
 
 pub run-spec : {M : Type 1} → statement M
 run-spec =

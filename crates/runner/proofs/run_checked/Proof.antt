@@ -1,3 +1,8 @@
+use mathlib.Core.Path.{sym}
+use lib.Seq.{length-take-le}
+use native.Mathlib.Omega.{arith}
+use mathlib.Core.Path.{refl, _∙_}
+use Rattle.runner.proofs.Call.{no-fault, exprs-fit, signals-fit, values-fill, room, bytes-fill, ticks-good, tried-looped, unlooped, tried-made}
 use borrow.Author.Needs.{needs}
 use Rattle.runner.proofs.run_checked.Statement.{statement}
 use Rattle.runner.proofs.run_checked.Tie as tie
@@ -18,7 +23,7 @@ count-requires-2 c κs = search needs
 
 -- src/lib.rt:58:9
 prepare-requires : tie.Need-prepare-requires
-prepare-requires c κs = ?
+prepare-requires c κs = let u = c .before .before .before .before .before .before .before .before .before .before .before .before .before .before .before .before .before .before .before .before .before .pre in (no-fault u, c .before .before .before .before .before .before .before .count .ensures .0, c .before .before .before .before .before .before .count2 .ensures .0, exprs-fit u (c .before .before .before .before .before .before .before .count .ensures .0))
 
 -- src/lib.rt:73:18
 enum-known-found : tie.Need-enum-known-found
@@ -38,11 +43,11 @@ slice-reshare-prefix-tick c = search needs
 
 -- src/lib.rt:85:17
 slice-aggregate-tick : tie.Need-slice-aggregate-tick
-slice-aggregate-tick c = ?
+slice-aggregate-tick c = sym (length-take-le _ _ (c .before .before .before .before .before .before .before .before .before .before .before .before .before .before .before .before .before .before .before .before .before .before .before .prepare .ensures .1 .1 .1 .1 .0))
 
 -- src/lib.rt:77:13
 tick-requires : tie.Need-tick-requires
-tick-requires c κs = ?
+tick-requires c κs = let u = c .before .before .before .before .before .before .before .before .before .before .before .before .before .before .before .before .before .before .before .before .before .before .before .before .before .before .before .before .before .before .before .before .before .before .before .before .before .before .before .before .before .before .before .before .before .before .before .before .before .pre in (c .before .before .before .before .before .before .before .before .before .before .before .before .before .before .before .before .before .before .before .before .before .before .before .before .before .before .before .prepare .ensures .0, c .before .before .before .before .before .before .before .before .before .before .before .before .before .before .before .before .before .before .before .before .before .before .before .before .before .before .before .prepare .ensures .1 .0, c .before .before .before .before .before .before .before .before .before .before .before .before .before .before .before .before .before .before .before .before .before .before .before .before .before .before .before .prepare .ensures .1 .1 .0, room u (c .before .before .before .before .before .before .before .before .before .before .before .zero-bytes .kept .0), c .before .before .before .before .before .before .before .before .before .before .before .before .before .before .before .before .before .before .before .before .before .before .before .before .before .before .before .before .before .before .before .before .before .before .before .count .ensures .0, c .before .before .before .before .before .before .before .before .before .before .before .before .before .before .before .before .before .before .before .before .before .before .before .before .before .before .before .before .before .before .before .before .before .before .count2 .ensures .0, omega (arith, exprs-fit u (c .before .before .before .before .before .before .before .before .before .before .before .before .before .before .before .before .before .before .before .before .before .before .before .before .before .before .before .before .before .before .before .before .before .before .before .count .ensures .0), c .before .before .before .before .before .before .before .before .before .before .before .before .before .before .before .before .before .before .before .before .before .before .before .before .before .before .before .prepare .kept .1 .1 .1 .1 .1 .1 .1 .1 .1 .1 .0), signals-fit u (c .before .before .before .before .before .before .before .before .before .before .before .before .before .before .before .before .before .before .before .before .before .before .before .before .before .before .before .before .before .before .before .before .before .before .count2 .ensures .0), c .before .before .before .before .before .before .before .before .before .before .before .before .before .before .before .before .before .before .before .before .before .before .before .before .before .before .before .prepare .ensures .1 .1 .1 .1 .1, unlooped u (c .before .before .before .before .before .before .before .before .before .before .before .before .before .enum-told .given .1) (c .before .before .before .before .before .before .before .before .before .before .before .before .before .before .before .before .before .before .before .before .before .before .before .before .before .before .before .prepare .ensures .1 .1 .1 .0), values-fill u (c .before .before .before .before .before .before .before .before .before .before .before .zero-bytes .ensures), ticks-good u, bytes-fill u)
 
 -- src/lib.rt:35:1
 same-length : tie.Need-same-length
@@ -70,7 +75,7 @@ same-length-6 c = search needs
 
 -- src/lib.rt:35:1
 returns : tie.Need-returns
-returns c = ?
+returns c = let u = c .before .before .before .before .before .before .before .before .before .before .before .before .before .before .before .before .before .before .before .before .before .before .before .before .before .before .before .before .before .before .before .before .before .before .before .before .before .pre in tried-looped u _ (c .before .found .given .1) (c .before .before .before .before .before .before .before .before .before .before .before .before .before .before .before .prepare .ensures .1 .1 .1 .0) _ refl
 
 -- src/lib.rt:35:1
 same-length-7 : tie.Need-same-length-7
@@ -110,7 +115,7 @@ same-length-15 c = search needs
 
 -- src/lib.rt:35:1
 returns-2 : tie.Need-returns-2
-returns-2 c = ?
+returns-2 c = let u = c .before .before .before .before .before .before .before .before .before .before .before .before .before .before .before .before .before .before .before .before .before .before .before .before .before .before .before .before .before .before .before .before .before .before .before .before .before .before .before .before .before .before .before .before .before .before .before .before .before .before .before .before .before .before .before .before .before .before .pre in tried-made u (unlooped u (c .before .before .before .before .before .before .before .before .before .before .before .before .before .before .before .before .before .before .before .before .before .before .enum-told .given .1) (c .before .before .before .before .before .before .before .before .before .before .before .before .before .before .before .before .before .before .before .before .before .before .before .before .before .before .before .before .before .before .before .before .before .before .before .before .prepare .ensures .1 .1 .1 .0)) (c .before .before .before .before .before .before .before .before .tick .ensures .0) _ refl
 
 pub run-checked-spec : {M : Type 1} → statement M
 run-checked-spec =

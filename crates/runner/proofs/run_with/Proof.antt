@@ -1,3 +1,8 @@
+use mathlib.Core.Path.{refl, _∙_, sym, ap}
+use Rattle.recorder.specs.Lists.{lists}
+use Rattle.simulation.specs.Run.{answerOf, firedOf}
+use Rattle.simulation.specs.Fault.{callOf}
+use Rattle.runner.proofs.Call.{checked-none, answers-refused, answers-tried, same-works}
 use borrow.Author.Needs.{needs}
 use Rattle.runner.proofs.run_with.Statement.{statement}
 use Rattle.runner.proofs.run_with.Tie as tie
@@ -20,7 +25,7 @@ enum-told c = search needs
 
 -- src/lib.rt:135:22
 run-checked-requires : tie.Need-run-checked-requires
-run-checked-requires c κs = ?
+run-checked-requires c κs = let a = c .before .before .before .before .before .before .before .before .before .before .before .before .before .before .before .before .before .before .before .before .before .before .before .before .before .before .before .before .before .before .before .before .before .before .before .before .before .args in let c₀ = callOf (lists (a .signals .now) (a .exprs .now) (a .stmts .now)) (a .bytes .now) (a .ticks .now) (firedOf (a .fired)) (a .work-bits .now) (a .work-exprs .now) (a .work-signals .now) in same-works c₀ (c .before .before .before .before .before .before .before .before .before .before .before .before .before .before .before .before .before .check-call .kept .1 .1 .1 .1 .1 .1 .1 .1 .1 .1 .0) (checked-none c₀ (sym (c .before .before .before .before .before .before .before .before .before .before .before .before .before .before .before .before .before .check-call .ensures .0) ∙ ap answerOf (c .before .before .before .before .before .before .before .before .before .enum-told .given .1)))
 
 -- src/lib.rt:101:1
 same-length : tie.Need-same-length
@@ -48,7 +53,7 @@ same-length-6 c = search needs
 
 -- src/lib.rt:101:1
 returns : tie.Need-returns
-returns c = ?
+returns c = let a = c .before .before .before .before .before .before .before .before .before .before .before .before .before .before .before .before .before .before .before .before .before .before .before .before .before .before .before .before .before .args in let c₀ = callOf (lists (a .signals .now) (a .exprs .now) (a .stmts .now)) (a .bytes .now) (a .ticks .now) (firedOf (a .fired)) (a .work-bits .now) (a .work-exprs .now) (a .work-signals .now) in answers-refused c₀ _ _ refl (ap answerOf (sym (c .before .checked .given .1)) ∙ c .before .before .before .before .before .before .before .before .before .check-call .ensures .0)
 
 -- src/lib.rt:101:1
 same-length-7 : tie.Need-same-length-7
@@ -88,7 +93,7 @@ same-length-15 c = search needs
 
 -- src/lib.rt:101:1
 returns-2 : tie.Need-returns-2
-returns-2 c = ?
+returns-2 c = let a = c .before .before .before .before .before .before .before .before .before .before .before .before .before .before .before .before .before .before .before .before .before .before .before .before .before .before .before .before .before .before .before .before .before .before .before .before .before .before .before .before .before .before .before .before .before .before .before .before .before .before .before .before .before .before .before .before .args in let c₀ = callOf (lists (a .signals .now) (a .exprs .now) (a .stmts .now)) (a .bytes .now) (a .ticks .now) (firedOf (a .fired)) (a .work-bits .now) (a .work-exprs .now) (a .work-signals .now) in answers-tried c₀ (sym (ap answerOf (c .before .before .before .before .before .before .before .before .before .before .before .before .before .before .before .before .before .before .before .before .before .before .before .before .before .before .before .before .enum-told .given .1)) ∙ c .before .before .before .before .before .before .before .before .before .before .before .before .before .before .before .before .before .before .before .before .before .before .before .before .before .before .before .before .before .before .before .before .before .before .before .before .check-call .ensures .0) (c .before .before .before .before .before .before .before .before .before .before .before .before .before .before .before .before .before .before .run-checked .ensures)
 
 pub run-with-spec : {M : Type 1} → statement M
 run-with-spec =
