@@ -3,9 +3,9 @@ pub mod address;
 pub mod address_mux;
 pub mod block_ram;
 pub mod distributed_ram;
-pub mod ports;
-pub mod ram_words;
-pub mod read_port;
+mod ports;
+mod ram_words;
+mod read_port;
 
 use recorder::ExprId;
 use recorder::SignalId;
