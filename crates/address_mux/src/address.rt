@@ -16,7 +16,7 @@ ghost use Rattle.behaviour.specs.Behaviour.{shiftIn};
 ghost use Rattle.recorder.specs.Lists.{WroteExprs, emitted};
 ghost use Rattle.wires.specs.Wires.{wiresOf};
 ghost use Rattle.wires.specs.Expressions.{vectorBit, vectorExpression, roomy};
-ghost use Rattle.memories.specs.Rams.{matchAddress};
+ghost use Rattle.address_mux.specs.Address.{matchAddress};
 
 // The first bit of an address that counts, by physical width; 0 where that width is not allowed.
 pub fn shift_in(physical: u32) -> u32

@@ -10,10 +10,10 @@ use Rattle.refusal.specs.Refusal.{numberOf, placeOf}
 use Rattle.recorder.specs.Record.{Expr.or, Expr.mux}
 use Rattle.recorder.specs.Writer.{Count, Out, Writer, pure, emit, _>>=_}
 use Rattle.recorder.specs.Lists.{lists, Wrote, WroteExprs, Answer, Answer.Done, Answer.Failed}
-use Rattle.memories.specs.declared.AddressMuxNode.{AddressMuxNode}
-use Rattle.memories.specs.declared.Joined.{Joined}
-use Rattle.memories.specs.declared.Joined.the-variants as J
-use Rattle.memories.specs.AddressMux.{Node, muxLevel}
+use Rattle.address_mux.specs.declared.AddressMuxNode.{AddressMuxNode}
+use Rattle.address_mux.specs.declared.Joined.{Joined}
+use Rattle.address_mux.specs.declared.Joined.the-variants as J
+use Rattle.address_mux.specs.AddressMux.{Node, muxLevel}
 
 -- the candidate at an index of the two slices
 abbrev pub nodeAt : List ℕ → List ℕ → ℕ → Node

@@ -1,6 +1,7 @@
-// The balanced mux of an address's candidates. They stand in two lent slices of expression numbers.
-use crate::AddressMuxNode;
-use crate::Joined;
+// The address of a memory, and the balanced mux of its candidates, which stand in two lent slices of expression numbers.
+// (lib.rs of the Rust: balanced_address_mux.)
+pub mod address;
+
 use recorder::Emitted;
 use recorder::ExprId;
 use recorder::Stated;
@@ -11,8 +12,19 @@ ghost use Prim.Native.Nat.{_≤_};
 ghost use lib.ListN.{length};
 ghost use Rattle.recorder.specs.Lists.{WroteExprs, emitted};
 ghost use Rattle.wires.specs.Expressions.{roomy};
-ghost use Rattle.memories.specs.AddressMux.{balancedAddressMux};
-ghost use Rattle.memories.specs.Candidates.{nodeOf, nodesFrom, joinNodes, joined, WroteLevel};
+ghost use Rattle.address_mux.specs.AddressMux.{balancedAddressMux};
+ghost use Rattle.address_mux.specs.Candidates.{nodeOf, nodesFrom, joinNodes, joined, WroteLevel};
+
+// A candidate of an address: the expression that says it is the one, and the word's.
+pub struct AddressMuxNode {
+    pub matched: ExprId,
+    pub value: ExprId,
+}
+
+pub enum Joined {
+    Done(AddressMuxNode, Tapes),
+    Refused(Refusal),
+}
 
 // Two neighbours become one; the later one wins.
 fn join(

@@ -1,12 +1,12 @@
 use mathlib.Core.Path.{_≡_, refl, ap, sym, _∙_}
 use Rattle.recorder.proofs.Wrote.{then-done, then-same}
 use Rattle.recorder.specs.Lists.{emitted}
-use Rattle.memories.specs.Rams.{matchAddress}
+use Rattle.address_mux.specs.Address.{matchAddress}
 use borrow.Author.Needs.{needs}
-use Rattle.memories.proofs.address.match_address.Statement.{statement}
-use Rattle.memories.proofs.address.match_address.Tie as tie
-use Rattle.memories.proofs.address.match_address.Reads as reads
-use Rattle.memories.proofs.address.match_address.Lts as lts
+use Rattle.address_mux.proofs.address.match_address.Statement.{statement}
+use Rattle.address_mux.proofs.address.match_address.Tie as tie
+use Rattle.address_mux.proofs.address.match_address.Reads as reads
+use Rattle.address_mux.proofs.address.match_address.Lts as lts
 use Rattle.recorder.proofs.builder.constant.Reads as constant-reads
 use Rattle.recorder.proofs.builder.equal.Reads as equal-reads
 

@@ -10,11 +10,11 @@ use Rattle.wires.specs.Wires.{wiresOf}
 use Rattle.wires.specs.Expressions.{vectorExpression, roomy}
 use Rattle.wires.proofs.Vectors.{Doing, doing-start, doing-step, doing-stop, doing-end}
 use Rattle.wires.proofs.Laws.{roomy-yes, roomy-no}
-use Rattle.memories.proofs.address.address_expression.Statement.{statement}
-use Rattle.memories.proofs.address.address_expression.Tie as tie
-use Rattle.memories.proofs.address.address_expression.Reads as reads
-use Rattle.memories.proofs.address.address_expression.Lts as lts
-use Rattle.memories.proofs.address.address_bit.Reads as address-bit-reads
+use Rattle.address_mux.proofs.address.address_expression.Statement.{statement}
+use Rattle.address_mux.proofs.address.address_expression.Tie as tie
+use Rattle.address_mux.proofs.address.address_expression.Reads as reads
+use Rattle.address_mux.proofs.address.address_expression.Lts as lts
+use Rattle.address_mux.proofs.address.address_bit.Reads as address-bit-reads
 use Rattle.netlist.proofs.fields.wide.Reads as wide-reads
 use Rattle.wires.proofs.expressions.bit_expression.Reads as bit-expression-reads
 use Rattle.wires.proofs.expressions.concat_parts.Reads as concat-parts-reads

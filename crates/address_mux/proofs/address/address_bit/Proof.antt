@@ -1,9 +1,9 @@
-use Rattle.memories.proofs.Addresses.{bit-past}
+use Rattle.address_mux.proofs.Addresses.{bit-past}
 use borrow.Author.Needs.{needs}
-use Rattle.memories.proofs.address.address_bit.Statement.{statement}
-use Rattle.memories.proofs.address.address_bit.Tie as tie
-use Rattle.memories.proofs.address.address_bit.Reads as reads
-use Rattle.memories.proofs.address.address_bit.Lts as lts
+use Rattle.address_mux.proofs.address.address_bit.Statement.{statement}
+use Rattle.address_mux.proofs.address.address_bit.Tie as tie
+use Rattle.address_mux.proofs.address.address_bit.Reads as reads
+use Rattle.address_mux.proofs.address.address_bit.Lts as lts
 
 -- src/address.rt:52:16
 mul-result : tie.Need-mul-result

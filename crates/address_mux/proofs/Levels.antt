@@ -14,9 +14,9 @@ use Rattle.recorder.specs.Lists.{lists, Wrote, WroteExprs, Answer, Answer.Done,
 use Rattle.recorder.proofs.Wrote.{wrote-as, wrote-pure, Going, going-start, going-step, going-stop, going-same, going-end}
 use Rattle.wires.specs.Expressions.{roomy}
 use Rattle.wires.proofs.Laws.{roomy-yes, roomy-no}
-use Rattle.memories.specs.AddressMux.{Node, muxLevel, topLevel, muxLevels}
-use Rattle.memories.specs.Candidates.{nodeAt, nodesFrom, joinNodes}
-use Rattle.memories.proofs.Binds.{bind-two}
+use Rattle.address_mux.specs.AddressMux.{Node, muxLevel, topLevel, muxLevels}
+use Rattle.address_mux.specs.Candidates.{nodeAt, nodesFrom, joinNodes}
+use Rattle.address_mux.proofs.Binds.{bind-two}
 
 -- CANDIDATES
 
