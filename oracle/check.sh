@@ -14,6 +14,7 @@ $bin/words 0 2 2 3, 1 1 4, 0 2 3 0 0 2 8, 0 2 7 1 | $bin/lower > "$new/example.t
 for file in "$new"/*; do
     cmp "$file" "answers/$(basename "$file")"
 done
+python3 address_mux.py | cmp - ../crates/cases_nodes/stdout
 echo "answers as stored"
 cargo test --release --offline -j1 --quiet > "$new/tests" 2>&1 || { cat "$new/tests"; exit 1; }
 $bin/compare 1 1000 40

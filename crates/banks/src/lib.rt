@@ -4,7 +4,7 @@
 pub mod bank;
 pub mod collect;
 pub mod members;
-pub mod next;
+mod next;
 pub mod register;
 
 use recorder::AsyncReset;

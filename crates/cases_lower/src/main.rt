@@ -3,12 +3,12 @@
 // oracle/README.md, "generate and bulk", has the format; stdout is what the Rust answers.
 use converter::Lowered;
 use converter::lower;
-use listing::fields::put_fields;
-use listing::lists::put_expressions;
-use listing::lists::put_first_line;
-use listing::lists::put_signals;
-use listing::lists::put_statements;
-use listing::records::put_refused;
+use lines::fields::put_fields;
+use lines::records::put_refused;
+use listing::put_expressions;
+use listing::put_first_line;
+use listing::put_signals;
+use listing::put_statements;
 use recorder::Tape;
 use recorder::Tapes;
 use recorder::read::word;

@@ -3,8 +3,8 @@
 //
 // A line has the words of the records and the number of the result. The stored lines were written by a transliteration of the
 // Rust's balanced_address_mux (lib.rs), not by this program.
-use memories::AddressMuxNode;
-use memories::address_mux::balanced_address_mux;
+use address_mux::AddressMuxNode;
+use address_mux::balanced_address_mux;
 use nodes::balanced_address_mux_of_array;
 use recorder::Emitted;
 use recorder::ExprId;

@@ -1,4 +1,5 @@
 // Lists and works of zeros.
+use crate::WORK;
 ghost use mathlib.Core.Path.{_≡_};
 ghost use mathlib.Core.List.{[], _∷_};
 ghost use lib.ListN.{length};
@@ -41,7 +42,7 @@ pub fn zero_works(a: &mut [u32], b: &mut [u32], c: &mut [u32], d: &mut [u32], e:
 fn is_short(work: &[u32]) -> bool
     ensures { λ r. ⌜ r ≡ short (length (now (work .entry))) ⌝ }
 {
-    work.len() < 16384
+    work.len() < WORK
 }
 
 // Whether one of the works has fewer words than lowering needs.

@@ -3,7 +3,7 @@ use mathlib.Core.Path.{_≡_, sym}
 use Prim.Native.Nat.{ℕ}
 use Rattle.recorder.specs.Writer.{Writer, declare, _>>=_}
 use Rattle.wires.specs.declared.Constants.{Constants}
-use Rattle.memories.proofs.Binds.{bind-two}
+use Rattle.address_mux.proofs.Binds.{bind-two}
 use Rattle.lowering.specs.Reserve.{signalOf}
 use Rattle.lowering.specs.Lower.{emitConstants}
 use Rattle.emit.specs.Emits.{constantSignals, constantValues}

@@ -22,7 +22,7 @@ use Rattle.recorder.specs.Writer.{Writer, pure, emit, state, _>>=_}
 use Rattle.behaviour.specs.Behaviour.{shiftIn}
 use Rattle.wires.specs.declared.Constants.{Constants}
 use Rattle.wires.specs.Wires.{WireRef, Wires}
-use Rattle.memories.specs.AddressMux.{Node, muxLevel, topLevel, muxLevels, balancedAddressMux}
+use Rattle.address_mux.specs.AddressMux.{Node, muxLevel, topLevel, muxLevels, balancedAddressMux}
 use Rattle.memories.specs.Memories.{Word, PortExprs, writeWord, writeSecond, ramWord, ramWords, candidatesFrom, enableOf, emitBlockRamReadPort, emitSecondReadPort, updateWords, secondExprs, emitBlockRam, dramWords, dramSelect, emitDistributedRam}
 use Rattle.forms.specs.Typed.{Context, At, Sig, Exp, Grows, Wide, Fit, Any, GoodEnable}
 use Rattle.forms.specs.Suits.{From, WideAs, Suits, SecondSuits}

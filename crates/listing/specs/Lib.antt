@@ -1,5 +1,3 @@
 -- The specs of listing.
-pub mod Ascii
-pub mod Names
 pub mod Listing
 pub mod Standing

@@ -1,5 +1,167 @@
-// The text of a model in a lent buffer.
-pub mod fields;
-pub mod lists;
-pub mod names;
-pub mod records;
+// A whole model: its first line, then a line for each record.
+use lines::records::put_counts;
+use lines::records::put_expression;
+use lines::records::put_signal;
+use lines::records::put_statement;
+use recorder::Cut;
+use recorder::read::cut;
+use text::Place;
+use text::put_byte;
+ghost use mathlib.Core.Path.{_≡_};
+ghost use mathlib.Core.List.{[], _∷_, _++_};
+ghost use lib.ListN.{getD};
+ghost use Rattle.text.specs.Text.{Appended};
+ghost use Rattle.lines.specs.Ascii.{newline};
+ghost use Rattle.lines.specs.Lines.{signalText, exprText, stmtText, countsText};
+ghost use Rattle.listing.specs.Listing.{lineText, linesOf, modelText};
+ghost use Rattle.listing.specs.Standing.{wordsAt};
+
+// The words of the record at an index, its length counted, or 0 where none stands whole.
+fn words_at(list: &[u32], at: usize) -> usize
+    ensures { λ r. ⌜ r ≡ wordsAt (now (list .entry)) at ⌝ }
+{
+    match cut(list, at) {
+        Cut::Record(n) => 1 + n,
+        Cut::End => 0,
+        Cut::Broken => 0,
+    }
+}
+
+fn put_signal_line(out: &mut [u8], at: usize, number: u64, fields: &[u32]) -> Place
+    ensures { λ r. ⌜ Appended (now (out .entry)) at (lineText signalText number (now (fields .entry))) r (now (out .exit)) ⌝ }
+{
+    let r = put_signal(out, at, number, fields);
+    let Place::At(a) = r else {
+        return r;
+    };
+    put_byte(out, a, b'\n')
+}
+
+fn put_expression_line(out: &mut [u8], at: usize, number: u64, fields: &[u32]) -> Place
+    ensures { λ r. ⌜ Appended (now (out .entry)) at (lineText exprText number (now (fields .entry))) r (now (out .exit)) ⌝ }
+{
+    let r = put_expression(out, at, number, fields);
+    let Place::At(a) = r else {
+        return r;
+    };
+    put_byte(out, a, b'\n')
+}
+
+fn put_statement_line(out: &mut [u8], at: usize, number: u64, fields: &[u32]) -> Place
+    ensures { λ r. ⌜ Appended (now (out .entry)) at (lineText stmtText number (now (fields .entry))) r (now (out .exit)) ⌝ }
+{
+    let r = put_statement(out, at, number, fields);
+    let Place::At(a) = r else {
+        return r;
+    };
+    put_byte(out, a, b'\n')
+}
+
+// The counts of signals, expressions and statements, with the line's end.
+pub fn put_first_line(out: &mut [u8], at: usize, signals: u32, exprs: u32, stmts: u32) -> Place
+    ensures { λ r. ⌜ Appended (now (out .entry)) at (countsText signals exprs stmts ++ (newline ∷ [])) r (now (out .exit)) ⌝ }
+{
+    let r = put_counts(out, at, signals, exprs, stmts);
+    let Place::At(a) = r else {
+        return r;
+    };
+    put_byte(out, a, b'\n')
+}
+
+pub fn put_signals(out: &mut [u8], at: usize, list: &[u32]) -> Place
+    ensures { λ r. ⌜ Appended (now (out .entry)) at (linesOf signalText (now (list .entry))) r (now (out .exit)) ⌝ }
+{
+    if out.len() < at {
+        return Place::Full;
+    }
+    let mut a = at;
+    let mut from = 0;
+    let mut number = 0;
+    loop {
+        let n = words_at(list, from);
+        if n == 0 {
+            return Place::At(a);
+        }
+        let r = put_signal_line(out, a, number, &list[from + 1..from + n]);
+        let Place::At(b) = r else {
+            return r;
+        };
+        a = b;
+        from += n;
+        number += 1;
+    }
+}
+
+pub fn put_expressions(out: &mut [u8], at: usize, list: &[u32]) -> Place
+    ensures { λ r. ⌜ Appended (now (out .entry)) at (linesOf exprText (now (list .entry))) r (now (out .exit)) ⌝ }
+{
+    if out.len() < at {
+        return Place::Full;
+    }
+    let mut a = at;
+    let mut from = 0;
+    let mut number = 0;
+    loop {
+        let n = words_at(list, from);
+        if n == 0 {
+            return Place::At(a);
+        }
+        let r = put_expression_line(out, a, number, &list[from + 1..from + n]);
+        let Place::At(b) = r else {
+            return r;
+        };
+        a = b;
+        from += n;
+        number += 1;
+    }
+}
+
+pub fn put_statements(out: &mut [u8], at: usize, list: &[u32]) -> Place
+    ensures { λ r. ⌜ Appended (now (out .entry)) at (linesOf stmtText (now (list .entry))) r (now (out .exit)) ⌝ }
+{
+    if out.len() < at {
+        return Place::Full;
+    }
+    let mut a = at;
+    let mut from = 0;
+    let mut number = 0;
+    loop {
+        let n = words_at(list, from);
+        if n == 0 {
+            return Place::At(a);
+        }
+        let r = put_statement_line(out, a, number, &list[from + 1..from + n]);
+        let Place::At(b) = r else {
+            return r;
+        };
+        a = b;
+        from += n;
+        number += 1;
+    }
+}
+
+// The listing of a model that these lists hold, of so many signals, expressions and statements.
+pub fn put_model(
+    out: &mut [u8],
+    at: usize,
+    counts: [u32; 3],
+    signals: &[u32],
+    exprs: &[u32],
+    stmts: &[u32],
+) -> Place
+    ensures { λ r. ⌜ Appended (now (out .entry)) at (modelText (getD counts 0 0) (getD counts 1 0) (getD counts 2 0) (now (signals .entry)) (now (exprs .entry)) (now (stmts .entry))) r (now (out .exit)) ⌝ }
+{
+    let r = put_first_line(out, at, counts[0], counts[1], counts[2]);
+    let Place::At(a) = r else {
+        return r;
+    };
+    let r = put_signals(out, a, signals);
+    let Place::At(a) = r else {
+        return r;
+    };
+    let r = put_expressions(out, a, exprs);
+    let Place::At(a) = r else {
+        return r;
+    };
+    put_statements(out, a, stmts)
+}

@@ -1,11 +1,11 @@
 // Reads a netlist in words from standard input and prints its model, or `refused` with number and place.
 use converter::Lowered;
 use converter::lower;
-use listing::lists::put_expressions;
-use listing::lists::put_first_line;
-use listing::lists::put_signals;
-use listing::lists::put_statements;
-use listing::records::put_refused;
+use lines::records::put_refused;
+use listing::put_expressions;
+use listing::put_first_line;
+use listing::put_signals;
+use listing::put_statements;
 use recorder::Tape;
 use recorder::Tapes;
 use refusal::Refusal;

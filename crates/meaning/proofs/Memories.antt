@@ -21,7 +21,7 @@ use Rattle.optimize.proofs.Muxes.{and-value, mux-value}
 use Rattle.behaviour.specs.Behaviour.{Valuation, asserted, shiftIn}
 use Rattle.wires.specs.declared.Constants.{Constants}
 use Rattle.wires.specs.Wires.{WireRef, Wires}
-use Rattle.memories.specs.AddressMux.{Node, balancedAddressMux}
+use Rattle.address_mux.specs.AddressMux.{Node, balancedAddressMux}
 use Rattle.memories.specs.Memories.{Word, PortExprs, writeWord, writeSecond, ramWord, ramWords, candidatesFrom, enableOf, emitBlockRamReadPort, emitSecondReadPort, updateWords, secondExprs, emitBlockRam, dramWords, dramSelect, emitDistributedRam}
 use Rattle.meaning.specs.Held.{held, valuesAt, Driven, Choice, lastChoice}
 use Rattle.meaning.specs.Settles.{Tick, enableNow, RegOn, Holds, Settles, Gets}

@@ -9,7 +9,7 @@ use lib.ListN.{length, getD, length-append}
 use Rattle.recorder.specs.Record.{Expr.or, Expr.mux}
 use Rattle.bits.specs.Bits.{pick, Bits}
 use Rattle.recorder.specs.Writer.{Writer, emit, pure, _>>=_}
-use Rattle.memories.specs.AddressMux.{Node, muxLevel, topLevel, muxLevels, balancedAddressMux}
+use Rattle.address_mux.specs.AddressMux.{Node, muxLevel, topLevel, muxLevels, balancedAddressMux}
 use Rattle.recorder.specs.Evaluate.{Signals, Values}
 use Rattle.recorder.specs.Meaning.{Is, Keeps, Makes, Means}
 use Rattle.meaning.specs.Held.{Choice, lastChoice}

@@ -20,7 +20,7 @@ use Rattle.memories.specs.declared.Second.the-variants as B
 use Rattle.memories.specs.Memories.{Word, PortExprs, writeWord, ramWord, ramWords, secondExprs, emitBlockRam}
 use Rattle.memories.specs.Rams.{portOf, writing, secondOf, secondWriting, firstExprs}
 use Rattle.memories.specs.Steps.{ramReads, ramBody}
-use Rattle.memories.proofs.Binds.{bind-cong, bind-four}
+use Rattle.address_mux.proofs.Binds.{bind-cong, bind-four}
 
 -- an address has at most 33 bits
 bits-most : (fuel k n : ℕ) → bitsFrom fuel k n ≤ k + fuel

@@ -20,9 +20,10 @@ use Rattle.wires.specs.Wires.{Wires}
 use Rattle.wires.specs.Expressions.{bitSignal, assertedExpression, vectorExpression}
 use Rattle.memories.specs.declared.Port.{Port}
 use Rattle.memories.specs.Memories.{Word, PortExprs, writeWord, ramWord, dramWords, dramSelect, emitDistributedRam}
-use Rattle.memories.specs.Rams.{portOf, writing, dramExprs, matchAddress, wordsFrom, reach, Small}
+use Rattle.address_mux.specs.Address.{matchAddress}
+use Rattle.memories.specs.Rams.{portOf, writing, dramExprs, wordsFrom, reach, Small}
 use Rattle.memories.specs.Steps.{dramWord, selectOne, dramRead, dramBody}
-use Rattle.memories.proofs.Binds.{bind-cong, bind-two, bind-four}
+use Rattle.address_mux.proofs.Binds.{bind-cong, bind-two, bind-four}
 use Rattle.memories.proofs.Ended.{ended-value, ended-played, ended-count, small-word}
 use Rattle.memories.proofs.RamLaws.{wordAt, Made, reach-more, reach-zero, reach-first, reach-least, words-more, words-first, words-none}
 

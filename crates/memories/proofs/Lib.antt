@@ -1,7 +1,4 @@
 -- What the proofs of memories share.
-pub mod Binds
-pub mod Levels
-pub mod Addresses
 pub mod Ended
 pub mod RamLaws
 pub mod PortLaws

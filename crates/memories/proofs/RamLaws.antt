@@ -20,12 +20,13 @@ use Rattle.memories.specs.declared.Port.{Port}
 use Rattle.memories.specs.declared.Second.{Second}
 use Rattle.memories.specs.declared.Second.the-variants as B
 use Rattle.memories.specs.declared.Words.{Words}
-use Rattle.memories.specs.AddressMux.{Node}
-use Rattle.memories.specs.Candidates.{nodesFrom}
+use Rattle.address_mux.specs.AddressMux.{Node}
+use Rattle.address_mux.specs.Candidates.{nodesFrom}
 use Rattle.memories.specs.Memories.{Word, PortExprs, writeWord, writeSecond, ramWord, ramWords, candidatesFrom, updateWords}
-use Rattle.memories.specs.Rams.{WroteWords, secondWriting, lastOf, matchAddress, wordsFrom, reach, wordsOf, Small, Spaced, filled}
+use Rattle.address_mux.specs.Address.{matchAddress}
+use Rattle.memories.specs.Rams.{WroteWords, secondWriting, lastOf, wordsFrom, reach, wordsOf, Small, Spaced, filled}
 use Rattle.memories.proofs.Ended.{ended-value, ended-played, ended-count, small-word}
-use Rattle.memories.proofs.Levels.{nodes-put}
+use Rattle.address_mux.proofs.Levels.{nodes-put}
 
 -- ONE WORD
 

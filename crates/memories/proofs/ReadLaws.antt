@@ -27,12 +27,12 @@ use Rattle.wires.proofs.Laws.{ref-held, ref-missing, roomy-yes}
 use Rattle.memories.specs.declared.Port.{Port}
 use Rattle.memories.specs.declared.Second.{Second}
 use Rattle.memories.specs.declared.Second.the-variants as B
-use Rattle.memories.specs.AddressMux.{Node, balancedAddressMux}
-use Rattle.memories.specs.Candidates.{nodesFrom}
+use Rattle.address_mux.specs.AddressMux.{Node, balancedAddressMux}
+use Rattle.address_mux.specs.Candidates.{nodesFrom}
 use Rattle.memories.specs.Memories.{Word, PortExprs, candidatesFrom, enableOf, emitBlockRamReadPort, emitSecondReadPort}
 use Rattle.memories.specs.Rams.{portOf, secondOf, reading, selectWord, readRegister}
 use Rattle.memories.specs.Steps.{enabledRegister}
-use Rattle.memories.proofs.Binds.{bind-cong, bind-one}
+use Rattle.address_mux.proofs.Binds.{bind-cong, bind-one}
 
 -- THE WORD
 

@@ -12,7 +12,7 @@ use Rattle.recorder.specs.Writer.{Count, Out, Writer, pure, declare, emit, stat
 use Rattle.wires.specs.declared.Constants.{Constants}
 use Rattle.wires.specs.Wires.{Wires}
 use Rattle.wires.specs.Expressions.{wireRef, bitSignal, assertedExpression, vectorExpression, bitsExpression, assignWire}
-use Rattle.memories.specs.AddressMux.{Node, balancedAddressMux}
+use Rattle.address_mux.specs.AddressMux.{Node, balancedAddressMux}
 
 abbrev pub wordSignal : ℕ → ℕ → Signal
 wordSignal width owner = record { label = 13; width = width; owner = owner }

@@ -29,7 +29,7 @@ use Rattle.memories.specs.declared.RamWord.{RamWord}
 use Rattle.memories.specs.declared.Worded.{Worded}
 use Rattle.memories.specs.declared.Worded.the-variants as W
 use Rattle.memories.specs.declared.Words.{Words}
-use Rattle.memories.specs.AddressMux.{Node, balancedAddressMux}
+use Rattle.address_mux.specs.AddressMux.{Node, balancedAddressMux}
 use Rattle.memories.specs.Memories.{Word, PortExprs, writeSecond, ramWord, ramWords, candidatesFrom, enableOf, emitBlockRam, emitDistributedRam}
 
 -- ---- which lists a call writes, whatever the others hold
@@ -85,13 +85,6 @@ dramExprs m r = do
   d ← vectorExpression m (r .input) 0 4
   y ← assertedExpression m (r .write)
   pure (record { writeAddress = wa; writeData = d; writeAsserted = y; readAddress = ra; readData = r .output; readEnable = none })
-
--- ---- an address against an index
-
-unfoldable pub matchAddress : ℕ → ℕ → ℕ → Writer ℕ
-matchAddress address aw index = do
-  k ← emit (const aw index)
-  emit (eq address k)
 
 -- ---- words by their numbers
 

@@ -16,7 +16,8 @@ use Rattle.wires.specs.declared.Constants.{Constants}
 use Rattle.wires.specs.Wires.{Wires}
 use Rattle.wires.specs.Expressions.{bitSignal, assignWire}
 use Rattle.memories.specs.Memories.{Word, PortExprs, ramWord, ramWords, emitBlockRamReadPort, emitSecondReadPort, updateWords, dramWords, dramSelect}
-use Rattle.memories.specs.Rams.{matchAddress, filled, reach}
+use Rattle.address_mux.specs.Address.{matchAddress}
+use Rattle.memories.specs.Rams.{filled, reach}
 
 -- the second port of the block RAM at an index
 abbrev pub secondAt : List ℕ → ℕ → SecondPort

@@ -1,27 +1,14 @@
-// Memories: the balanced address mux, block RAM, distributed RAM. (lib.rs of the Rust: emit_block_ram to emit_distributed_ram.)
-pub mod address;
-pub mod address_mux;
+// Memories: block RAM and distributed RAM. (lib.rs of the Rust: emit_block_ram to emit_distributed_ram.)
 pub mod block_ram;
 pub mod distributed_ram;
-pub mod ports;
-pub mod ram_words;
-pub mod read_port;
+mod ports;
+mod ram_words;
+mod read_port;
 
 use recorder::ExprId;
 use recorder::SignalId;
 use recorder::Tapes;
 use refusal::Refusal;
-
-// A candidate of an address: the expression that says it is the one, and the word's.
-pub struct AddressMuxNode {
-    pub matched: ExprId,
-    pub value: ExprId,
-}
-
-pub enum Joined {
-    Done(AddressMuxNode, Tapes),
-    Refused(Refusal),
-}
 
 // The expressions of a port: where it writes, what, whether, and where it reads.
 pub struct Port {

@@ -3,7 +3,7 @@ use crate::Port;
 use crate::Ported;
 use crate::Second;
 use crate::Seconded;
-use crate::address::address_expression;
+use address_mux::address::address_expression;
 use netlist::fields;
 use netlist::fields::ahead;
 use netlist::fields::control;

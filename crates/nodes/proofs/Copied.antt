@@ -8,9 +8,9 @@ use lib.ListN.{length, length-set, take, drop, getD, set}
 use Rattle.recorder.specs.Writer.{Count, Out, Writer, refuse}
 use Rattle.wires.specs.Expressions.{roomy}
 use Rattle.wires.proofs.Laws.{roomy-yes, roomy-no}
-use Rattle.memories.specs.declared.AddressMuxNode.{AddressMuxNode}
-use Rattle.memories.specs.AddressMux.{Node, balancedAddressMux}
-use Rattle.memories.specs.Candidates.{nodeOf, nodesFrom}
+use Rattle.address_mux.specs.declared.AddressMuxNode.{AddressMuxNode}
+use Rattle.address_mux.specs.AddressMux.{Node, balancedAddressMux}
+use Rattle.address_mux.specs.Candidates.{nodeOf, nodesFrom}
 use Rattle.nodes.specs.Nodes.{muxOfNodes, toCopy}
 use Rattle.nodes.proofs.Laws.{copy-all, by-size}
 

@@ -1,6 +1,6 @@
 // The balanced address mux on a lent slice of its nodes: a thin layer over the function on two number slices.
-use memories::AddressMuxNode;
-use memories::address_mux::balanced_address_mux;
+use address_mux::AddressMuxNode;
+use address_mux::balanced_address_mux;
 use recorder::Emitted;
 use recorder::ExprId;
 use recorder::Tapes;

@@ -1,4 +1,4 @@
--- What the steps of steps.rt promise: of a checked netlist, with works that have room, they write what the definitions say.
+-- What the steps promise: of a checked netlist, with works that have room, they write what the definitions say.
 use mathlib.Core.Path.{_≡_}
 use mathlib.Core.List.{List}
 use Prim.Native.Nat.{ℕ, _≤_}

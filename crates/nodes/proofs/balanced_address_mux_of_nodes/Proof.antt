@@ -62,15 +62,15 @@ use Rattle.recorder.proofs.Tapes.Laws as P′
 use Rattle.recorder.proofs.ExprId as Z
 use Rattle.recorder.proofs.ExprId.Laws as Z′
 use Rattle.wires.specs.Expressions.{roomy}
-use Rattle.memories.specs.declared.AddressMuxNode.{AddressMuxNode}
-use Rattle.memories.specs.AddressMux.{balancedAddressMux}
-use Rattle.memories.specs.Candidates.{nodesFrom}
-use Rattle.memories.proofs.AddressMuxNode as T
-use Rattle.memories.proofs.AddressMuxNode.Laws as T′
-use Rattle.memories.proofs.address_mux.balanced_address_mux as numbers
-use Rattle.memories.proofs.address_mux.balanced_address_mux.Symbol as numbers-def
-use Rattle.memories.proofs.address_mux.balanced_address_mux.Symbol.{name as #memories·address-mux·balanced-address-mux}
-use Rattle.memories.proofs.address_mux.balanced_address_mux.Met as numbers-thm
+use Rattle.address_mux.specs.declared.AddressMuxNode.{AddressMuxNode}
+use Rattle.address_mux.specs.AddressMux.{balancedAddressMux}
+use Rattle.address_mux.specs.Candidates.{nodesFrom}
+use Rattle.address_mux.proofs.AddressMuxNode as T
+use Rattle.address_mux.proofs.AddressMuxNode.Laws as T′
+use Rattle.address_mux.proofs.balanced_address_mux as numbers
+use Rattle.address_mux.proofs.balanced_address_mux.Symbol as numbers-def
+use Rattle.address_mux.proofs.balanced_address_mux.Symbol.{name as #address-mux·balanced-address-mux}
+use Rattle.address_mux.proofs.balanced_address_mux.Met as numbers-thm
 use Rattle.nodes.specs.Nodes.{muxOfNodes, toCopy}
 use Rattle.nodes.proofs.Rest.{Rest, rest-twice}
 use Rattle.nodes.proofs.Laws.{copy-fits, byte-fits, word-fits, one-more, by-test, less-of, end-of}
@@ -271,7 +271,7 @@ module _ {M : Type 1} (𝓤 : URA M) (H : Heap 𝓤) (A : Atoms 𝓤) (W : Given
   Nearer-wf : WellFounded Nearer
   Nearer-wf = InvImage·wf (λ (i : Upto). m - i .0) (Nat·lt-wfRel .wf)
 
-  module _ (𝓣 : Tables 𝓤 H) (known : Triple 𝓤 (𝓣 .C #memories·address-mux·balanced-address-mux) (Numbers 𝓤 H A mem run)) (q′ : Share) (l₀ l₁ l₂ l₃ l₄ l₅ l₆ l₇ l₈ l₉ l₁₀ l₁₁ l₁₂ l₁₃ l₁₄ l₁₅ l₁₆ l₁₇ l₁₈ l₁₉ l₂₀ l₂₁ l₂₂ l₂₃ l₂₄ l₂₅ : ℕ) where
+  module _ (𝓣 : Tables 𝓤 H) (known : Triple 𝓤 (𝓣 .C #address-mux·balanced-address-mux) (Numbers 𝓤 H A mem run)) (q′ : Share) (l₀ l₁ l₂ l₃ l₄ l₅ l₆ l₇ l₈ l₉ l₁₀ l₁₁ l₁₂ l₁₃ l₁₄ l₁₅ l₁₆ l₁₇ l₁₈ l₁₉ l₂₀ l₂₁ l₂₂ l₂₃ l₂₄ l₂₅ : ℕ) where
     abbrev C : Calls 𝓤 H
     C = 𝓣 .C
 
@@ -384,7 +384,7 @@ module _ {M : Type 1} (𝓤 : URA M) (H : Heap 𝓤) (A : Atoms 𝓤) (W : Given
     turns i = by-test (ltb (i .0) m) (more i) (ends i)
 
   -- the MIR up to the loop
-  walk : (𝓣 : Tables 𝓤 H) → Triple 𝓤 (𝓣 .C #nodes·to-copy) (Counts 𝓤 H A mem run) → Triple 𝓤 (𝓣 .C #memories·address-mux·balanced-address-mux) (Numbers 𝓤 H A mem run)
+  walk : (𝓣 : Tables 𝓤 H) → Triple 𝓤 (𝓣 .C #nodes·to-copy) (Counts 𝓤 H A mem run) → Triple 𝓤 (𝓣 .C #address-mux·balanced-address-mux) (Numbers 𝓤 H A mem run)
       → ent 𝓤 (onEntry 𝓤 H A mux.signature (κ₁, (κ₂, (κ₃, (κ₄, tt)))) (q₁, (q₂, (q₃, (q₄, tt)))) x at) (WpFn 𝓤 H (𝓣 .C) (𝓣 .Λ) function flat-at Post)
   walk 𝓣 counted known =
       qed W ((‵ (flft κ₁ q₁) ⊛ ‵ (flft κ₂ q₂) ⊛ ‵ (flft κ₃ q₃) ⊛ ‵ (flft κ₄ q₄) ⊛ ‵ ftrue) ∷ ‵ (owns (MutSlice (named 0) κ₁ u32 ∷ ShrSlice (named 1) κ₂ R ∷ MutSlice (named 2) κ₃ u32 ∷ MutSlice (named 3) κ₄ u32 ∷ P.the-row ∷ u32 ∷ Z.the-row ∷ []) x at) ∷ []) ∵
@@ -411,7 +411,7 @@ module _ {M : Type 1} (𝓤 : URA M) (H : Heap 𝓤) (A : Atoms 𝓤) (W : Given
       loops ! 𝓣 Nearer Nearer-wf (At 𝓣 known q′ l₀ l₁ l₂ l₃ l₄ l₅ l₆ l₇ l₈ l₉ l₁₀ l₁₁ l₁₂ l₁₃ l₁₄ l₁₅ l₁₆ l₁₇ l₁₈ l₁₉ l₂₀ l₂₁ l₂₂ l₂₃ l₂₄ l₂₅) (turns 𝓣 known q′ l₀ l₁ l₂ l₃ l₄ l₅ l₆ l₇ l₈ l₉ l₁₀ l₁₁ l₁₂ l₁₃ l₁₄ l₁₅ l₁₆ l₁₇ l₁₈ l₁₉ l₂₀ l₂₁ l₂₂ l₂₃ l₂₄ l₂₅) (0, zero-le))))))))))))))))))))))))))))))))
 
 module _ {M : Type 1} (𝓤 : URA M) (H : Heap 𝓤) (A : Atoms 𝓤) (W : Given 𝓤 H A) (mem : Memory → SProp 𝓤) (run : Routine → Fun 𝓤) where
-  mux-walks : (𝓣 : Tables 𝓤 H) → Triple 𝓤 (𝓣 .C #nodes·to-copy) (Counts 𝓤 H A mem run) → Triple 𝓤 (𝓣 .C #memories·address-mux·balanced-address-mux) (Numbers 𝓤 H A mem run)
+  mux-walks : (𝓣 : Tables 𝓤 H) → Triple 𝓤 (𝓣 .C #nodes·to-copy) (Counts 𝓤 H A mem run) → Triple 𝓤 (𝓣 .C #address-mux·balanced-address-mux) (Numbers 𝓤 H A mem run)
       → Walks 𝓤 H A mux.ended stayed (WpFn 𝓤 H (𝓣 .C) (𝓣 .Λ) code.function) (mux.clauses 𝓤 H A mem run)
   mux-walks 𝓣 counted known = walked 𝓤 H A mux.ended stayed (mux.clauses 𝓤 H A mem run) (WpFn 𝓤 H (𝓣 .C) (𝓣 .Λ) code.function)
       (λ κs. (slice-vals, (slice-vals, (slice-vals, (slice-vals, (LL.vals P.the-type P′.the-laws, (uint-vals w32, (LL.vals Z.the-type Z′.the-laws, tt))))))))
@@ -422,7 +422,7 @@ module _ {M : Type 1} (𝓤 : URA M) (H : Heap 𝓤) (A : Atoms 𝓤) (W : Given
       (are .0 .0 .1) (are .1 .0 .0 .1) (are .1 .1 .0 .0 .1) (are .1 .1 .1 .0 .0 .1) (are .1 .1 .1 .1 .0) (are .1 .1 .1 .1 .1 .0 .1) (are .1 .1 .1 .1 .1 .1 .0) 𝓣 counted known))
 
 mux-meets : {M : Type 1} (𝓤 : URA M) (H : Heap 𝓤) (A : Atoms 𝓤) → Given 𝓤 H A → (mem : Memory → SProp 𝓤) (run : Routine → Fun 𝓤) (𝓣 : Tables 𝓤 H)
-    → Triple 𝓤 (𝓣 .C #nodes·to-copy) (Counts 𝓤 H A mem run) → Triple 𝓤 (𝓣 .C #memories·address-mux·balanced-address-mux) (Numbers 𝓤 H A mem run)
+    → Triple 𝓤 (𝓣 .C #nodes·to-copy) (Counts 𝓤 H A mem run) → Triple 𝓤 (𝓣 .C #address-mux·balanced-address-mux) (Numbers 𝓤 H A mem run)
     → Meets 𝓤 H A mux.signature (WpFn 𝓤 H (𝓣 .C) (𝓣 .Λ) code.function) (mux.spec 𝓤 H A mem run)
 mux-meets 𝓤 H A W mem run 𝓣 counted known = walk-meets 𝓤 H A mux.ended stayed W
     (goes-gave-slice 𝓤 H A W 4 0 tt (plain (λ _. u32)), (goes-none-slice 𝓤 H A W 4 (1 ∷ []) tt (plain (λ _. T.the-row)) yes, (goes-gave-slice 𝓤 H A W 4 2 tt (plain (λ _. u32)), (goes-gave-slice 𝓤 H A W 4 3 tt (plain (λ _. u32)), (goes-none 𝓤 H A W 4 (λ _. P.the-row) yes (λ κs x f. refl), (goes-none 𝓤 H A W 4 (λ _. u32) yes (λ κs x f. refl), (goes-none 𝓤 H A W 4 (λ _. Z.the-row) yes (λ κs x f. refl), tt)))))))
@@ -435,4 +435,4 @@ balanced-address-mux-of-nodes-spec 𝓤 H 𝓜 𝓖 𝓡 =
     (tables 𝓤 H 𝓜 𝓡 code.env .C) (tables 𝓤 H 𝓜 𝓡 code.env .Λ) #nodes·balanced-address-mux-of-nodes code.function (code.unfolded 𝓤 H 𝓜 𝓡)
     (mux-meets 𝓤 H (𝓖 .A) (givenOf 𝓤 H 𝓜 𝓖) (𝓜 .mem) (𝓡 .run) (tablesOf 𝓤 H 𝓜 (tables 𝓤 H 𝓜 𝓡 code.env))
     (cited 𝓤 H (Counts 𝓤 H (𝓖 .A) (𝓜 .mem) (𝓡 .run)) 𝓜 𝓡 code.env #nodes·to-copy count-def.routine code.calls-nodes·to-copy (count-thm.met 𝓤 H 𝓜 𝓖 𝓡))
-    (cited 𝓤 H (Numbers 𝓤 H (𝓖 .A) (𝓜 .mem) (𝓡 .run)) 𝓜 𝓡 code.env #memories·address-mux·balanced-address-mux numbers-def.routine code.calls-memories·address-mux·balanced-address-mux (numbers-thm.met 𝓤 H 𝓜 𝓖 𝓡)))
+    (cited 𝓤 H (Numbers 𝓤 H (𝓖 .A) (𝓜 .mem) (𝓡 .run)) 𝓜 𝓡 code.env #address-mux·balanced-address-mux numbers-def.routine code.calls-address-mux·balanced-address-mux (numbers-thm.met 𝓤 H 𝓜 𝓖 𝓡)))

@@ -54,9 +54,9 @@ use Rattle.recorder.proofs.Tapes as P
 use Rattle.recorder.proofs.Tapes.Laws as P′
 use Rattle.recorder.proofs.ExprId as Z
 use Rattle.recorder.proofs.ExprId.Laws as Z′
-use Rattle.memories.specs.declared.AddressMuxNode.{AddressMuxNode}
-use Rattle.memories.proofs.AddressMuxNode as T
-use Rattle.memories.proofs.AddressMuxNode.Laws as T′
+use Rattle.address_mux.specs.declared.AddressMuxNode.{AddressMuxNode}
+use Rattle.address_mux.proofs.AddressMuxNode as T
+use Rattle.address_mux.proofs.AddressMuxNode.Laws as T′
 use Rattle.nodes.specs.Nodes.{muxOfNodes}
 use Rattle.nodes.proofs.Rest.{Rest, rest-twice}
 use Rattle.nodes.proofs.Laws.{length-first}

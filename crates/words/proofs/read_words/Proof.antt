@@ -1,9 +1,11 @@
-use mathlib.Core.Path.{_≡_}
+use mathlib.Core.Path.{_≡_, refl}
 use mathlib.Core.List.{List}
 use Prim.Native.Nat.{ℕ, _≤_}
 use native.Mathlib.Omega.{arith}
 use lib.ListN.{length, take, length-take}
 use borrow.Author.Needs.{needs}
+use denote.Ref.{now}
+use Rattle.words.proofs.Laws.{read-none, read-some, never-more}
 use Rattle.words.proofs.read_words.Statement.{statement}
 use Rattle.words.proofs.read_words.Tie as tie
 
@@ -12,7 +14,7 @@ take-long n l h = simp length-take (omega arith)
 
 -- src/lib.rt:73:9
 returns : tie.Need-returns
-returns c = search needs
+returns c = ((omega arith, refl), read-none _ _ _)
 
 -- src/lib.rt:75:45
 mul-read-full : tie.Need-mul-read-full
@@ -40,7 +42,7 @@ same-length c = search needs
 
 -- src/lib.rt:77:9
 returns-2 : tie.Need-returns-2
-returns-2 c = search needs
+returns-2 c = absurd (never-more (now (c .before .before .before .before .before .before .before .before .args .bytes)) (c .before .before .before .read-full .last .1 .0) (c .before .before .before .before .before .before .before .before .args .n) (c .before .before .before .read-full .result) (c .before .before .before .before .before .if1 .left) (c .before .before .before .read-full .kept .1 .0) (c .before .before .before .read-full .ensures .0) (c .if2 .taken))
 
 -- src/lib.rt:79:14
 slice-reshare-prefix-words-of : tie.Need-slice-reshare-prefix-words-of
@@ -64,7 +66,7 @@ same-length-3 c = search needs
 
 -- src/lib.rt:69:1
 returns-3 : tie.Need-returns-3
-returns-3 c = search needs
+returns-3 c = (c .before .before .words-of .ensures .0, read-some (now (c .before .before .before .before .before .before .before .before .before .before .before .before .before .args .bytes)) (c .before .before .before .before .before .before .before .before .read-full .last .1 .0) (now (c .before .before .before .before .before .before .before .before .before .before .before .before .before .args .out)) (c .before .before .before .before .before .before .before .before .before .before .before .before .before .args .n) (c .before .before .before .before .before .before .before .before .read-full .result) (c .before .before .before .before .before .before .before .before .before .before .if1 .left) (c .before .before .before .before .before .before .before .before .read-full .kept .1 .0) (c .before .before .before .before .before .if2 .left) (c .before .before .words-of .ensures .1))
 
 pub read-words-spec : {M : Type 1} → statement M
 read-words-spec =

@@ -1,20 +1,23 @@
 use native.Mathlib.Omega.{arith}
 use borrow.Author.Needs.{needs}
 use mathlib.Core.Path.{_≡_, refl}
-use lib.ListN.{length, length-take, length-set}
+use mathlib.Core.List.{_++_}
+use lib.ListN.{length, take, drop, length-take, length-set}
 use Prim.Native.Nat.{_≤_, _-_}
+use Rattle.words.specs.Words.{wordsOf}
+use Rattle.words.proofs.Laws.{laid-more, laid-end}
 use Rattle.words.proofs.words_of.Statement.{statement}
 use Rattle.words.proofs.words_of.Tie as tie
 
 abbrev Inv-loop : tie.InvT-loop
-Inv-loop bytes out₀ n k₀ out k = (k ≤ n) × (k ≤ length out) × (length out ≡ length out₀)
+Inv-loop bytes out₀ n k₀ out k = (k ≤ n) × (k ≤ length out) × (length out ≡ length out₀) × (out ≡ take k (wordsOf bytes) ++ drop k out₀)
 
 abbrev μ-loop : tie.MeasureT-loop
 μ-loop bytes out₀ n k₀ out k = n - k
 
 -- src/lib.rt:23:5
 loop-holds : tie.Need-loop-holds Inv-loop μ-loop
-loop-holds c = (omega arith, omega arith, refl)
+loop-holds c = (omega arith, omega arith, refl, refl)
 
 -- src/lib.rt:25:13
 same-length : tie.Need-same-length Inv-loop μ-loop
@@ -22,7 +25,7 @@ same-length c = search needs
 
 -- src/lib.rt:25:13
 returns : tie.Need-returns Inv-loop μ-loop
-returns c = (omega arith, simp length-take (omega arith))
+returns c = ((omega arith, simp length-take (omega arith)), laid-end _ _ _ _ (omega arith) (c .before .before .loop .inv .3))
 
 -- src/lib.rt:28:19
 mul-le-word : tie.Need-mul-le-word Inv-loop μ-loop
@@ -90,7 +93,7 @@ loop-less c = omega arith
 
 -- src/lib.rt:23:5
 loop-again : tie.Need-loop-again Inv-loop μ-loop
-loop-again c = (omega arith, simp length-set (omega arith), simp length-set (omega arith))
+loop-again c = (omega arith, simp length-set (omega arith), simp length-set (omega arith), laid-more _ _ _ _ _ (c .before .before .before .before .before .before .loop-test .taken) (c .before .before .before .before .before .if1 .left) (c .before .before .before .before .before .before .before .loop .inv .2) (c .le-word .ensures) (c .before .before .before .before .before .before .before .loop .inv .3))
 
 -- src/lib.rt:18:1
 same-length-2 : tie.Need-same-length-2 Inv-loop μ-loop
@@ -98,7 +101,7 @@ same-length-2 c = search needs
 
 -- src/lib.rt:18:1
 returns-2 : tie.Need-returns-2 Inv-loop μ-loop
-returns-2 c = (omega arith, simp length-take (omega arith))
+returns-2 c = ((omega arith, simp length-take (omega arith)), laid-end _ _ _ _ (omega arith) (c .before .loop .inv .3))
 
 pub words-of-spec : {M : Type 1} → statement M
 words-of-spec =

@@ -16,7 +16,7 @@ use Rattle.memories.proofs.block_ram.with_work.Statement.{statement}
 use Rattle.memories.proofs.block_ram.with_work.Tie as tie
 use Rattle.memories.proofs.block_ram.with_work.Reads as reads
 use Rattle.memories.proofs.block_ram.with_work.Lts as lts
-use Rattle.memories.proofs.address.shift_in.Reads as shift-in-reads
+use Rattle.address_mux.proofs.address.shift_in.Reads as shift-in-reads
 use Rattle.memories.proofs.block_ram.ram_body.Reads as ram-body-reads
 use Rattle.memories.proofs.ports.first_port.Reads as first-port-reads
 use Rattle.memories.proofs.ports.second_port.Reads as second-port-reads

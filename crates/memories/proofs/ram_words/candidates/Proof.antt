@@ -12,7 +12,7 @@ use Rattle.memories.proofs.ram_words.candidates.Statement.{statement}
 use Rattle.memories.proofs.ram_words.candidates.Tie as tie
 use Rattle.memories.proofs.ram_words.candidates.Reads as reads
 use Rattle.memories.proofs.ram_words.candidates.Lts as lts
-use Rattle.memories.proofs.address.match_address.Reads as match-address-reads
+use Rattle.address_mux.proofs.address.match_address.Reads as match-address-reads
 use Rattle.netlist.proofs.fields.wide.Reads as wide-reads
 
 abbrev Inv-loop : tie.InvT-loop

@@ -8,7 +8,7 @@ use Rattle.memories.proofs.ram_words.write_word.Statement.{statement}
 use Rattle.memories.proofs.ram_words.write_word.Tie as tie
 use Rattle.memories.proofs.ram_words.write_word.Reads as reads
 use Rattle.memories.proofs.ram_words.write_word.Lts as lts
-use Rattle.memories.proofs.address.match_address.Reads as match-address-reads
+use Rattle.address_mux.proofs.address.match_address.Reads as match-address-reads
 use Rattle.recorder.proofs.builder.and.Reads as and-reads
 use Rattle.recorder.proofs.builder.mux.Reads as mux-reads
 

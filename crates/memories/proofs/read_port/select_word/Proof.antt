@@ -1,6 +1,6 @@
 use Rattle.memories.proofs.ReadLaws.{mux-as}
 use Rattle.memories.specs.Rams.{selectWord}
-use Rattle.memories.specs.Candidates.{noded}
+use Rattle.address_mux.specs.Candidates.{noded}
 use Rattle.recorder.proofs.Wrote.{then-done, then-stop, then-same}
 use Rattle.recorder.specs.Lists.{emitted}
 use Rattle.recorder.specs.declared.Stated.{Stated}
@@ -11,7 +11,7 @@ use Rattle.memories.proofs.read_port.select_word.Statement.{statement}
 use Rattle.memories.proofs.read_port.select_word.Tie as tie
 use Rattle.memories.proofs.read_port.select_word.Reads as reads
 use Rattle.memories.proofs.read_port.select_word.Lts as lts
-use Rattle.memories.proofs.address_mux.balanced_address_mux.Reads as balanced-address-mux-reads
+use Rattle.address_mux.proofs.balanced_address_mux.Reads as balanced-address-mux-reads
 use Rattle.memories.proofs.ram_words.candidates.Reads as candidates-reads
 use Rattle.netlist.proofs.fields.wide.Reads as wide-reads
 use Rattle.recorder.proofs.builder.constant.Reads as constant-reads

@@ -1,0 +1,4 @@
+-- What the proofs of address_mux share.
+pub mod Binds
+pub mod Levels
+pub mod Addresses

@@ -1,0 +1,4 @@
+-- The specs of address_mux.
+pub mod AddressMux
+pub mod Candidates
+pub mod Address

@@ -1,0 +1,3 @@
+-- The laws of lines.
+pub mod Lines
+pub mod Marked

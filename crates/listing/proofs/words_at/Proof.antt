@@ -1,0 +1,55 @@
+use native.Mathlib.Omega.{arith}
+use mathlib.Core.Path.{sym, _∙_}
+use Rattle.listing.proofs.Reached.{words-as}
+use Rattle.recorder.proofs.Reading.{record-within}
+use borrow.Author.Needs.{needs}
+use Rattle.listing.proofs.words_at.Statement.{statement}
+use Rattle.listing.proofs.words_at.Tie as tie
+use Rattle.listing.proofs.words_at.Reads as reads
+use Rattle.listing.proofs.words_at.Lts as lts
+use Rattle.recorder.proofs.read.cut.Reads as cut-reads
+
+-- src/lib.rt:19:11
+cut-requires : tie.Need-cut-requires
+cut-requires c κs = search needs
+
+-- src/lib.rt:20:21
+enum-known-n : tie.Need-enum-known-n
+enum-known-n c = search needs
+
+-- src/lib.rt:20:27
+add-result : tie.Need-add-result
+add-result c = omega (arith, record-within _ _ (sym (c .before .n .given .1) ∙ c .before .before .before .cut .ensures))
+
+-- src/lib.rt:21:21
+enum-told : tie.Need-enum-told
+enum-told c = search needs
+
+-- src/lib.rt:22:24
+enum-told-2 : tie.Need-enum-told-2
+enum-told-2 c = search needs
+
+-- src/lib.rt:16:1
+returns : tie.Need-returns
+returns c = words-as _ _ (sym (c .before .n .given .1) ∙ c .before .before .before .cut .ensures)
+
+-- src/lib.rt:16:1
+returns-2 : tie.Need-returns-2
+returns-2 c = words-as _ _ (sym (c .enum-told .given .1) ∙ c .before .before .cut .ensures)
+
+-- src/lib.rt:16:1
+returns-3 : tie.Need-returns-3
+returns-3 c = words-as _ _ (sym (c .enum-told2 .given .1) ∙ c .before .before .cut .ensures)
+
+pub words-at-spec : {M : Type 1} → statement M
+words-at-spec =
+    tie.close
+    (tie.spec
+    cut-requires
+    enum-known-n
+    add-result
+    enum-told
+    enum-told-2
+    returns
+    returns-2
+    returns-3)

@@ -1,0 +1,2 @@
+-- What the proofs of words share.
+pub mod Laws

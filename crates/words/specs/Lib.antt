@@ -1,0 +1,2 @@
+-- The specs of words.
+pub mod Words
