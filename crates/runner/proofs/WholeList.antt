@@ -2,7 +2,7 @@
 use Prim.Native.Nat.{ℕ, zero, suc, _+_, _*_, _/_, _≤_, _<_, min}
 use mathlib.Core.Path.{_≡_, refl, sym, _∙_, ap, ap₂, subst}
 use mathlib.Core.Bool.{Bool}
-use mathlib.Core.List.{List, [], _∷_, _++_, map}
+use mathlib.Core.List.{List, [], _∷_, _++_}
 use mathlib.Core.Option.{Option, none, some, Option·some-ne-none}
 use native.Mathlib.Omega.{arith}
 use native.Mathlib.Nat.{le-trans, le-of-eq}
@@ -20,6 +20,7 @@ use Rattle.simulation.specs.Index.{recordsIn, widthsIn, offset}
 use Rattle.simulation.specs.Run.{Call, answerOf, total, inputWidth, signalBytes, exprBits, tickBits, short, noBit, onLoop, firstOf, zeroed}
 use Rattle.simulation.specs.Fault.{callOf, secondField, widthTotal, inputTotal, lengthCauses}
 use Rattle.simulation.proofs.Sound.{signals-read}
+use Rattle.simulation.proofs.Steps.{length-widths}
 use Rattle.simulation.proofs.Found.{faultless, signals-count, exprs-count}
 use Rattle.simulation.proofs.Kept.{AllNone, all-none, short-none}
 use Rattle.simulation.proofs.Calls.{firsts-append, orElse-none, only-true, count-right, short-min, long-enough, bytes-same, bits-same, ticks-same, input-fits}
@@ -32,6 +33,7 @@ use Rattle.runner.specs.Calls.{ListCall, listModel, entries, entriesOf, 
 use Rattle.runner.specs.Parts.{Enough, Unrefused, RunsTicks}
 use Rattle.runner.specs.Whole.{listCall, shownCauses, faultCauses, listChecked, listCheckedBy, ListUnrefused, leaves, Leaves, TriesList}
 use Rattle.runner.proofs.Ticking.{short-so}
+use Rattle.runner.proofs.Call.{total-offset}
 
 -- as many ticks as whole heads
 entries-count : (wb we ws heads bits : List ℕ) → length (entries wb we ws heads bits) ≡ length heads / 3
@@ -79,14 +81,11 @@ module _ (x b d : Option (ℕ × ℕ)) where
   third-answers n m q = q ∙ ap₂ (λ (o p : Option (ℕ × ℕ)). orElse o (orElse p d)) n m
 
 -- bytes that are enough: the widths' sum can be named
-sum-offset : (rs : List (List ℕ)) → total secondField rs ≡ offset (map secondField rs) (length rs)
-sum-offset [] = refl
-sum-offset (r ∷ rs) = ap (λ (n : ℕ). secondField r + n) (sum-offset rs)
-
 pub sum-named : (signals exprs bytes wb we ws : List ℕ) → none ≡ firstOf (lengthCauses signals exprs bytes wb we ws) → length bytes < 18446744073709551615 → offset (widthsIn signals) (length (recordsIn signals)) ≤ 18446744073709551615
 sum-named signals exprs bytes wb we ws h q =
     let z = long-enough (widthTotal signals) bytes (short (widthTotal exprs) wb ∷ short (length (recordsIn exprs)) we ∷ short (length (recordsIn signals)) ws ∷ []) h in
-    let e = sum-offset (recordsIn signals) in omega (arith, z, e, q)
+    let e = total-offset secondField (recordsIn signals) in
+    let k = ap (offset (widthsIn signals)) (length-widths signals) in omega (arith, z, e, k, q)
 
 -- of the work on signals only the length counts
 pub work-same : (l : Lists) (heads bits bytes wb we ws other answers shown : List ℕ) → length other ≡ length ws → faultCauses (listCall l heads bits bytes wb we other answers shown) ≡ faultCauses (listCall l heads bits bytes wb we ws answers shown)

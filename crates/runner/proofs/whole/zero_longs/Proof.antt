@@ -20,15 +20,15 @@ abbrev μ-loop : tie.MeasureT-loop
 loop-holds : tie.Need-loop-holds Inv-loop μ-loop
 loop-holds c = (omega arith, refl, fill-none _ 0)
 
--- src/whole.rt:34:9
+-- src/whole.rt:35:9
 mul-table : tie.Need-mul-table Inv-loop μ-loop
 mul-table c = omega (arith, c .before .before .good .0 .1)
 
--- src/whole.rt:34:9
+-- src/whole.rt:35:9
 slice-write-table : tie.Need-slice-write-table Inv-loop μ-loop
 slice-write-table c = search needs
 
--- src/index.rt:308:9
+-- src/whole.rt:36:9
 add-i : tie.Need-add-i Inv-loop μ-loop
 add-i c = search needs
 
@@ -40,11 +40,11 @@ loop-less c = omega arith
 loop-again : tie.Need-loop-again Inv-loop μ-loop
 loop-again c = (omega arith, simp length-set (c .before .loop .inv .1), ap (λ (l : List ℕ). set l (c .before .loop .i) 0) (c .before .loop .inv .2) ∙ fill-more (c .before .loop .i) 0 (c .before .before .args .table .now) (omega arith))
 
--- src/index.rt:302:1
+-- src/whole.rt:30:1
 same-length : tie.Need-same-length Inv-loop μ-loop
 same-length c = c .before .loop .inv .1
 
--- src/index.rt:302:1
+-- src/whole.rt:30:1
 returns : tie.Need-returns Inv-loop μ-loop
 returns c = let e : c .before .loop .i ≡ length (c .before .before .args .table .now) = omega arith in let h : length (c .before .before .args .table .now) ≤ c .before .loop .i = omega arith in c .before .loop .inv .2 ∙ ap (λ (l : List ℕ). replicate (c .before .loop .i) 0 ++ l) (drop-of-length-le (c .before .before .args .table .now) h) ∙ append-nil _ ∙ ap (λ (n : ℕ). replicate n 0) e
 
