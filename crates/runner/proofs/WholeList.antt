@@ -30,7 +30,7 @@ use Rattle.ordering.specs.Loops.{loopOf}
 use Rattle.evaluation.specs.Ready.{modelIn}
 use Rattle.evaluation.specs.Ticks.{signalsIn, ReadSignals}
 use Rattle.runner.specs.Calls.{ListCall, listModel, entries, entriesOf, outputWidth, outputBytes, listCauses, listVerdict, listAnswer, listOutcome, ListOutcome, runList, RunsList}
-use Rattle.runner.specs.Parts.{Enough, Unrefused, RunsTicks}
+use Rattle.runner.specs.Parts.{Unrefused, RunsTicks}
 use Rattle.runner.specs.Whole.{listCall, shownCauses, faultCauses, listChecked, listCheckedBy, ListUnrefused, leaves, Leaves, TriesList}
 use Rattle.runner.proofs.Ticking.{short-so}
 use Rattle.runner.proofs.Call.{total-offset}
