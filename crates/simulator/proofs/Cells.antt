@@ -1,0 +1,106 @@
+-- What an accepted call shows is what the netlist's own cells show: demand 3 on the call's buffers. Assumes nothing.
+use mathlib.Core.Path.{_≡_, refl, sym, _∙_, ap, subst}
+use mathlib.Core.Bool.{Bool, true, false}
+use mathlib.Core.List.{List, [], _∷_, map}
+use mathlib.Core.Option.{Option, none, some}
+use Prim.Native.Nat.{ℕ, _≤_}
+use native.Mathlib.Omega.{arith}
+use lib.ListN.{length, replicate, length-replicate}
+use Rattle.bits.specs.Bits.{pick}
+use Rattle.netlist.specs.declared.Limits.{Limits}
+use Rattle.netlist.specs.Netlist.{Netlist}
+use Rattle.netlist.specs.Reader.{base, netlist, readWords, Read}
+use Rattle.recorder.specs.declared.Tapes.{Tapes}
+use Rattle.recorder.specs.Record.{Signal, Model}
+use Rattle.recorder.specs.Lists.{Lists}
+use Rattle.recorder.specs.Read.{modelOf}
+use Rattle.recorder.specs.Words.{rawOf, wordsOf}
+use Rattle.recorder.proofs.Roundtrip.{model-read}
+use Rattle.lowering.specs.Lower.{blank, Lowered, Accepted, Refused, Lowering, lowered, loweredRead, lowerWords}
+use Rattle.behaviour.specs.Behaviour.{start, NoWireLoop}
+use Rattle.simulation.specs.Wellformed.{largest, malformed}
+use Rattle.simulation.specs.Run.{zeroed, signalBytes, firstOf}
+use Rattle.simulation.specs.Shown.{Entry, ByModel, shownByModel}
+use Rattle.simulation.proofs.Kept.{AllNone, all-none, short-none}
+use Rattle.forms.specs.Lowered.{loweredModel, Roomy}
+use Rattle.equivalence.specs.Demand.{usedLists, shownByCells, AllAgree}
+use Rattle.equivalence.proofs.Acceptance.{accepted-kept, used-words}
+use Rattle.equivalence.proofs.Demanded.{demand3}
+use Rattle.converter.specs.Entry.{short, anyShort, lowerCall, callOf}
+use Rattle.runner.specs.Calls.{ListCall, listModel, listCauses, listVerdict, listAnswer, answersOf, outputsOf, filled, listOutcome, runList}
+use Rattle.simulator.specs.Entry.{Simulation, Simulated, ShowsCells, entriesOf, refusedBy, ticksOn, ran, simulateCall}
+use Rattle.simulator.specs.Entry.{lowered as loweredTo}
+
+abbrev IsAccepted : Lowered → Type 0
+IsAccepted (Accepted t) = Unit {0}
+IsAccepted (Refused number place) = ⊥
+
+room : Roomy base largest
+room = record { ports = omega arith; banks = omega arith; products = omega arith }
+
+-- a list is accepted only if the signal bytes are long enough
+bytes-long : (c : ListCall) → listAnswer largest c ≡ none → signalBytes (listModel c) ≤ length (c .bytes)
+unfolding listAnswer
+bytes-long c = go (malformed largest (c .lists))
+  where
+    go : (o : Option ℕ) → listVerdict (listModel c) c o ≡ none → signalBytes (listModel c) ≤ length (c .bytes)
+    go (some n) h = absurd (mathlib.Core.Option.Option·some-ne-none (12, n) h)
+    go none h = short-none (signalBytes (listModel c)) (c .bytes) (all-none (listCauses (listModel c) c) h .0)
+
+module _ (x : Simulation) (n : Netlist) (q : readWords base (x .words) ≡ netlist n) (loopless : NoWireLoop n) where
+  abbrev s : ℕ
+  s = length (x .lists .signals)
+
+  abbrev e : ℕ
+  e = length (x .lists .exprs)
+
+  abbrev m : ℕ
+  m = length (x .lists .stmts)
+
+  -- lowered, and the list accepted
+  shows : (t : Tapes) (l : Lists) → lowerWords base (x .words) s e m ≡ record { answer = Accepted t; lists = l } → listAnswer largest (ticksOn x l t) ≡ none
+      → ShowsCells n x (runList largest (ticksOn x l t) .answers) (runList largest (ticksOn x l t) .shown)
+  unfolding runList
+  shows t l h a = record {
+    ticks = shownByModel largest (usedLists l t) (listModel (ticksOn x l t) .signals) (zeroed (x .bytes)) (entriesOf x);
+    agree =
+        subst (λ (M : Model). AllAgree (shownByModel largest (usedLists l t) (M .signals) (zeroed (x .bytes)) (entriesOf x)) (shownByCells n (start n) (entriesOf x))) (sym model-is)
+        (demand3 base largest room (x .words) s e m t l h n q loopless (length (x .bytes)) long (entriesOf x));
+    answers-are = ap (λ (o : Option (ℕ × ℕ)). listOutcome largest (ticksOn x l t) o .answers) a;
+    shown-are = ap (λ (o : Option (ℕ × ℕ)). listOutcome largest (ticksOn x l t) o .shown) a;
+  }
+    where
+      low : lowered n s e m ≡ record { answer = Accepted t; lists = l }
+      low = ap (λ (r : Read). loweredRead r s e m) (sym q) ∙ h
+
+      model-is : listModel (ticksOn x l t) ≡ loweredModel n
+      model-is = ap (λ (w : Lists). modelOf (rawOf w)) (used-words n s e m t l (accepted-kept n s e m t l low)) ∙ model-read (loweredModel n)
+
+      long : signalBytes (loweredModel n) ≤ length (x .bytes)
+      long = let b = bytes-long (ticksOn x l t) a in let k = ap signalBytes model-is in let z = length-replicate {A = ℕ} (length (x .bytes)) 0 in omega (arith, b, k, z)
+
+  abbrev Shown : Simulated → Type 0
+  Shown r = IsAccepted (r .answer) → ShowsCells n x (r .answers) (r .shown)
+
+  by-answer : (t : Tapes) (l : Lists) → lowerWords base (x .words) s e m ≡ record { answer = Accepted t; lists = l } → Shown (ran x l t (runList largest (ticksOn x l t) .answer) (runList largest (ticksOn x l t)))
+  unfolding runList
+  by-answer t l h = go (listAnswer largest (ticksOn x l t)) refl
+    where
+      go : (o : Option (ℕ × ℕ)) → listAnswer largest (ticksOn x l t) ≡ o → Shown (ran x l t (listOutcome largest (ticksOn x l t) o .answer) (listOutcome largest (ticksOn x l t) o))
+      go (some r) a y = absurd y
+      go none a y = subst (λ (o : Option (ℕ × ℕ)). ShowsCells n x (listOutcome largest (ticksOn x l t) o .answers) (listOutcome largest (ticksOn x l t) o .shown)) a (shows t l h a)
+
+  by-lowering : (r : Lowering) → lowerWords base (x .words) s e m ≡ r → Shown (loweredTo x (r .lists) (r .answer))
+  by-lowering r h = go (r .answer) (r .lists) h
+    where
+      go : (a : Lowered) (l : Lists) → lowerWords base (x .words) s e m ≡ record { answer = a; lists = l } → Shown (loweredTo x l a)
+      go (Refused number place) l k y = absurd y
+      go (Accepted t) l k y = by-answer t l k y
+
+  pub cells-shown : Shown (simulateCall base x)
+  unfolding simulateCall
+  cells-shown = go (anyShort (map length (x .works)))
+    where
+      go : (b : Bool) → Shown (loweredTo x (pick b (record { answer = Refused 1 16384; lists = blank s e m }) (lowerWords base (x .words) s e m) .lists) (pick b (record { answer = Refused 1 16384; lists = blank s e m }) (lowerWords base (x .words) s e m) .answer))
+      go true y = absurd y
+      go false y = by-lowering (lowerWords base (x .words) s e m) refl y

@@ -1,0 +1,2 @@
+-- The laws of simulator.
+pub mod Cells

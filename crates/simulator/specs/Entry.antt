@@ -1,0 +1,90 @@
+-- The call of `simulate` as a value, and what it says of the netlist's own cells.
+use mathlib.Core.Path.{_≡_}
+use mathlib.Core.List.{List, [], _∷_, map}
+use mathlib.Core.Option.{Option, none, some}
+use Prim.Native.Nat.{ℕ}
+use lib.ListN.{length}
+use Rattle.netlist.specs.declared.Limits.{Limits}
+use Rattle.netlist.specs.Netlist.{Netlist}
+use Rattle.netlist.specs.Reader.{netlist, readWords}
+use Rattle.recorder.specs.declared.Tapes.{Tapes}
+use Rattle.recorder.specs.Lists.{Lists}
+use Rattle.lowering.specs.Lower.{blank, Lowered, Accepted, Refused, Lowering}
+use Rattle.behaviour.specs.Behaviour.{start, NoWireLoop}
+use Rattle.simulation.specs.Wellformed.{largest}
+use Rattle.simulation.specs.Run.{zeroed}
+use Rattle.simulation.specs.Shown.{Entry, ByModel}
+use Rattle.converter.specs.declared.Lowered as c
+use Rattle.converter.specs.Entry.{answerOf, callOf}
+use Rattle.runner.specs.Calls.{ListCall, ListOutcome, entries, answersOf, outputsOf, filled, runList}
+use Rattle.equivalence.specs.Demand.{usedLists, shownByCells, AllAgree}
+
+-- WHAT A CALLER HANDS OVER: netlist words, ticks (three words each, and their bits), and buffers. Of lists, works and outputs only the lengths matter
+pub record Simulation : Type 0 where
+  pub words : List ℕ
+  pub heads : List ℕ
+  pub bits : List ℕ
+  pub lists : Lists
+  pub works : List (List ℕ)
+  pub bytes : List ℕ
+  pub workBits : List ℕ
+  pub workExprs : List ℕ
+  pub workSignals : List ℕ
+  pub answers : List ℕ
+  pub shown : List ℕ
+
+-- what the caller has afterwards; every work is zeros
+pub record Simulated : Type 0 where
+  pub answer : Lowered
+  pub lists : Lists
+  pub answers : List ℕ
+  pub shown : List ℕ
+
+abbrev pub blankOf : Lists → Lists
+blankOf l = blank (length (l .signals)) (length (l .exprs)) (length (l .stmts))
+
+abbrev pub refusedBy : Simulation → ℕ → ℕ → Simulated
+refusedBy x number place = record { answer = Refused number place; lists = blankOf (x .lists); answers = zeroed (x .answers); shown = zeroed (x .shown) }
+
+-- the ticks on the words that lowering used, from signal bytes of zeros
+abbrev pub ticksOn : Simulation → Lists → Tapes → ListCall
+ticksOn x l t = record {
+  lists = usedLists l t;
+  heads = x .heads;
+  bits = x .bits;
+  bytes = zeroed (x .bytes);
+  workBits = x .workBits;
+  workExprs = x .workExprs;
+  workSignals = x .workSignals;
+  answers = x .answers;
+  shown = x .shown;
+}
+
+abbrev pub ran : Simulation → Lists → Tapes → Option (ℕ × ℕ) → ListOutcome → Simulated
+ran x l t (some r) o = refusedBy x (r .0) (r .1)
+ran x l t none o = record { answer = Accepted t; lists = l; answers = o .answers; shown = o .shown }
+
+abbrev pub lowered : Simulation → Lists → Lowered → Simulated
+lowered x l (Refused number place) = refusedBy x number place
+lowered x l (Accepted t) = let o = runList largest (ticksOn x l t) in ran x l t (o .answer) o
+
+-- THE CALL: lowers, then runs the whole list
+unfoldable pub simulateCall : Limits → Simulation → Simulated
+simulateCall limits x = let r = callOf limits (x .words) (x .lists) (x .works) in lowered x (r .lists) (r .answer)
+
+-- THE CELLS
+
+abbrev pub entriesOf : Simulation → List Entry
+entriesOf x = entries (x .workBits) (x .workExprs) (x .workSignals) (x .heads) (x .bits)
+
+-- for each tick its answer and the outputs after it stand in the buffers, and they are those of the netlist's own cells
+pub record ShowsCells (n : Netlist) (x : Simulation) (answers′ shown′ : List ℕ) : Type 0 where
+  pub ticks : List ByModel
+  pub agree : AllAgree ticks (shownByCells n (start n) (entriesOf x))
+  pub answers-are : answers′ ≡ filled (x .answers) (answersOf ticks)
+  pub shown-are : shown′ ≡ filled (x .shown) (outputsOf ticks)
+
+-- lists, answers and outputs at exit
+pub record Simulates (limits : Limits) (x : Simulation) (r : c.Lowered) (l′ : Lists) (answers′ shown′ : List ℕ) : Type 0 where
+  pub value : record { answer = answerOf r; lists = l′; answers = answers′; shown = shown′ } ≡ simulateCall limits x
+  pub cells : (n : Netlist) → readWords limits (x .words) ≡ netlist n → NoWireLoop n → (t : Tapes) → answerOf r ≡ Accepted t → ShowsCells n x answers′ shown′

@@ -1,0 +1,2 @@
+-- The specs of simulator.
+pub mod Entry
