@@ -79,7 +79,7 @@ zeros-fill ws buffer {zeros} e h = record {
 
 -- A CALL THAT NOTHING REFUSES BUT MAYBE A LOOP
 
-total-offset : {A : Type 0} (f : A → ℕ) (l : List A) → total f l ≡ offset (map f l) (length (map f l))
+pub total-offset : {A : Type 0} (f : A → ℕ) (l : List A) → total f l ≡ offset (map f l) (length (map f l))
 total-offset f [] = refl
 total-offset f (a ∷ l) = ap (λ (n : ℕ). f a + n) (total-offset f l)
 

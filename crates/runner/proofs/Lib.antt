@@ -4,3 +4,4 @@ pub mod Showing
 pub mod Ticking
 pub mod Call
 pub mod Running
+pub mod WholeList

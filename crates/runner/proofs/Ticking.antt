@@ -25,7 +25,7 @@ use Rattle.evaluation.specs.Ticks.{Filled, signalsIn, GoodTicks, Ticks}
 use Rattle.evaluation.proofs.Calling.{holds-same, holds-state, holds-behind, holds-enough, holds-bits, holds-ticked, bytes-hold}
 use Rattle.runner.specs.Parts.{tickCauses, afterTick, RunsTick, Enough}
 
-short-so : (n : ℕ) (l : List ℕ) → n ≤ length l → short n l ≡ none
+pub short-so : (n : ℕ) (l : List ℕ) → n ≤ length l → short n l ≡ none
 short-so n l h = sym (only-false (some (1, min n 18446744073709551615)) (le-ltb (length l) n h))
 
 -- of a call's causes those of the tick are left

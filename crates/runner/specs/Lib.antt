@@ -1,3 +1,4 @@
 -- The specs of runner.
 pub mod Calls
 pub mod Parts
+pub mod Whole

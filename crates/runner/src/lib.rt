@@ -12,6 +12,7 @@ mod sort; // sort.rt: an order of all expressions
 mod store; // store.rt: inputs and values in the signals' bytes
 mod tables; // tables.rt: where records and values stand, by tables
 mod ticks; // ticks.rt: one tick
+mod whole; // whole.rt: a whole list's run
 
 use model_check::call::check_call;
 use ordering::Loop;
@@ -22,11 +23,17 @@ use simulation::Ran;
 use simulation::index::count;
 use simulation::zero::zero_bytes;
 use ticks::tick;
+use whole::run_list_with;
+use whole::zero_longs;
+use whole::zero_tables;
+use whole::zero_works;
+ghost use mathlib.Core.Path.{_≡_};
 ghost use Rattle.recorder.specs.Lists.{lists};
 ghost use Rattle.simulation.specs.Fault.{callOf};
-ghost use Rattle.simulation.specs.Run.{firedOf};
-ghost use Rattle.runner.specs.Calls.{Runs, Answers};
+ghost use Rattle.simulation.specs.Run.{firedOf, zeroed};
+ghost use Rattle.runner.specs.Calls.{Runs, Answers, RunsList};
 ghost use Rattle.runner.specs.Parts.{Unrefused, Tries};
+ghost use Rattle.runner.specs.Whole.{listCall};
 
 // The largest width of a signal or an expression.
 pub const WIDEST: u32 = 4096;
@@ -189,5 +196,54 @@ pub fn run(
     zero_bytes(work_bits);
     zero_bytes(work_exprs);
     zero_bytes(work_signals);
+    r
+}
+
+// A list of ticks on one model, checked and prepared once: three words a tick in `heads`, the bits of all in `bits`. The lent tables
+// are work: what they have no room for is found by walking the lists.
+pub fn run_list(
+    signals: &[u32],
+    exprs: &[u32],
+    stmts: &[u32],
+    heads: &[u32],
+    bits: &[u8],
+    bytes: &mut [u8],
+    work_bits: &mut [u8],
+    work_exprs: &mut [u8],
+    work_signals: &mut [u8],
+    starts: &mut [u32],
+    expr_table: &mut [u32],
+    signal_table: &mut [u32],
+    driver_table: &mut [u32],
+    order: &mut [u32],
+    answers: &mut [u64],
+    shown: &mut [u8],
+) -> Ran
+    ensures runs { λ r. ⌜ RunsList (listCall (lists (now (signals .entry)) (now (exprs .entry)) (now (stmts .entry))) (now (heads .entry)) (now (bits .entry)) (now (bytes .entry)) (now («work_bits» .entry)) (now («work_exprs» .entry)) (now («work_signals» .entry)) (now (answers .entry)) (now (shown .entry))) r (now (bytes .exit)) (now (answers .exit)) (now (shown .exit)) ⌝ }
+    ensures works { λ _. ⌜ (now («work_bits» .exit) ≡ zeroed (now («work_bits» .entry))) × (now («work_exprs» .exit) ≡ zeroed (now («work_exprs» .entry))) × (now («work_signals» .exit) ≡ zeroed (now («work_signals» .entry))) ⌝ }
+    ensures tables { λ _. ⌜ (now (starts .exit) ≡ zeroed (now (starts .entry))) × (now («expr_table» .exit) ≡ zeroed (now («expr_table» .entry))) × (now («signal_table» .exit) ≡ zeroed (now («signal_table» .entry))) × (now («driver_table» .exit) ≡ zeroed (now («driver_table» .entry))) × (now (order .exit) ≡ zeroed (now (order .entry))) ⌝ }
+{
+    zero_longs(answers);
+    zero_bytes(shown);
+    let r = run_list_with(
+        signals,
+        exprs,
+        stmts,
+        heads,
+        bits,
+        bytes,
+        work_bits,
+        work_exprs,
+        work_signals,
+        starts,
+        expr_table,
+        signal_table,
+        driver_table,
+        order,
+        answers,
+        shown,
+    );
+    zero_works(work_bits, work_exprs, work_signals);
+    zero_tables(starts, expr_table, signal_table, driver_table, order);
     r
 }

@@ -38,7 +38,7 @@ three a′ b′ c′ qa qb qc qx qy = qy ∙ ap₂ orElse qa (qx ∙ ap₂ orEls
 pub four : {a b c d x y z : Option (ℕ × ℕ)} (a′ b′ c′ d′ : Option (ℕ × ℕ)) → a ≡ a′ → b ≡ b′ → c ≡ c′ → d ≡ d′ → x ≡ orElse c d → y ≡ orElse b x → z ≡ orElse a y → z ≡ firstOf (a′ ∷ b′ ∷ c′ ∷ d′ ∷ [])
 four a′ b′ c′ d′ qa qb qc qd qx qy qz = qz ∙ ap₂ orElse qa (three b′ c′ d′ qb qc qd qx qy)
 
-firsts-append : (xs ys : List (Option (ℕ × ℕ))) → firstOf (xs ++ ys) ≡ orElse (firstOf xs) (firstOf ys)
+pub firsts-append : (xs ys : List (Option (ℕ × ℕ))) → firstOf (xs ++ ys) ≡ orElse (firstOf xs) (firstOf ys)
 firsts-append [] ys = refl
 firsts-append (none ∷ xs) ys = firsts-append xs ys
 firsts-append (some a ∷ xs) ys = refl
@@ -180,15 +180,15 @@ module _ (widest : ℕ) (c : Call) (h : malformed widest (c .lists) ≡ none) wh
   abbrev m : Model
   m = callModel c
 
-  bytes-same : signalBytes m ≡ widthTotal (c .lists .signals)
+  pub bytes-same : signalBytes m ≡ widthTotal (c .lists .signals)
   unfolding modelOf
   bytes-same = total-read readSignal secondField (λ (s : Signal). s .width) signal-width (recordsIn (c .lists .signals)) (signals-read widest (rawOf (c .lists)) (faultless widest (c .lists) h))
 
-  bits-same : exprBits m ≡ widthTotal (c .lists .exprs)
+  pub bits-same : exprBits m ≡ widthTotal (c .lists .exprs)
   unfolding modelOf
   bits-same = total-read readExpr secondField exprWidth expr-width (recordsIn (c .lists .exprs)) (exprs-read widest (rawOf (c .lists)) (faultless widest (c .lists) h))
 
-  ticks-same : tickBits m ≡ inputTotal (c .lists .signals)
+  pub ticks-same : tickBits m ≡ inputTotal (c .lists .signals)
   unfolding modelOf
   ticks-same = total-read readSignal inputField inputWidth signal-input (recordsIn (c .lists .signals)) (signals-read widest (rawOf (c .lists)) (faultless widest (c .lists) h))
 
