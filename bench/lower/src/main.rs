@@ -7,7 +7,6 @@
 //! works are cleared by each call too. All three answers must be equal.
 
 use std::hint::black_box;
-use std::time::Instant;
 
 use celox::recorder::{self, Recording};
 use lower::{lower_netlist, mapped_netlist};
@@ -71,20 +70,38 @@ fn by_rust(words: &[u32]) -> Recording {
     lower_netlist(&netlist, [usize::MAX; 3]).expect("accepted")
 }
 
-/// Microseconds of a call: the least mean of five rounds of at least 0.2 s.
+#[repr(C)]
+struct Timespec {
+    seconds: i64,
+    nanoseconds: i64,
+}
+
+unsafe extern "C" {
+    fn clock_gettime(clock: i32, time: *mut Timespec) -> i32;
+}
+
+/// Seconds of processor time that this thread has had: what other processes take does not count.
+fn processor_time() -> f64 {
+    const THREAD_CPUTIME: i32 = 3;
+    let mut now = Timespec { seconds: 0, nanoseconds: 0 };
+    assert_eq!(unsafe { clock_gettime(THREAD_CPUTIME, &mut now) }, 0);
+    now.seconds as f64 + now.nanoseconds as f64 * 1e-9
+}
+
+/// Microseconds of processor time of a call: the least mean of 25 rounds of at least 40 ms.
 fn time(mut call: impl FnMut()) -> f64 {
     call();
-    let start = Instant::now();
+    let start = processor_time();
     call();
-    let once = start.elapsed().as_secs_f64().max(1e-7);
-    let calls = (0.2 / once).ceil() as u32;
-    (0..5)
+    let once = (processor_time() - start).max(1e-7);
+    let calls = (0.04 / once).ceil() as u32;
+    (0..25)
         .map(|_| {
-            let start = Instant::now();
+            let start = processor_time();
             for _ in 0..calls {
                 call();
             }
-            start.elapsed().as_secs_f64() / f64::from(calls) * 1e6
+            (processor_time() - start) / f64::from(calls) * 1e6
         })
         .fold(f64::INFINITY, f64::min)
 }
