@@ -1,8 +1,8 @@
 // Refusal 13: the lowest signal on a loop, by marking what leads to it.
-use ordering::Loop;
 use crate::marks::driver_marked;
 use crate::marks::is_marked;
 use crate::marks::touched;
+use ordering::Loop;
 use simulation::zero::zero_bytes;
 ghost use mathlib.Core.Path.{_≡_};
 ghost use mathlib.Core.Bool.{Bool, true, false, _||_};

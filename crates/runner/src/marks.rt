@@ -1,7 +1,7 @@
 // Marks: an expression is marked once all that it needs is. What can't be marked is on a loop or behind one.
-use simulation::Driver;
 use crate::tables::driver;
 use crate::tables::start;
+use simulation::Driver;
 use simulation::index::wide;
 ghost use mathlib.Core.Path.{_≡_};
 ghost use mathlib.Core.Bool.{Bool, true, false, _||_};

@@ -2,10 +2,10 @@
 use crate::loops::lowest_on_loop;
 use crate::sort::sort;
 use ordering::Loop;
-use simulation::zero::zero_bytes;
 use simulation::index::fill_drivers;
 use simulation::index::fill_offsets;
 use simulation::index::fill_starts;
+use simulation::zero::zero_bytes;
 ghost use mathlib.Core.Path.{_≡_};
 ghost use Prim.Native.Nat.{_≤_};
 ghost use lib.ListN.{length, take};
@@ -48,16 +48,7 @@ pub fn prepare(
     fill_offsets(signals, signal_table);
     fill_drivers(stmts, driver_table);
     if n >= 4294967296 {
-        let found = lowest_on_loop(
-            exprs,
-            starts,
-            stmts,
-            driver_table,
-            marks,
-            signals,
-            n,
-            count,
-        );
+        let found = lowest_on_loop(exprs, starts, stmts, driver_table, marks, signals, n, count);
         return Readied {
             found: found,
             ordered: 0,
@@ -66,16 +57,7 @@ pub fn prepare(
     zero_bytes(marks);
     let k = sort(exprs, starts, stmts, driver_table, marks, order, n);
     if k != n {
-        let found = lowest_on_loop(
-            exprs,
-            starts,
-            stmts,
-            driver_table,
-            marks,
-            signals,
-            n,
-            count,
-        );
+        let found = lowest_on_loop(exprs, starts, stmts, driver_table, marks, signals, n, count);
         return Readied {
             found: found,
             ordered: 0,
