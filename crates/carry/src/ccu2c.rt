@@ -1,9 +1,9 @@
 use cells::Read4;
 use cells::answers::stopped;
 use cells::answers::stopped_read;
+use cells::emit::lut_expression;
 use cells::emit::read4;
 use netlist::Bit;
-use optimize::lut::lut;
 use optimize::optimizer::mux;
 use optimize::optimizer::xor;
 use recorder::Emitted;
@@ -57,12 +57,12 @@ fn emit_slice(
         return stopped_read(r);
     };
     let ids = [a, b, c, d];
-    let r2 = lut(exprs, after, ids, init);
+    let r2 = lut_expression(exprs, after, ids, init);
     let Emitted::Done(lut4, after_lut4) = r2 else {
         return r2;
     };
     let ids2 = [a, b, ExprId::ZERO, ExprId::ZERO];
-    let r3 = lut(exprs, after_lut4, ids2, init);
+    let r3 = lut_expression(exprs, after_lut4, ids2, init);
     let Emitted::Done(lut2, after_lut2) = r3 else {
         return r3;
     };

@@ -8,6 +8,7 @@ use netlist::fields::field;
 use optimize::lut::lut;
 use optimize::optimizer::mux;
 use recorder::Emitted;
+use recorder::ExprId;
 use recorder::Stated;
 use recorder::Tapes;
 use recorder::builder::multiply;
@@ -19,6 +20,7 @@ ghost use mathlib.Core.List.{[]};
 ghost use Prim.Native.Nat.{_+_};
 ghost use Rattle.netlist.specs.Fields.{bitsAt, wiresAt};
 ghost use Rattle.recorder.specs.Lists.{WroteExprs, emitted, stated};
+ghost use Rattle.optimize.specs.Lut.{numbers, lutCofactor};
 ghost use Rattle.wires.specs.Wires.{wiresOf};
 ghost use Rattle.wires.specs.Expressions.{readBits, roomy};
 ghost use Rattle.cells.specs.Cells.{emitMultiplier, emitLut4, emitPfumx, emitL6mux21, emitIo};
@@ -94,6 +96,13 @@ pub fn emit_multiplier(
     assign_wire(stmts, signals, places, next, product, value)
 }
 
+// A truth table of four inputs, by the optimizer.
+pub fn lut_expression(exprs: &mut [u32], t: Tapes, inputs: [ExprId; 4], init: u16) -> Emitted
+    ensures { λ r. ⌜ WroteExprs (now (exprs .entry)) t (lutCofactor (numbers inputs) init) (emitted r) (now (exprs .exit)) ⌝ }
+{
+    lut(exprs, t, inputs, init)
+}
+
 pub fn emit_lut4(
     exprs: &mut [u32],
     stmts: &mut [u32],
@@ -111,7 +120,7 @@ pub fn emit_lut4(
         return stopped(stopped_read(r));
     };
     let ids = [a, b, c, d];
-    let r2 = lut(exprs, after, ids, init);
+    let r2 = lut_expression(exprs, after, ids, init);
     let Emitted::Done(value, next) = r2 else {
         return stopped(r2);
     };

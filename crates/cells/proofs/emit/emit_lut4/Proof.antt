@@ -11,7 +11,6 @@ use Rattle.cells.proofs.emit.emit_lut4.Lts as lts
 use Rattle.cells.proofs.answers.stopped.Reads as stopped-reads
 use Rattle.cells.proofs.answers.stopped_read.Reads as stopped-read-reads
 use Rattle.cells.proofs.emit.read4.Reads as read4-reads
-use Rattle.optimize.proofs.lut.lut.Reads as lut-reads
 use Rattle.wires.proofs.expressions.assign_wire.Reads as assign-wire-reads
 
 read4-requires : tie.Need-read4-requires
@@ -36,8 +35,8 @@ returns : tie.Need-returns
 unfolding emitLut4
 returns c = λ s. then-failed (c .before .before .before .before .before .before .read4 .ensures s _) _ (ap readOf (c .before .before .enum-told .given .1)) (changed-failed nothing (c .stopped .ensures) (changed-failed first (c .before .stopped-read .ensures) (ap readOf (c .before .before .enum-told .given .1))))
 
-lut-requires : tie.Need-lut-requires
-lut-requires c κs = tt
+lut-expression-requires : tie.Need-lut-expression-requires
+lut-expression-requires c κs = tt
 
 enum-known-r2 : tie.Need-enum-known-r2
 enum-known-r2 c = c .match2 .keys1
@@ -53,7 +52,7 @@ same-length-2 c = c .before .before .before .before .exprs2 .given ∙ c .before
 
 returns-2 : tie.Need-returns-2
 unfolding emitLut4
-returns-2 c = λ s. then-done (c .before .before .before .before .before .before .before .before .before .before .before .before .read4 .ensures s _) _ (ap readOf (c .before .before .before .before .before .before .before .before .r .given .1)) (then-changed nothing (c .before .before .before .before .before .lut .ensures s _) _ (ap emitted (c .before .enum-told2 .given .1)) (c .stopped2 .ensures))
+returns-2 c = λ s. then-done (c .before .before .before .before .before .before .before .before .before .before .before .before .read4 .ensures s _) _ (ap readOf (c .before .before .before .before .before .before .before .before .r .given .1)) (then-changed nothing (c .before .before .before .before .before .lut-expression .ensures s _) _ (ap emitted (c .before .enum-told2 .given .1)) (c .stopped2 .ensures))
 
 assign-wire-requires : tie.Need-assign-wire-requires
 assign-wire-requires c κs = tt
@@ -66,7 +65,7 @@ same-length-4 c = c .before .stmts .given
 
 returns-3 : tie.Need-returns-3
 unfolding emitLut4
-returns-3 c = λ s. then-done (c .before .before .before .before .before .before .before .before .before .before .before .before .before .before .before .before .read4 .ensures s _) _ (ap readOf (c .before .before .before .before .before .before .before .before .before .before .before .before .r .given .1)) (then-done (c .before .before .before .before .before .before .before .before .before .lut .ensures s _) _ (ap emitted (c .before .before .before .before .before .r2 .given .1)) (c .before .before .assign-wire .ensures s _))
+returns-3 c = λ s. then-done (c .before .before .before .before .before .before .before .before .before .before .before .before .before .before .before .before .read4 .ensures s _) _ (ap readOf (c .before .before .before .before .before .before .before .before .before .before .before .before .r .given .1)) (then-done (c .before .before .before .before .before .before .before .before .before .lut-expression .ensures s _) _ (ap emitted (c .before .before .before .before .before .r2 .given .1)) (c .before .before .assign-wire .ensures s _))
 
 pub emit-lut4-spec : {M : Type 1} → statement M
 emit-lut4-spec =
@@ -79,7 +78,7 @@ emit-lut4-spec =
     stopped-requires
     same-length
     returns
-    lut-requires
+    lut-expression-requires
     enum-known-r2
     enum-told-2
     stopped-requires-2
