@@ -31,11 +31,11 @@ use Rattle.runner.specs.Calls.{ListCall, listModel, listCauses, listVerdict, li
 use Rattle.simulator.specs.Entry.{Simulation, Simulated, ShowsCells, entriesOf, refusedBy, ticksOn, ran, simulateCall}
 use Rattle.simulator.specs.Entry.{lowered as loweredTo}
 
-abbrev IsAccepted : Lowered → Type 0
+abbrev pub IsAccepted : Lowered → Type 0
 IsAccepted (Accepted t) = Unit {0}
 IsAccepted (Refused number place) = ⊥
 
-room : Roomy base largest
+pub room : Roomy base largest
 room = record { ports = omega arith; banks = omega arith; products = omega arith }
 
 -- a list is accepted only if the signal bytes are long enough
