@@ -16,11 +16,12 @@ use Rattle.simulation.specs.declared.Ran.{Ran}
 use Rattle.simulation.specs.Run.{zeroed}
 use Rattle.simulation.specs.Run as s
 use Rattle.simulation.specs.Shown.{Entry, ByModel}
+use Rattle.forms.specs.Lowered.{loweredModel}
 use Rattle.converter.specs.declared.Lowered as c
 use Rattle.converter.specs.Entry.{answerOf, callOf}
 use Rattle.runner.specs.Calls.{ListCall, ListOutcome, entries, answersOf, outputsOf, filled, runList}
 use Rattle.runner.specs.Whole.{listCall}
-use Rattle.equivalence.specs.Demand.{usedLists, shownByCells, AllAgree}
+use Rattle.equivalence.specs.Demand.{usedLists, shownByCells, AllAgree, Answered}
 
 -- WHAT A CALLER HANDS OVER: netlist words, ticks (three words each, and their bits), and buffers. Of lists, works and outputs only the lengths matter
 pub record Simulation : Type 0 where
@@ -88,6 +89,7 @@ entriesOf x = entries (x .workBits) (x .workExprs) (x .workSignals) (x .heads) (
 pub record ShowsCells (n : Netlist) (x : Simulation) (answers′ shown′ : List ℕ) : Type 0 where
   pub ticks : List ByModel
   pub agree : AllAgree ticks (shownByCells n (start n) (entriesOf x))
+  pub answered : Answered (loweredModel n) (entriesOf x) ticks
   pub answers-are : answers′ ≡ filled (x .answers) (answersOf ticks)
   pub shown-are : shown′ ≡ filled (x .shown) (outputsOf ticks)
 
