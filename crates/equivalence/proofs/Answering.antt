@@ -14,14 +14,15 @@ use borrow.Author.Tests.{le-leb, lt-leb, lt-ltb, ltb-true, ltb-false, leb-true, 
 use Rattle.bits.specs.Bits.{pick}
 use Rattle.netlist.specs.Netlist.{Netlist}
 use Rattle.recorder.specs.Record.{Model}
+use Rattle.recorder.specs.Lists.{Lists}
 use Rattle.recorder.specs.Read.{only}
 use Rattle.behaviour.specs.WireMap.{signalCount}
 use Rattle.behaviour.specs.WireMap.{tickBits as portBits}
 use Rattle.behaviour.specs.Behaviour.{allBits, firedFits, accepts}
 use Rattle.simulation.specs.Wellformed.{orElse}
 use Rattle.simulation.specs.Tick.{looped}
-use Rattle.simulation.specs.Run.{Call, signalBytes, exprBits, tickBits, short, noBit, wrongCount, wrongFired, onLoop, firstOf, refusal}
-use Rattle.equivalence.specs.Demand.{firedBy, tickBy, enough}
+use Rattle.simulation.specs.Run.{signalBytes, exprBits, tickBits, short, noBit, wrongCount, wrongFired, onLoop, firstOf, refusal}
+use Rattle.equivalence.specs.Demand.{firedBy, tickBy, enough, answerTo}
 use Rattle.simulation.specs.Shown.{Entry, entryCall}
 
 -- a test, and the refusal that stands for it
@@ -84,36 +85,44 @@ fired-tested n signals (some f) e =
     go true = passes
     go false = fails 14 0 (inr refl)
 
-and-assoc : (a b c : Bool) → (a && b) && c ≡ a && (b && c)
-and-assoc true b c = refl
-and-assoc false b c = refl
-
 and-yes : (a : Bool) → a && true ≡ a
 and-yes true = refl
 and-yes false = refl
 
 -- THE WHOLE
 
-pub refusal-tested : (n : Netlist) (M : Model) (c : Call) (e : Entry) → c .ticks ≡ e .ticks → c .fired ≡ e .fired → c .workBits ≡ e .workBits → c .workExprs ≡ e .workExprs → c .workSignals ≡ e .workSignals
-    → signalBytes M ≤ length (c .bytes) → noBit 0 (take (signalBytes M) (c .bytes)) ≡ none → looped M ≡ none → tickBits M ≡ portBits (n .ports) → length (M .signals) ≡ signalCount n
-    → Tested (refusal M c) (enough M e && accepts n (tickBy e))
+-- what the signal bytes and the model could refuse for is not there
+pub refusal-is : (M : Model) (l : Lists) (bytes : List ℕ) (e : Entry) → signalBytes M ≤ length bytes → noBit 0 (take (signalBytes M) bytes) ≡ none → looped M ≡ none → refusal M (entryCall l bytes e) ≡ answerTo M e
 unfolding refusal
-refusal-tested n M c e p₁ p₂ p₃ p₄ p₅ long bits loopless count signals =
-    let A : Bool = leb (exprBits M) (length (e .workBits)) in
-    let B : Bool = leb (length (M .exprs)) (length (e .workExprs)) in
-    let C : Bool = leb (length (M .signals)) (length (e .workSignals)) in
-    let enough-bytes : Tested (short (signalBytes M) (c .bytes)) true = tested-as refl (le-leb (signalBytes M) (length (c .bytes)) long) (short-tested (signalBytes M) (c .bytes)) in
-    let a : Tested (short (exprBits M) (c .workBits)) (leb (exprBits M) (length (e .workBits))) = tested-as refl (ap (λ (l : List ℕ). leb (exprBits M) (length l)) p₃) (short-tested (exprBits M) (c .workBits)) in
-    let b : Tested (short (length (M .exprs)) (c .workExprs)) (leb (length (M .exprs)) (length (e .workExprs))) = tested-as refl (ap (λ (l : List ℕ). leb (length (M .exprs)) (length l)) p₄) (short-tested (length (M .exprs)) (c .workExprs)) in
-    let d : Tested (short (length (M .signals)) (c .workSignals)) (leb (length (M .signals)) (length (e .workSignals))) = tested-as refl (ap (λ (l : List ℕ). leb (length (M .signals)) (length l)) p₅) (short-tested (length (M .signals)) (c .workSignals)) in
-    let f : Tested (noBit 0 (take (signalBytes M) (c .bytes))) true = tested-as (sym bits) refl passes in
-    let g : Tested (wrongCount (tickBits M) (c .ticks)) (eqb (length (e .ticks)) (portBits (n .ports))) = tested-as refl (ap₂ (λ (l : List ℕ) (k : ℕ). eqb (length l) k) p₁ count) (count-tested (tickBits M) (c .ticks)) in
-    let h : Tested (noBit 0 (c .ticks)) (allBits (e .ticks)) = tested-as refl (ap allBits p₁) (bits-tested 0 (c .ticks)) in
-    let i : Tested (wrongFired (length (M .signals)) (c .fired)) (firedFits n (firedBy (e .fired))) = tested-as refl (ap (λ (x : Option (ℕ × ℕ)). firedFits n (firedBy x)) p₂) (fired-tested n (length (M .signals)) (c .fired) signals) in
-    let j : Tested (onLoop (looped M)) true = tested-as (sym (ap onLoop loopless)) refl passes in
+refusal-is M l bytes e long bits loopless =
+    let p : short (signalBytes M) bytes ≡ none = passed (tested-as refl (le-leb (signalBytes M) (length bytes) long) (short-tested (signalBytes M) bytes)) in
+    let q : onLoop (looped M) ≡ none = ap onLoop loopless in
+    λ i. firstOf
+    (p i
+    ∷ short (exprBits M) (e .workBits)
+    ∷ short (length (M .exprs)) (e .workExprs)
+    ∷ short (length (M .signals)) (e .workSignals)
+    ∷ bits i
+    ∷ wrongCount (tickBits M) (e .ticks)
+    ∷ noBit 0 (e .ticks)
+    ∷ wrongFired (length (M .signals)) (e .fired)
+    ∷ q i
+    ∷ [])
+  where
+    passed : {o : Option (ℕ × ℕ)} → Tested o true → o ≡ none
+    passed passes = refl
+
+pub answer-tested : (n : Netlist) (M : Model) (e : Entry) → tickBits M ≡ portBits (n .ports) → length (M .signals) ≡ signalCount n → Tested (answerTo M e) (enough M e && accepts n (tickBy e))
+answer-tested n M e count signals =
+    let a = short-tested (exprBits M) (e .workBits) in
+    let b = short-tested (length (M .exprs)) (e .workExprs) in
+    let d = short-tested (length (M .signals)) (e .workSignals) in
+    let g : Tested (wrongCount (tickBits M) (e .ticks)) (eqb (length (e .ticks)) (portBits (n .ports))) = tested-as refl (ap (eqb (length (e .ticks))) count) (count-tested (tickBits M) (e .ticks)) in
+    let h = bits-tested 0 (e .ticks) in
+    let i = fired-tested n (length (M .signals)) (e .fired) signals in
     tested-as refl
     (regroup (leb (exprBits M) (length (e .workBits))) (leb (length (M .exprs)) (length (e .workExprs))) (leb (length (M .signals)) (length (e .workSignals))) (eqb (length (e .ticks)) (portBits (n .ports))) (allBits (e .ticks)) (firedFits n (firedBy (e .fired))))
-    (first-then enough-bytes (first-then a (first-then b (first-then d (first-then f (first-then g (first-then h (first-then i (first-then j passes)))))))))
+    (first-then a (first-then b (first-then d (first-then g (first-then h (first-then i passes))))))
   where
     regroup : (a b c d e f : Bool) → a && (b && (c && (d && (e && (f && true))))) ≡ (a && (b && c)) && (d && (e && f))
     regroup true true true d e f = ap (λ (x : Bool). d && (e && x)) (and-yes f)

@@ -1,4 +1,4 @@
--- Demand 3, by induction over the list: the signal bytes hold what the cells hold.
+-- Demand 3 and each call's answer, by induction over the list: the signal bytes hold what the cells hold.
 -- Assumes nothing.
 use mathlib.Core.Path.{_≡_, refl, ap, ap₂, sym, _∙_, subst}
 use mathlib.Core.Logic.{_⊎_, inl, inr}
@@ -48,13 +48,13 @@ use Rattle.forms.proofs.Counting.{noSignal, kept, slot-signals, slot-count, slo
 use Rattle.forms.proofs.Suiting.{each-from}
 use Rattle.forms.proofs.Sounds.{lowered-sound, each-append, each-same}
 use Rattle.equivalence.specs.Registers.{bitsOf, readOf, secondRead, registersOf, registersAll}
-use Rattle.equivalence.specs.Demand.{usedLists, firedBy, tickBy, enough, made, after, ByCells, bytesOf, shownByCells, Agrees, done, refused, AllAgree, Demand3}
+use Rattle.equivalence.specs.Demand.{usedLists, firedBy, tickBy, enough, made, after, ByCells, bytesOf, shownByCells, Agrees, done, refused, AllAgree, answerTo, Answered, Always, Demand3, AllAnswered}
 use Rattle.simulation.specs.Shown.{Entry, entryCall, shownBytes, ByModel, shownByModel}
 use Rattle.equivalence.proofs.Loops.{never-looped}
 use Rattle.equivalence.proofs.Inputs.{port-bits, total-append}
 use Rattle.equivalence.proofs.Ticking.{runs, all-signals, registers-after, wires-after, ports-after}
 use Rattle.equivalence.proofs.Acceptance.{read-fits, Kept, accepted-kept, used-words, is-lowered}
-use Rattle.equivalence.proofs.Answering.{Tested, passes, fails, refusal-tested}
+use Rattle.equivalence.proofs.Answering.{Tested, passes, fails, refusal-is, answer-tested}
 use Rattle.equivalence.proofs.Shows.{shownBits, BitsIn, bytes-shown, bits-pass, NoneShown, ports-shown, zero-bytes, drop-zeros, zeros-shown}
 
 fits-long : (ss : List Signal) (t : List Bits) → Fits ss t → length t ≡ length ss
@@ -267,13 +267,19 @@ module _ {limits : Limits} {n : Netlist} (a : Lowered limits n) {widest : ℕ} (
       good-after = record { long = omega (arith, g .long, length-kept widest c); bits = bits-after; regs = regs-after; shows = shows-after }
 
     -- how the call ends
-    answered : answer widest c ≡ refusal (loweredModel n) c
+    answered : answer widest c ≡ answerTo (loweredModel n) e
     unfolding answer
-    answered = ap (verdict (callModel c) c) (sound-words (loweredModel n) widest (lowered-sound a r)) ∙ ap (λ (X : Model). refusal X c) model-is
+    answered =
+        ap (verdict (callModel c) c) (sound-words (loweredModel n) widest (lowered-sound a r))
+        ∙ ap (λ (X : Model). refusal X c) model-is
+        ∙ refusal-is (loweredModel n) (wordsOf (loweredModel n)) bytes e (g .long) (bits-pass 0 (take (signalBytes (loweredModel n)) bytes) (g .bits)) (never-looped a r loopless)
+
+    said : run widest c .answer ≡ answerTo (loweredModel n) e
+    unfolding run
+    said = answered
 
     tested : Tested (answer widest c) (made n e)
-    tested = subst (λ (o : Option (ℕ × ℕ)). Tested o (made n e)) (sym answered)
-        (refusal-tested n (loweredModel n) c e refl refl refl refl refl (g .long) (bits-pass 0 (take (signalBytes (loweredModel n)) bytes) (g .bits)) (never-looped a r loopless) tick-bits (signals-count a))
+    tested = subst (λ (o : Option (ℕ × ℕ)). Tested o (made n e)) (sym answered) (answer-tested n (loweredModel n) e tick-bits (signals-count a))
       where
         tick-bits : inputBits (loweredModel n) ≡ portBits (n .ports)
         tick-bits = ap (total inputWidth) (all-signals a r) ∙ total-append inputWidth (portSignals 0 (n .ports)) rest ∙ omega (arith, port-bits 0 (n .ports), hidden-inputs rest rest-inner)
@@ -297,17 +303,30 @@ module _ {limits : Limits} {n : Netlist} (a : Lowered limits n) {widest : ℕ} (
           subst (Good bytes′) (sym s) k,
         )
 
-  all-agree : (es : List Entry) (bytes : List ℕ) (S : State) → Good bytes S → AllAgree (shownByModel widest (wordsOf (loweredModel n)) (loweredModel n .signals) bytes es) (shownByCells n S es)
-  all-agree [] bytes S g = tt
-  all-agree (e ∷ es) bytes S g =
-      let k = stepped bytes S g e (answer widest (entryCall (wordsOf (loweredModel n)) bytes e)) (made n e) (tested bytes S g e) refl refl in
-      (k .0, all-agree es (run widest (entryCall (wordsOf (loweredModel n)) bytes e) .bytes) (after n S e) (k .1))
+  -- every call answers as said, and shows what the cells show
+  abbrev Follow : List Entry → List ℕ → State → Type 0
+  Follow es bytes S =
+      let ms = shownByModel widest (wordsOf (loweredModel n)) (loweredModel n .signals) bytes es in
+      AllAgree ms (shownByCells n S es) × Answered (loweredModel n) es ms
 
--- the statement
-pub demand3 : Demand3
-demand3 limits widest room words s e t tapes l h n q loopless size long entries =
+  all-follow : (es : List Entry) (bytes : List ℕ) (S : State) → Good bytes S → Follow es bytes S
+  all-follow [] bytes S g = (tt, refl)
+  all-follow (e ∷ es) bytes S g =
+      let k = stepped bytes S g e (answer widest (entryCall (wordsOf (loweredModel n)) bytes e)) (made n e) (tested bytes S g e) refl refl in
+      let f = all-follow es (run widest (entryCall (wordsOf (loweredModel n)) bytes e) .bytes) (after n S e) (k .1) in
+      ((k .0, f .0), ap₂ (λ (o : Option (ℕ × ℕ)) (os : List (Option (ℕ × ℕ))). o ∷ os) (said bytes S g e) (f .1))
+
+both : Always (λ (n : Netlist) (es : List Entry) (ms : List ByModel). AllAgree ms (shownByCells n (start n) es) × Answered (loweredModel n) es ms)
+both limits widest room words s e t tapes l h n q loopless size long entries =
     let low : lowered n s e t ≡ record { answer = Accepted tapes; lists = l } = ap (λ (x : Rattle.netlist.specs.Reader.Read). loweredRead x s e t) (sym q) ∙ h in
     let k = accepted-kept n s e t tapes l low in
     let a = is-lowered limits n s e t tapes l (read-fits limits words n q) k in
-    subst (λ (x : Lists). AllAgree (shownByModel widest x (loweredModel n .signals) (replicate size 0) entries) (shownByCells n (start n) entries)) (sym (used-words n s e t tapes l k))
-    (all-agree a room loopless entries (replicate size 0) (start n) (at-start a room loopless size long))
+    subst (λ (x : Lists). let ms = shownByModel widest x (loweredModel n .signals) (replicate size 0) entries in AllAgree ms (shownByCells n (start n) entries) × Answered (loweredModel n) entries ms) (sym (used-words n s e t tapes l k))
+    (all-follow a room loopless entries (replicate size 0) (start n) (at-start a room loopless size long))
+
+-- the statements
+pub demand3 : Demand3
+demand3 limits widest room words s e t tapes l h n q loopless size long entries = both limits widest room words s e t tapes l h n q loopless size long entries .0
+
+pub all-answered : AllAnswered
+all-answered limits widest room words s e t tapes l h n q loopless size long entries = both limits widest room words s e t tapes l h n q loopless size long entries .1

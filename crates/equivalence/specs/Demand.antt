@@ -16,7 +16,7 @@ use Rattle.recorder.specs.Record.{Signal, Model}
 use Rattle.recorder.specs.Lists.{Lists, lists}
 use Rattle.lowering.specs.Lower.{Lowered, Accepted, Lowering, lowerWords}
 use Rattle.behaviour.specs.Behaviour.{Fired, Tick, State, start, tick, accepts, NoWireLoop}
-use Rattle.simulation.specs.Run.{exprBits, signalBytes}
+use Rattle.simulation.specs.Run.{exprBits, signalBytes, tickBits, short, noBit, wrongCount, wrongFired, firstOf}
 use Rattle.simulation.specs.Shown.{Entry, ByModel, shownByModel}
 use Rattle.forms.specs.Lowered.{loweredModel, Roomy}
 
@@ -69,11 +69,36 @@ AllAgree [] (c ∷ cs) = ⊥
 AllAgree (m ∷ ms) [] = ⊥
 AllAgree (m ∷ ms) (c ∷ cs) = Agrees m c × AllAgree ms cs
 
--- from signal bytes all zero, of at least the needed length
-abbrev pub Demand3 : Type 0
-Demand3 =
+-- WHAT EACH CALL ANSWERS: a short work (1), or tick bits or a fired edge that do not fit (14). The model and its signal bytes never refuse (12, 13, 1 and 14)
+
+abbrev pub entryCauses : Model → Entry → List (Option (ℕ × ℕ))
+entryCauses M e =
+    short (exprBits M) (e .workBits)
+    ∷ short (length (M .exprs)) (e .workExprs)
+    ∷ short (length (M .signals)) (e .workSignals)
+    ∷ wrongCount (tickBits M) (e .ticks)
+    ∷ noBit 0 (e .ticks)
+    ∷ wrongFired (length (M .signals)) (e .fired)
+    ∷ []
+
+abbrev pub answerTo : Model → Entry → Option (ℕ × ℕ)
+answerTo M e = firstOf (entryCauses M e)
+
+abbrev pub Answered : Model → List Entry → List ByModel → Type 0
+Answered M entries shown = map (λ (m : ByModel). m .answer) shown ≡ map (answerTo M) entries
+
+-- what P says of a list of calls and what the model shows, for each netlist without a loop that lowering accepts; from signal bytes all
+-- zero, of at least the needed length
+abbrev pub Always : (Netlist → List Entry → List ByModel → Type 0) → Type 0
+Always P =
     (limits : Limits) (widest : ℕ) → Roomy limits widest
     → (words : List ℕ) (s e t : ℕ) (tapes : Tapes) (l : Lists) → lowerWords limits words s e t ≡ record { answer = Accepted tapes; lists = l }
     → (n : Netlist) → readWords limits words ≡ netlist n → NoWireLoop n
     → (size : ℕ) → signalBytes (loweredModel n) ≤ size
-    → (entries : List Entry) → AllAgree (shownByModel widest (usedLists l tapes) (loweredModel n .signals) (replicate size 0) entries) (shownByCells n (start n) entries)
+    → (entries : List Entry) → P n entries (shownByModel widest (usedLists l tapes) (loweredModel n .signals) (replicate size 0) entries)
+
+abbrev pub Demand3 : Type 0
+Demand3 = Always (λ (n : Netlist) (entries : List Entry) (shown : List ByModel). AllAgree shown (shownByCells n (start n) entries))
+
+abbrev pub AllAnswered : Type 0
+AllAnswered = Always (λ (n : Netlist) (entries : List Entry) (shown : List ByModel). Answered (loweredModel n) entries shown)

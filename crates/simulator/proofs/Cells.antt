@@ -1,4 +1,4 @@
--- What an accepted call shows is what the netlist's own cells show: demand 3 on the call's buffers. Assumes nothing.
+-- What an accepted call shows is what the netlist's own cells show, and what each tick answers: demand 3 on the call's buffers. Assumes nothing.
 use mathlib.Core.Path.{_≡_, refl, sym, _∙_, ap, subst}
 use mathlib.Core.Bool.{Bool, true, false}
 use mathlib.Core.List.{List, [], _∷_, map}
@@ -23,19 +23,19 @@ use Rattle.simulation.specs.Run.{zeroed, signalBytes, firstOf}
 use Rattle.simulation.specs.Shown.{Entry, ByModel, shownByModel}
 use Rattle.simulation.proofs.Kept.{AllNone, all-none, short-none}
 use Rattle.forms.specs.Lowered.{loweredModel, Roomy}
-use Rattle.equivalence.specs.Demand.{usedLists, shownByCells, AllAgree}
+use Rattle.equivalence.specs.Demand.{usedLists, shownByCells, AllAgree, Answered}
 use Rattle.equivalence.proofs.Acceptance.{accepted-kept, used-words}
-use Rattle.equivalence.proofs.Demanded.{demand3}
+use Rattle.equivalence.proofs.Demanded.{demand3, all-answered}
 use Rattle.converter.specs.Entry.{short, anyShort, lowerCall, callOf}
 use Rattle.runner.specs.Calls.{ListCall, listModel, listCauses, listVerdict, listAnswer, answersOf, outputsOf, filled, listOutcome, runList}
 use Rattle.simulator.specs.Entry.{Simulation, Simulated, ShowsCells, entriesOf, refusedBy, ticksOn, ran, simulateCall}
 use Rattle.simulator.specs.Entry.{lowered as loweredTo}
 
-abbrev IsAccepted : Lowered → Type 0
+abbrev pub IsAccepted : Lowered → Type 0
 IsAccepted (Accepted t) = Unit {0}
 IsAccepted (Refused number place) = ⊥
 
-room : Roomy base largest
+pub room : Roomy base largest
 room = record { ports = omega arith; banks = omega arith; products = omega arith }
 
 -- a list is accepted only if the signal bytes are long enough
@@ -66,6 +66,9 @@ module _ (x : Simulation) (n : Netlist) (q : readWords base (x .words) ≡ netli
     agree =
         subst (λ (M : Model). AllAgree (shownByModel largest (usedLists l t) (M .signals) (zeroed (x .bytes)) (entriesOf x)) (shownByCells n (start n) (entriesOf x))) (sym model-is)
         (demand3 base largest room (x .words) s e m t l h n q loopless (length (x .bytes)) long (entriesOf x));
+    answered =
+        subst (λ (M : Model). Answered (loweredModel n) (entriesOf x) (shownByModel largest (usedLists l t) (M .signals) (zeroed (x .bytes)) (entriesOf x))) (sym model-is)
+        (all-answered base largest room (x .words) s e m t l h n q loopless (length (x .bytes)) long (entriesOf x));
     answers-are = ap (λ (o : Option (ℕ × ℕ)). listOutcome largest (ticksOn x l t) o .answers) a;
     shown-are = ap (λ (o : Option (ℕ × ℕ)). listOutcome largest (ticksOn x l t) o .shown) a;
   }

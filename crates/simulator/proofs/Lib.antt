@@ -1,2 +1,4 @@
 -- The laws of simulator.
 pub mod Cells
+pub mod Refusals
+pub mod Parts
