@@ -6,12 +6,16 @@ use cells::Circuit;
 use model::{Model, Refusal};
 use netlist::{Direction, Limits, Netlist};
 
-/// What the program lends: words of the signal, expression and statement lists.
+/// Words of the signal, expression and statement lists. The proved programs lend
+/// at least these.
 pub const LISTS: [usize; 3] = [16_384, 262_144, 65_536];
 /// The most words of a netlist, ticks, and bits of all ticks together.
 pub const NETLIST: usize = 16_384;
 pub const TICKS: usize = 4_096;
 pub const BITS: usize = 262_144;
+/// The most bits of all signals, of all expressions, and of all outputs over all
+/// ticks. Works here are as long as they must be; this is for those who draw cases.
+pub const WORKS: [usize; 3] = [65_536, 262_144, 262_144];
 
 /// One tick as it is written: `fires` is 0 for nothing, else an edge and 1.
 #[derive(Clone, Debug, PartialEq, Eq)]
@@ -63,6 +67,21 @@ impl Case {
         words.extend(packed.map(u32::from_le_bytes));
         words.extend(&self.netlist);
         words
+    }
+
+    /// Whether lists and works are long enough, so that the answer does not hang
+    /// on their lengths.
+    #[must_use]
+    pub fn fits(&self) -> bool {
+        let recording = match lower::lower(&self.netlist, &Limits::BASE, LISTS) {
+            Ok(recording) => recording,
+            Err(refusal) => return refusal.number != 2,
+        };
+        let lists = recording.words.each_ref().map(Vec::as_slice);
+        let model = Model::new(lists).expect("a model of the Rust is well formed");
+        let shown = model.shown(&vec![0; model.signal_bits()]).len() * self.ticks.len();
+        let needed = [model.signal_bits(), model.works().expression_bits, shown];
+        needed.iter().zip(WORKS).all(|(needed, lent)| *needed <= lent)
     }
 
     /// The lines that `simulate` prints.
