@@ -15,6 +15,10 @@ for file in "$new"/*; do
     cmp "$file" "answers/$(basename "$file")"
 done
 python3 address_mux.py | cmp - ../crates/cases_nodes/stdout
+./simulate-vectors.sh "$new/cases" > /dev/null
+for file in stdin stdout; do
+    cmp "$new/cases/$file" "../crates/cases_simulate/$file"
+done
 echo "answers as stored"
 cargo test --release --offline -j1 --quiet > "$new/tests" 2>&1 || { cat "$new/tests"; exit 1; }
 $bin/compare 1 1000 40

@@ -1,5 +1,5 @@
 #!/bin/sh
-# Installs what the comparison with Yosys' cell models needs: the models (package yosys) and a Verilog simulator. Run as root, on Debian.
+# Installs what the comparisons with Yosys need: the cell models and synth_ecp5 (package yosys) and a Verilog simulator. Run as root, on Debian.
 set -e
 apt-get update
 apt-get install -y --no-install-recommends yosys iverilog

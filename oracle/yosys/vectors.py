@@ -26,7 +26,7 @@ class Vector:
 
     def __init__(self, name):
         self.name, self.ports, self.inputs, self.outputs, self.wires = name, [], [], [], 0
-        self.cell, self.text, self.clock, self.level, self.before, self.ticks = [], "", None, 0, {}, []
+        self.cell, self.cells, self.text, self.clock, self.level, self.before, self.ticks = [], 1, "", None, 0, {}, []
         self.verilog = {ZERO: "1'b0", ONE: "1'b1"}
 
     def fresh(self, text):
@@ -72,7 +72,7 @@ class Vector:
         for direction, bits in self.ports:
             w += [direction, len(bits), *bits]
         start = len(w)
-        return w + self.cell + [0, len(self.ports), start, 1]
+        return w + self.cell + [0, len(self.ports), start, self.cells]
 
     def tick(self, values, fired=None):
         """values: port -> list of bits for every input port but the clock; fired: (signal, edge)."""
@@ -296,6 +296,18 @@ def parted():
     v = flop("ff-resets-itself", "own", 0, 1)
     v.clock, v.first, v.level = 0, 0, 0
     v.tick({}, (0, 0))
+    yield v
+    # an asynchronous reset acts before the edge that comes with it: another flip-flop loads what it leaves
+    v = Vector("ff-resets-before-edge")
+    v.clock, v.first, v.level = 0, 0, 0
+    (clock,), (r,), (q,), inner = v.input(), v.input(), v.output(), v.fresh("inner")
+    v.cell, v.cells = [5, ONE, inner - 2, clock, 0, 0, 0, 0, 1, r, 1, 1, 0, 5, inner, q, clock, 1] + [0] * 8, 2
+    v.instance("TRELLIS_FF", {"CLKMUX": '"INV"'}, {"CLK": clock, "LSR": ZERO, "CE": ONE, "DI": inner, "M": ZERO, "Q": q + 2})
+    second = v.text.replace(" u(", " second(")
+    v.instance("TRELLIS_FF", {"SRMODE": '"ASYNC"'}, {"CLK": clock, "LSR": r, "CE": ONE, "DI": ONE, "M": ZERO, "Q": inner})
+    v.text = f"wire inner; {v.text} {second}"
+    v.tick({1: [0]}, (0, 0))
+    v.tick({1: [1]}, (0, 1))
     yield v
     # the clock's wire moves, though nothing fires
     v = flop("ff-clock-moves", None, 0, 0)

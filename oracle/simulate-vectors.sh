@@ -1,0 +1,57 @@
+#!/bin/sh
+# simulate-vectors.sh [DIRECTORY]: the runs that the gate replays (crates/cases_simulate/stdin, stdout), made again without the proved program.
+# Cases with answers by hand, random ones by the independent simulators, one-cell netlists by Yosys' cell models (answers/yosys.txt), designs by
+# Icarus Verilog (answers/design.*, made by yosys/design.sh). Needs build.sh. In the end the oracle's `simulate` must say the same of them all.
+set -eu
+cd "$(dirname "$0")"
+bin=target/release
+to=${1:-../crates/cases_simulate}
+mkdir -p "$to"
+work=$(mktemp -d)
+trap 'rm -rf "$work"' EXIT
+
+: > "$work/hand.bin"
+: > "$work/hand.txt"
+hand() { # WORDS LINE..
+    words=$(echo "$1" | tr -d ,)
+    shift
+    # shellcheck disable=SC2086
+    $bin/words $(echo $words | wc -w) $words >> "$work/hand.bin"
+    [ $# = 0 ] || printf '%s\n' "$@" >> "$work/hand.txt"
+}
+zeros="0 0 0 0 0 0 0 0 0 0 0 0 0 0"
+# the listing's example: an and of two bits, all four ticks
+hand "4 8, 2 0 0, 2 0 0, 2 0 0, 2 0 0, 65536 16843008, 0 2 2 3, 1 1 4, 0 2 3 0 0 2 8, 0 2 7 1" 0 0 0 1
+# its ticks refused: no bits, three bits, a bit 2, edges, a signal too high; nothing fires a signal that is not there
+hand "7 12, 0 0 0, 3 0 0, 2 0 0, 2 3 0, 2 1 5, 1 0 0, 2 0 9, 16777216 2 16843008, 0 2 2 3, 1 1 4, 0 2 3 0 0 2 8, 0 2 7 1" \
+    "refused 14 2" "refused 14 2" "refused 14 1" "refused 14 0" "refused 14 0" "refused 14 2" 1
+# no ports, no cells: two signals, lines without a digit
+hand "3 0, 0 0 0, 0 2 1, 0 1 2, 0 0 0 0" "" "" "refused 14 0"
+# no ticks
+hand "0 0, 0 0 0 0"
+# a toggle that starts at 0, its clock rises, falls and rises
+hand "3 3, 1 1 0, 1 2 0, 1 1 0, 65537, 0 1 2, 1 1 3, 0 3 0 0 0 2 1, 5 4 1 2 0, 0 0 0, 0 0 0 0 0, 0 2 6 2" 1 1 0
+# a reset beats the enable, an asynchronous one also the clock: enable off, nothing fires, then the reset is gone
+hand "2 2, 1 0 0, 1 0 0, 1, 0 1 2, 1 1 3, 5 0 1 0 0, 1 0 1, 1 2 1 1 1, 0 2 6 1" 1 1
+# a loop of one cell, and one that the rewrites take away
+hand "1 0, 0 0 0, 1 1 2, 0 2 2 2 2 0 21845, 0 1 3 1" "refused 13 1"
+hand "1 0, 0 0 0, 1 1 2, 0 2 2 2 2 0 65535, 0 1 3 1" 1
+# the signal list is full
+hand "0 0, 6 16384 1 1, $zeros, 0 1, $zeros, 0 0 0, 0 0 0, 0 0 0, 0 0, 0 0 0 1" "refused 2 0"
+# leading words are missing, then the netlist is
+hand "" "refused 3 0"
+hand "0" "refused 3 0"
+hand "2 0, 0 0 0, 0 0" "refused 3 0"
+hand "0 9, 0 0" "refused 3 0"
+hand "4294967295 4294967295, 0 0 0 0" "refused 3 0"
+hand "1 1, 1 0 0, 1" "refused 3 0"
+# the netlist is refused whatever the ticks are
+hand "1 1, 9 9 9, 5, 0 0 1, 0 0 0 0" "refused 4 0"
+
+$bin/simulate-cases 1 700 20 3000 "$work/random.bin" "$work/random.txt" > "$work/tally"
+yosys/cases.py answers/yosys.txt "$work/yosys.bin" "$work/yosys.txt"
+cat "$work/hand.bin" "$work/random.bin" "$work/yosys.bin" answers/design.bin > "$to/stdin"
+cat "$work/hand.txt" "$work/random.txt" "$work/yosys.txt" answers/design.txt > "$to/stdout"
+$bin/simulate --batch < "$to/stdin" | cmp "$to/stdout" -
+cat "$work/tally"
+echo "$(wc -c < "$to/stdin") bytes of cases, $(wc -l < "$to/stdout") lines"
