@@ -9,6 +9,7 @@ words.py. With --simulate, the examples' ticks go through that program too. With
 import argparse
 import importlib.util
 import os
+import re
 import subprocess
 import sys
 
@@ -276,6 +277,27 @@ def against_lower(lower):
                 check(answer[0].split()[1] not in "3456", f"{name}: lower says {answer[0]}")
 
 
+# ---- REFUSALS: the examples of docs/REFUSALS.md
+
+
+def refusals(lower, simulate):
+    with open(path("docs", "REFUSALS.md"), encoding="utf-8") as f:
+        rows = re.findall(r"^(lower|simulate)\s+(.*)=> (refused \d+ \d+)$", f.read(), re.M)
+    for program, given, answer in rows:
+        if program == "lower":
+            data = w.pack(w.numbers(given))
+            why = w.read_lines(w.unpack(data))[1]
+            number = int(answer.split()[1])
+            check((f"refused {why[0]} {why[1]}" if why else "") == (answer if 3 <= number <= 6 else ""), f"docs/REFUSALS.md: {given}: {why}")
+        else:
+            data = w.assemble_ticks(given.replace(" / ", "\n"))
+        call = lower if program == "lower" else simulate
+        if call:
+            got = run(call, data).strip()
+            check(got == answer, f"docs/REFUSALS.md: {given}: {got}, not {answer}")
+    print(f"{len(rows)} refusals")
+
+
 # ---- VCD
 
 GOOD = """$date today $end
@@ -353,6 +375,7 @@ def main():
     ticks()
     vcd()
     examples(a.lower, a.simulate)
+    refusals(a.lower, a.simulate)
     if a.lower:
         against_lower(a.lower)
     print(f"{passed} passed, {failed} failed")

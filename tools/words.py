@@ -55,7 +55,7 @@ import array
 import re
 import sys
 
-# The limits of the programs: wires, ports, width of a port, cells. And the words that `lower` takes.
+# The limits of the programs: wires, ports, width of a port, cells. And how many words `lower` takes.
 WIRES, PORTS, WIDTH, CELLS = 16384, 256, 256, 4096
 LONGEST = 16384
 DIRECTIONS = ["input", "output", "inout"]
@@ -122,6 +122,8 @@ class Reading:
 
     def __init__(self, words, at, end, faults):
         self.words, self.at, self.end, self.faults = words, at, end, faults
+        # what was read of a record that breaks off
+        self.so_far = []
 
     def fault(self, number, place, why):
         self.faults.append((number, place, why))
@@ -226,10 +228,12 @@ class Reading:
         k = self.word("a cell's kind", lambda x: x < len(KINDS), f"below {len(KINDS)}", shapes=True)
         name, fields = KINDS[k]
         values = {}
-        parts = [self.parts(key, kind, values) for key, kind in fields]
-        if values.get("second"):
-            parts += [self.parts(key, kind, values) for key, kind in SECOND]
-        return " ".join([name] + [p for p in parts if p])
+        self.so_far.append(name)
+        for key, kind in fields:
+            self.so_far.append(self.parts(key, kind, values))
+        for key, kind in SECOND if values.get("second") else []:
+            self.so_far.append(self.parts(key, kind, values))
+        return " ".join(p for p in self.so_far if p)
 
 
 def bit_text(w):
@@ -265,16 +269,16 @@ def join(bits):
 class Line:
     """A line of a disassembly: its first word, how many, p or c and a number (or ''), its text, and the faults in it."""
 
-    def __init__(self, at, count, mark, text, faults=()):
-        self.at, self.count, self.mark, self.text, self.faults = at, count, mark, text, list(faults)
+    def __init__(self, at, count, mark, text, faults=(), begun=""):
+        self.at, self.count, self.mark, self.text, self.faults, self.begun = at, count, mark, text, list(faults), begun
 
 
-def raw_lines(words, at, end, faults=()):
+def raw_lines(words, at, end, faults=(), begun=""):
     lines = [Line(i, min(i + 16, end) - i, "", "raw " + " ".join(map(str, words[i : min(i + 16, end)]))) for i in range(at, end, 16)]
     if not lines:
         lines = [Line(at, 0, "", "")] if faults else []
     if lines:
-        lines[0].faults = list(faults)
+        lines[0].faults, lines[0].begun = list(faults), begun
     return lines
 
 
@@ -286,7 +290,8 @@ def section(words, at, end, count, mark, read):
         try:
             text = read(r)
         except (Missing, Unshaped):
-            return lines + raw_lines(words, at, end, r.faults)
+            begun = " ".join(p for p in r.so_far if p)
+            return lines + raw_lines(words, at, end, r.faults, begun and f"{mark}{n}, as far as it goes: {begun}")
         lines.append(Line(at, r.at - at, f"{mark}{n}", text, r.faults))
         at = r.at
     if at < end:
@@ -344,6 +349,8 @@ def disassemble(words, index=False):
         for f in line.faults:
             head = "REFUSED" if f == refusal else "also"
             out.append(f"# {head} {f[0]} {f[1]}: {f[2]}")
+        if line.begun:
+            out.append(f"# {line.begun}")
         if line.text:
             before = f"{line.at:>5} {line.mark:<5}: " if index else ""
             out.append(before + line.text)
@@ -932,7 +939,7 @@ def told(why):
 
 def emit(words):
     if len(words) > LONGEST:
-        print(f"words.py: note: {len(words)} words; the programs take {LONGEST} and refuse more (3)", file=sys.stderr)
+        print(f"words.py: note: {len(words)} words; `lower` takes {LONGEST} and refuses more (3)", file=sys.stderr)
     sys.stdout.buffer.write(pack(words))
     return 0
 
