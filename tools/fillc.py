@@ -1,7 +1,7 @@
 #!/usr/bin/env python3
 """fillc CRATE: as fill, for many functions (sections `fn PATH`), from the generated places only (no types are asked for)."""
 import os, re, sys, glob
-os.environ.setdefault('RTX_CACHE', '/tmp/rtx-check')
+os.environ.setdefault('RTX_CACHE', '/tmp/rtx-fill')
 from importlib.machinery import SourceFileLoader
 sys.dont_write_bytecode = True
 rtx = SourceFileLoader('rtx', '/work/shared/tools/rtx').load_module()

@@ -1,10 +1,10 @@
 use mathlib.Core.Path.{sym}
 use lib.Seq.{length-take-le}
 use borrow.Author.Needs.{needs}
-use Rattle.simulate.proofs.used.Statement.{statement}
-use Rattle.simulate.proofs.used.Tie as tie
-use Rattle.simulate.proofs.used.Reads as reads
-use Rattle.simulate.proofs.used.Lts as lts
+use Rattle.session.proofs.used.Statement.{statement}
+use Rattle.session.proofs.used.Tie as tie
+use Rattle.session.proofs.used.Reads as reads
+use Rattle.session.proofs.used.Lts as lts
 
 -- src/main.rt:50:1
 returns : tie.Need-returns

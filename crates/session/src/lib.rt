@@ -1,0 +1,70 @@
+// A netlist and a list of ticks, lowered, run and printed, with buffers of this crate's own: some thousand cells, 4,096 ticks.
+use converter::Lowered;
+use recorder::Tape;
+use simulator::simulate;
+use tick_text::print_refusal;
+use tick_text::print_ticks;
+ghost use Rattle.io.specs.Counts.{Counts};
+
+fn used(list: &[u32], tape: Tape) -> usize
+    ensures { λ r. ⌜ Counts r (now (list .entry)) ⌝ }
+{
+    let n = tape.used;
+    if n <= list.len() { n } else { 0 }
+}
+
+// A line for each tick, or one for the refusal.
+fn print_answer(
+    answer: Lowered,
+    signals: &[u32],
+    answers: &[u64],
+    shown: &[u8],
+    ticks: usize,
+) -> bool {
+    let mut out = [0u8; 32768];
+    match answer {
+        Lowered::Accepted(t) => {
+            let n = used(signals, t.signals);
+            print_ticks(&mut out, &signals[..n], answers, shown, ticks)
+        }
+        Lowered::Refused(x) => print_refusal(&mut out, x.number(), x.place()),
+    }
+}
+
+// Lowers, runs and prints. The five works of lowering are the run's tables too: they hold 131,072 expressions and 16,384 signals.
+pub fn run(words: &[u32], heads: &[u32], bits: &[u8]) -> bool {
+    let mut signals = [0u32; 65536];
+    let mut exprs = [0u32; 1000000];
+    let mut stmts = [0u32; 98304];
+    let mut starts = [0u32; 131072];
+    let mut offsets = [0u32; 131072];
+    let mut signal_offsets = [0u32; 16384];
+    let mut drivers = [0u32; 16384];
+    let mut order = [0u32; 131072];
+    let mut bytes = [0u8; 65536];
+    let mut work_bits = [0u8; 327680];
+    let mut work_exprs = [0u8; 131072];
+    let mut work_signals = [0u8; 16384];
+    let mut answers = [0u64; 8192];
+    let mut shown = [0u8; 262144];
+    let answer = simulate(
+        words,
+        heads,
+        bits,
+        &mut signals,
+        &mut exprs,
+        &mut stmts,
+        &mut starts,
+        &mut offsets,
+        &mut signal_offsets,
+        &mut drivers,
+        &mut order,
+        &mut bytes,
+        &mut work_bits,
+        &mut work_exprs,
+        &mut work_signals,
+        &mut answers,
+        &mut shown,
+    );
+    print_answer(answer, &signals, &answers, &shown, heads.len() / 3)
+}
