@@ -21,10 +21,10 @@ use Rattle.simulation.specs.Run.{zeroed}
 use Rattle.simulation.specs.Run as s
 use Rattle.forms.specs.Lowered.{loweredModel}
 use Rattle.converter.specs.declared.Lowered as c
-use Rattle.converter.specs.Entry.{answerOf, anyShort, callOf, Lowers, ZerosThree}
+use Rattle.converter.specs.Entry.{answerOf, anyShort, callOf, blankOf, Lowers, ZerosThree}
 use Rattle.runner.specs.Calls.{ListCall, ListOutcome, listAnswer, listOutcome, runList, RunsList}
 use Rattle.runner.specs.Whole.{listCall}
-use Rattle.simulator.specs.Entry.{Simulation, simulation, Simulated, blankOf, ticksOn, simulateCall, ShowsCells, Simulates, Zeroed, StaysZero, Cut, onUsed, concluded, Concludes, ends, RunsAccepted, follows, RunsLowered}
+use Rattle.simulator.specs.Entry.{Simulation, simulation, Simulated, ticksOn, simulateCall, ShowsCells, Simulates, Zeroed, StaysZero, Cut, onUsed, concluded, Concludes, ends, RunsAccepted, follows, RunsLowered}
 use Rattle.simulator.specs.Entry.{lowered as loweredTo}
 use Rattle.simulator.specs.Entry.{ran as ranTo}
 use Rattle.simulator.proofs.Cells.{IsAccepted, cells-shown}

@@ -9,7 +9,7 @@ use Rattle.netlist.specs.Netlist.{Netlist}
 use Rattle.netlist.specs.Reader.{netlist, readWords}
 use Rattle.recorder.specs.declared.Tapes.{Tapes}
 use Rattle.recorder.specs.Lists.{Lists}
-use Rattle.lowering.specs.Lower.{blank, Lowered, Accepted, Refused, Lowering}
+use Rattle.lowering.specs.Lower.{Lowered, Accepted, Refused, Lowering}
 use Rattle.behaviour.specs.Behaviour.{start, NoWireLoop}
 use Rattle.simulation.specs.Wellformed.{largest}
 use Rattle.simulation.specs.declared.Ran.{Ran}
@@ -18,7 +18,7 @@ use Rattle.simulation.specs.Run as s
 use Rattle.simulation.specs.Shown.{Entry, ByModel}
 use Rattle.forms.specs.Lowered.{loweredModel}
 use Rattle.converter.specs.declared.Lowered as c
-use Rattle.converter.specs.Entry.{answerOf, callOf}
+use Rattle.converter.specs.Entry.{answerOf, callOf, blankOf}
 use Rattle.runner.specs.Calls.{ListCall, ListOutcome, entries, answersOf, outputsOf, filled, runList}
 use Rattle.runner.specs.Whole.{listCall}
 use Rattle.equivalence.specs.Demand.{usedLists, shownByCells, AllAgree, Answered}
@@ -47,9 +47,6 @@ pub record Simulated : Type 0 where
   pub lists : Lists
   pub answers : List ℕ
   pub shown : List ℕ
-
-abbrev pub blankOf : Lists → Lists
-blankOf l = blank (length (l .signals)) (length (l .exprs)) (length (l .stmts))
 
 abbrev pub refusedBy : Simulation → ℕ → ℕ → Simulated
 refusedBy x number place = record { answer = Refused number place; lists = blankOf (x .lists); answers = zeroed (x .answers); shown = zeroed (x .shown) }

@@ -251,7 +251,7 @@ pub fn simulate(
         values,
         banks,
     );
-    zero_bytes(bytes);
+    zero_bytes(bytes); // the ticks start from zeros
     let r = run_lowered(
         lowered,
         heads,
@@ -271,6 +271,6 @@ pub fn simulate(
         answers,
         shown,
     );
-    zero_bytes(bytes);
+    zero_bytes(bytes); // and no state is left
     r
 }
