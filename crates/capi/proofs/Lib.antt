@@ -1,2 +1,2 @@
 -- The laws of capi.
-pub mod Coded
+pub mod Handing

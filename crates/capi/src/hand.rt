@@ -1,0 +1,88 @@
+// Answers as numbers in a lent buffer.
+use converter::Lowered;
+use recorder::SignalId;
+use simulation::Fired;
+use simulation::Ran;
+ghost use mathlib.Core.Path.{_≡_};
+ghost use lib.ListN.{set};
+ghost use Rattle.simulation.specs.Run.{answerOf as ranOf, firedOf, zeroed};
+ghost use Prim.Native.Nat.{_+_};
+ghost use Rattle.converter.specs.Entry.{answerOf};
+ghost use Rattle.runner.specs.Calls.{firedBy};
+ghost use Rattle.capi.specs.Answer.{refusalNumbers, numbersOf, Hands};
+
+fn zero_longs(table: &mut [u64])
+    ensures { λ _. ⌜ now (table .exit) ≡ zeroed (now (table .entry)) ⌝ }
+{
+    let mut i = 0;
+    while i < table.len() {
+        table[i] = 0;
+        i += 1;
+    }
+}
+
+// A number at an index, if there is room.
+fn put(buffer: &mut [u64], i: usize, n: u64)
+    ensures { λ _. ⌜ now (buffer .exit) ≡ set (now (buffer .entry)) i n ⌝ }
+{
+    if i < buffer.len() {
+        buffer[i] = n;
+    }
+}
+
+// Two numbers, the first at an index.
+fn put_two(buffer: &mut [u64], i: u32, a: u64, b: u64)
+    ensures { λ _. ⌜ now (buffer .exit) ≡ set (set (now (buffer .entry)) i a) (i + 1) b ⌝ }
+{
+    let at = i as usize;
+    put(buffer, at, a);
+    put(buffer, at + 1, b);
+}
+
+pub fn hand_lowered(buffer: &mut [u64], r: Lowered) -> usize
+    ensures { λ n. ⌜ Hands (numbersOf (answerOf r)) (now (buffer .entry)) n (now (buffer .exit)) ⌝ }
+{
+    zero_longs(buffer);
+    match r {
+        Lowered::Accepted(t) => {
+            let s = t.signals;
+            let e = t.exprs;
+            let m = t.stmts;
+            put_two(buffer, 0, 0, 0);
+            put_two(buffer, 2, s.count as u64, s.used as u64);
+            put_two(buffer, 4, e.count as u64, e.used as u64);
+            put_two(buffer, 6, m.count as u64, m.used as u64);
+            0
+        }
+        Lowered::Refused(x) => {
+            put_two(buffer, 0, x.number() as u64, x.place() as u64);
+            x.number()
+        }
+    }
+}
+
+pub fn hand_ran(buffer: &mut [u64], r: Ran) -> usize
+    ensures { λ n. ⌜ Hands (refusalNumbers (ranOf r)) (now (buffer .entry)) n (now (buffer .exit)) ⌝ }
+{
+    zero_longs(buffer);
+    match r {
+        Ran::Done => {
+            put_two(buffer, 0, 0, 0);
+            0
+        }
+        Ran::Refused(x) => {
+            put_two(buffer, 0, x.number() as u64, x.place() as u64);
+            x.number()
+        }
+    }
+}
+
+pub fn fired_by(fires: u32, signal: u32) -> Fired
+    ensures { λ r. ⌜ firedOf r ≡ firedBy fires signal ⌝ }
+{
+    if fires == 0 {
+        Fired::Nothing
+    } else {
+        Fired::Edge(SignalId(signal), fires - 1)
+    }
+}
