@@ -203,17 +203,35 @@ fn heading(names: &[&str]) {
 }
 
 /// How much longer a run of twice the cells takes, from the next smaller size on.
-fn growth(rows: &[Row], at: usize) -> String {
+fn growth(rows: &[Row], at: usize) -> Option<f64> {
     let row = &rows[at];
-    let smaller = at.checked_sub(1).map(|at| &rows[at]);
-    let smaller = smaller.filter(|smaller| smaller.sort == row.sort && smaller.size >= LARGE[0]);
-    optional(
-        smaller.map(|smaller| {
-            let doublings = (row.size as f64 / smaller.size as f64).log2();
-            (row.whole / smaller.whole).powf(1.0 / doublings)
-        }),
-        ratio,
-    )
+    let smaller = &rows[at.checked_sub(1)?];
+    if smaller.sort != row.sort || smaller.size < LARGE[0] {
+        return None;
+    }
+    let doublings = (row.size as f64 / smaller.size as f64).log2();
+    Some((row.whole / smaller.whole).powf(1.0 / doublings))
+}
+
+/// The worst of each target in all rows.
+fn print_targets(rows: &[Row]) {
+    let say = |name: &str, values: &[f64], most: f64| {
+        if let Some(worst) = values.iter().copied().reduce(f64::max) {
+            let met = if worst <= most { "met" } else { "not met" };
+            println!("- {name}: at worst {}, target {most}: {met}", ratio(worst));
+        }
+    };
+    let over = |times: fn(&Row) -> Option<&Times>| -> Vec<f64> {
+        rows.iter().filter_map(|row| Some(row.whole / times(row)?.whole)).collect()
+    };
+    let grown = (0..rows.len()).filter_map(|at| growth(rows, at)).collect::<Vec<_>>();
+    let luts = rows.iter().filter(|row| row.sort == SORTS[0].name && row.size == LARGE[0]);
+    let luts = luts.map(|row| row.whole).collect::<Vec<_>>();
+    println!();
+    say("seconds for 1,000 LUT4s", &luts, 0.2);
+    say("for twice the cells", &grown, 2.2);
+    say("over iverilog", &over(|row| row.icarus.as_ref()), 1.0);
+    say("over Verilator", &over(|row| row.verilator.as_ref()), 5.0);
 }
 
 fn print(rows: &[Row]) {
@@ -278,7 +296,7 @@ fn print(rows: &[Row]) {
             whole(&row.icarus),
             ticks(&row.icarus),
             ratio(row.whole / row.model),
-            growth(rows, at),
+            optional(growth(rows, at), ratio),
         ]);
     }
     println!("\nMilliseconds of compiling the Verilog, which the proved run has no like of.\n");
@@ -346,4 +364,5 @@ fn main() {
         }
     }
     print(&rows);
+    print_targets(&rows);
 }
