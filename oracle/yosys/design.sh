@@ -4,7 +4,7 @@
 # Every line of every tick must be the same. Runs the proved program if target/bin/simulate is there, and the oracle's always.
 # Writes the cases as a batch, with Icarus' lines, where BATCH and EXPECTED are given. Needs oracle/install.sh and oracle/build.sh.
 set -e
-ticks=${1:-4000} seed=${2:-1} batch=$3 expected=$4
+ticks=${1:-2500} seed=${2:-1} batch=$3 expected=$4
 oracle=$(cd "$(dirname "$0")/.." && pwd)
 here=$oracle/yosys
 work=$(mktemp -d)

@@ -31,22 +31,23 @@ fn print_answer(
     }
 }
 
-// Lowers, runs and prints. The five works of lowering are the run's tables too: they hold 131,072 expressions and 16,384 signals.
+// Lowers, runs and prints. The five works of lowering are the run's tables too: they have room for 98,304 expressions and
+// 16,384 signals.
 pub fn run(words: &[u32], heads: &[u32], bits: &[u8]) -> bool {
     let mut signals = [0u32; 65536];
     let mut exprs = [0u32; 1000000];
     let mut stmts = [0u32; 98304];
-    let mut starts = [0u32; 131072];
-    let mut offsets = [0u32; 131072];
+    let mut starts = [0u32; 98304];
+    let mut offsets = [0u32; 98304];
     let mut signal_offsets = [0u32; 16384];
     let mut drivers = [0u32; 16384];
     let mut order = [0u32; 131072];
     let mut bytes = [0u8; 65536];
     let mut work_bits = [0u8; 327680];
-    let mut work_exprs = [0u8; 131072];
+    let mut work_exprs = [0u8; 98304];
     let mut work_signals = [0u8; 16384];
     let mut answers = [0u64; 8192];
-    let mut shown = [0u8; 262144];
+    let mut shown = [0u8; 393216];
     let answer = simulate(
         words,
         heads,

@@ -14,10 +14,10 @@ slice-aggregate-simulate-3 : tie.Need-slice-aggregate-simulate-3
 slice-aggregate-simulate-3 c = sym (length-replicate {A = ℕ} 98304 0)
 
 slice-aggregate-simulate-4 : tie.Need-slice-aggregate-simulate-4
-slice-aggregate-simulate-4 c = sym (length-replicate {A = ℕ} 131072 0)
+slice-aggregate-simulate-4 c = sym (length-replicate {A = ℕ} 98304 0)
 
 slice-aggregate-simulate-5 : tie.Need-slice-aggregate-simulate-5
-slice-aggregate-simulate-5 c = sym (length-replicate {A = ℕ} 131072 0)
+slice-aggregate-simulate-5 c = sym (length-replicate {A = ℕ} 98304 0)
 
 slice-aggregate-simulate-6 : tie.Need-slice-aggregate-simulate-6
 slice-aggregate-simulate-6 c = sym (length-replicate {A = ℕ} 16384 0)
@@ -35,7 +35,7 @@ slice-aggregate-simulate-10 : tie.Need-slice-aggregate-simulate-10
 slice-aggregate-simulate-10 c = sym (length-replicate {A = ℕ} 327680 0)
 
 slice-aggregate-simulate-11 : tie.Need-slice-aggregate-simulate-11
-slice-aggregate-simulate-11 c = sym (length-replicate {A = ℕ} 131072 0)
+slice-aggregate-simulate-11 c = sym (length-replicate {A = ℕ} 98304 0)
 
 slice-aggregate-simulate-12 : tie.Need-slice-aggregate-simulate-12
 slice-aggregate-simulate-12 c = sym (length-replicate {A = ℕ} 16384 0)
@@ -44,7 +44,7 @@ slice-aggregate-simulate-13 : tie.Need-slice-aggregate-simulate-13
 slice-aggregate-simulate-13 c = sym (length-replicate {A = ℕ} 8192 0)
 
 slice-aggregate-simulate-14 : tie.Need-slice-aggregate-simulate-14
-slice-aggregate-simulate-14 c = sym (length-replicate {A = ℕ} 262144 0)
+slice-aggregate-simulate-14 c = sym (length-replicate {A = ℕ} 393216 0)
 
 simulate-requires : tie.Need-simulate-requires
 simulate-requires c κs = tt
@@ -56,7 +56,7 @@ slice-aggregate-print-answer-2 : tie.Need-slice-aggregate-print-answer-2
 slice-aggregate-print-answer-2 c = sym (c .before .before .before .before .before .before .before .before .before .before .before .before .before .before .before .before .simulate .kept .1 .1 .1 .1 .1 .1 .1 .1 .1 .1 .1 .1 .1 .1 .1 .0 ∙ length-replicate {A = ℕ} 8192 0)
 
 slice-aggregate-print-answer-3 : tie.Need-slice-aggregate-print-answer-3
-slice-aggregate-print-answer-3 c = sym (c .before .before .before .before .before .before .before .before .before .before .before .before .before .before .before .before .before .simulate .kept .1 .1 .1 .1 .1 .1 .1 .1 .1 .1 .1 .1 .1 .1 .1 .1 .0 ∙ length-replicate {A = ℕ} 262144 0)
+slice-aggregate-print-answer-3 c = sym (c .before .before .before .before .before .before .before .before .before .before .before .before .before .before .before .before .before .simulate .kept .1 .1 .1 .1 .1 .1 .1 .1 .1 .1 .1 .1 .1 .1 .1 .1 .0 ∙ length-replicate {A = ℕ} 393216 0)
 
 print-answer-requires : tie.Need-print-answer-requires
 print-answer-requires c κs = tt
