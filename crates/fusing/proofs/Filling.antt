@@ -12,9 +12,9 @@ use Rattle.simulation.specs.Index.{recordsIn, widthsIn, offset, clipped}
 use Rattle.simulation.proofs.Offsets.{clipped-sum}
 use Rattle.simulation.proofs.Steps.{length-widths}
 use Rattle.fusing.specs.declared.join.Lut.{Lut}
-use Rattle.fusing.specs.Form.{Form, formAt, Means, Formed}
+use Rattle.fusing.specs.Form.{formAt, Means, Formed}
 use Rattle.fusing.specs.Join.{formOf}
-use Rattle.fusing.specs.Find.{Known, Formable, Entry, Finds, Puts}
+use Rattle.fusing.specs.Finding.{Known, Formable, Entry, Finds, Puts}
 use Rattle.fusing.proofs.Finding.{entry-offset}
 
 -- SIX WORDS

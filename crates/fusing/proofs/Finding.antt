@@ -1,20 +1,20 @@
 -- The form of an expression, by its kind, shows its value. Assumes nothing.
-use Prim.Native.Nat.{ℕ, zero, suc, _+_, _*_, _%_, _≤_, _<_}
+use Prim.Native.Nat.{ℕ, _+_, _*_, _%_, _≤_, _<_}
 use mathlib.Core.Path.{_≡_, refl, sym, _∙_, ap, ap₂, subst}
-use mathlib.Core.Bool.{Bool, true, false, _&&_}
-use mathlib.Core.List.{List, [], _∷_, _++_}
+use mathlib.Core.Bool.{Bool, true, false}
+use mathlib.Core.List.{List, [], _∷_}
 use mathlib.Core.Option.{Option, none, some}
 use native.Mathlib.Omega.{arith}
 use native.Mathlib.Nat.{add-zero}
 use lib.Dec.{eqb}
-use lib.ListN.{length, getD, take, drop, replicate, length-replicate, List·getD-append, List·getD-eq-default}
+use lib.ListN.{length, getD, drop, replicate, length-replicate, List·getD-append, List·getD-eq-default}
 use lib.Seq.{getD-take, getD-drop, getD-append-add}
 use borrow.Author.Tests.{eq-eqb, ne-eqb}
 use Rattle.bits.specs.Bits.{pick, Bits, binary, window, lowest, same, sameBits, tableBit}
 use Rattle.bits.proofs.TableBits.{bit-none, bit-ones}
-use Rattle.recorder.specs.Record.{Expr, Model, exprWords}
+use Rattle.recorder.specs.Record.{Model, exprWords}
 use Rattle.recorder.specs.Read.{modelOf}
-use Rattle.recorder.specs.Evaluate.{Signals, bitOf, valueOf, evalExpr}
+use Rattle.recorder.specs.Evaluate.{Signals, valueOf, evalExpr}
 use Rattle.simulation.specs.declared.Driver.{Driver}
 use Rattle.simulation.specs.declared.Driver.the-variants.{None, By}
 use Rattle.simulation.specs.Run.{flat}
@@ -25,15 +25,15 @@ use Rattle.simulation.proofs.Offsets.{indexed-read, starts-read}
 use Rattle.simulation.proofs.Steps.{length-widths}
 use Rattle.evaluation.specs.Bytes.{gateOf}
 use Rattle.evaluation.specs.Consistent.{assigned, Consistent}
-use Rattle.evaluation.specs.Ready.{exprIn, Ready, Room, modelIn, Prepared}
+use Rattle.evaluation.specs.Ready.{exprIn, Ready, Room, modelIn}
 use Rattle.evaluation.proofs.Held.{wide-length, wide-at, flat-room, flat-total}
-use Rattle.evaluation.proofs.ByKind.{Operand, Gate, Mux, Equal, Const, Read, is-read}
+use Rattle.evaluation.proofs.ByKind.{Gate, Mux, Equal, Read, is-read}
 use Rattle.evaluation.proofs.Evaluating.{gate-ready, not-ready, mux-ready, const-ready, equal-ready, kind-is, count-is}
 use Rattle.evaluation.proofs.Whole.{ready, expr-fits, driver-there, driver-wide}
 use Rattle.fusing.specs.declared.join.Lut.{Lut}
-use Rattle.fusing.specs.Form.{bitAt, Form, row, formBit, formAt, Means, Formed}
+use Rattle.fusing.specs.Form.{bitAt, Form, row, formBit, formAt, Formed}
 use Rattle.fusing.specs.Join.{formOf, gateBit, Alone, Joins}
-use Rattle.fusing.specs.Find.{Known, Entry, spotOf, Spotted, OneBit, OneSpot, Own, Fused, Fuses, Finds}
+use Rattle.fusing.specs.Finding.{Known, Entry, spotOf, Spotted, OneBit, OneSpot, Own, Fused, Fuses, Finds}
 use Rattle.fusing.proofs.Joining.{row-under}
 
 -- WORDS AND TABLES
@@ -53,9 +53,6 @@ entry-start {l} {table} {k} n i h s = let e = n .said s in e ∙ starts-read i k
 -- WHERE A SIGNAL'S BIT STANDS
 
 module _ (stmts exprTable signalTable driverTable : List ℕ) (base s l : ℕ) where
-  pub spot-none : {r : ℕ} → 4294967295 ≤ r → Spotted stmts exprTable signalTable driverTable base s l r
-  spot-none h = record { spotted = λ ew sw i j v b k g z. absurd (omega arith) }
-
   module _ (by : Driver) (choice : Driven stmts driverTable → driverOf by ≡ given assigns (stmtsIn stmts) s) where
     pub spot-by : (d : ℕ) → by ≡ By d → (w n : ℕ) → w ≡ d → Entry exprTable w n → (r : ℕ) → r ≡ clipped (n + l) → Spotted stmts exprTable signalTable driverTable base s l r
     spot-by d e w n hw t r hr = record {

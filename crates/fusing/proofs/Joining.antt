@@ -3,7 +3,7 @@ use Prim.Native.Nat.{ℕ, zero, suc, _+_, _-_, _*_, _/_, _%_, _^_, _≤_, _<_}
 use mathlib.Core.Path.{_≡_, refl, sym, _∙_, ap, ap₂, subst}
 use mathlib.Core.Bool.{Bool, true, false, not, _||_}
 use native.Mathlib.Omega.{arith}
-use native.Mathlib.Nat.{pow-succ', zero-add, add-zero, not-suc-le-zero}
+use native.Mathlib.Nat.{pow-succ', zero-add, add-zero}
 use lib.Dec.{eqb}
 use lib.Pow.{pow-mono}
 use borrow.Author.Tests.{eqb-true, eq-eqb, ne-eqb}

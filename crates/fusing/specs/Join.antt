@@ -1,7 +1,7 @@
 -- The table of a gate whose operands are tables: row i gives each of four positions a bit of i, and has the gate of what the operands show there.
 use Prim.Native.Nat.{ℕ, _+_, _-_, _*_, _/_, _%_, _^_, _<_}
 use mathlib.Core.Path.{_≡_}
-use mathlib.Core.Bool.{Bool, true, false, _||_}
+use mathlib.Core.Bool.{Bool, false, _||_}
 use lib.Dec.{eqb}
 use Rattle.bits.specs.Bits.{pick, digit, same, tableBit}
 use Rattle.evaluation.specs.Bytes.{gateOf}

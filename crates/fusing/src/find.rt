@@ -13,7 +13,7 @@ ghost use lib.ListN.{length, getD};
 ghost use Rattle.simulation.specs.Index.{recordsIn, widthsIn, offset, clipped};
 ghost use Rattle.fusing.specs.Form.{formAt, Formed};
 ghost use Rattle.fusing.specs.Join.{formOf, Alone};
-ghost use Rattle.fusing.specs.Find.{Entry, Spotted, OneBit, OneSpot, Fuses, Known, Finds};
+ghost use Rattle.fusing.specs.Finding.{Entry, Spotted, OneBit, OneSpot, Fuses, Known, Finds};
 
 // A word of a list, 0 behind it.
 fn word(list: &[u32], at: usize, j: usize) -> u32

@@ -13,7 +13,7 @@ ghost use Prim.Native.Nat.{ℕ, _+_, _*_, _≤_, _<_};
 ghost use lib.ListN.{length, take, drop};
 ghost use Rattle.simulation.specs.Index.{recordsIn};
 ghost use Rattle.fusing.specs.Form.{Formed};
-ghost use Rattle.fusing.specs.Find.{Known, Formable, Puts};
+ghost use Rattle.fusing.specs.Finding.{Known, Formable, Puts};
 
 // Without a position of its own an expression has no form.
 fn placed(own: u32, table: u32) -> u32

@@ -1,11 +1,11 @@
 use Rattle.fusing.proofs.Filling.{formed-all}
 use Rattle.fusing.proofs.Filling.{formed-next, formed-none, base-is}
-use Rattle.fusing.specs.Find.{Known}
+use Rattle.fusing.specs.Finding.{Known}
 use Rattle.fusing.specs.Form.{Formed}
 use Rattle.simulation.specs.Index.{recordsIn}
 use lib.ListN.{length}
 use mathlib.Core.List.{List}
-use mathlib.Core.Path.{_≡_, sym, _∙_, subst}
+use mathlib.Core.Path.{_≡_}
 use Prim.Native.Nat.{ℕ, _-_, _≤_}
 use borrow.Author.Needs.{needs}
 use native.Mathlib.Omega.{arith}

@@ -53,7 +53,7 @@ same-length c = search needs
 
 -- src/lib.rt:77:1
 returns-3 : tie.Need-returns-3
-returns-3 c = let h : c .before .before .before .before .before .before .before .before .before .before .before .before .before .before .args .from ≤ length (c .before .before .before .before .before .before .before .before .before .before .before .before .before .before .args .forms .now) = omega arith in (take-put (c .before .before .before .before .before .before .before .before .before .before .before .before .before .before .args .from) (length (c .before .before .before .before .before .before .before .before .before .before .before .before .before .before .args .forms .now) - c .before .before .before .before .before .before .before .before .before .before .before .before .before .before .args .from) (c .before .before .before .before .before .before .before .before .before .before .before .before .before .before .args .forms .now) (c .before .before .fill .last .1 .1 .1 .1 .1 .1 .1 .0) h, λ f. subst (λ (l : List ℕ). Formed (c .before .before .before .before .before .before .before .before .before .before .before .before .before .before .args .signals .now) (c .before .before .before .before .before .before .before .before .before .before .before .before .before .before .args .exprs .now) (c .before .before .before .before .before .before .before .before .before .before .before .before .before .before .args .stmts .now) l (c .before .before .before .before .before .before .before .before .before .before .before .before .before .before .args .n)) (sym (put-rest (c .before .before .before .before .before .before .before .before .before .before .before .before .before .before .args .from) (c .before .before .before .before .before .before .before .before .before .before .before .before .before .before .args .forms .now) (c .before .before .fill .last .1 .1 .1 .1 .1 .1 .1 .0) h)) (c .before .before .fill .ensures (c .before .before .before .before .before .before .before .before .before .before .before .before .before .before .args .signals .now) (known-of f) (f .counted)))
+returns-3 c = let h : c .before .before .before .before .before .before .before .before .before .before .before .before .before .before .args .from ≤ length (c .before .before .before .before .before .before .before .before .before .before .before .before .before .before .args .forms .now) = omega arith in (take-put (c .before .before .before .before .before .before .before .before .before .before .before .before .before .before .args .from) (length (c .before .before .before .before .before .before .before .before .before .before .before .before .before .before .args .forms .now) - c .before .before .before .before .before .before .before .before .before .before .before .before .before .before .args .from) (c .before .before .before .before .before .before .before .before .before .before .before .before .before .before .args .forms .now) (c .before .before .fill .last .1 .1 .1 .1 .1 .1 .1 .0) h, λ f. subst (λ (l : List ℕ). Formed (c .before .before .before .before .before .before .before .before .before .before .before .before .before .before .args .signals .now) (c .before .before .before .before .before .before .before .before .before .before .before .before .before .before .args .exprs .now) (c .before .before .before .before .before .before .before .before .before .before .before .before .before .before .args .stmts .now) l (c .before .before .before .before .before .before .before .before .before .before .before .before .before .before .args .n)) (sym (put-rest (c .before .before .before .before .before .before .before .before .before .before .before .before .before .before .args .from) (c .before .before .before .before .before .before .before .before .before .before .before .before .before .before .args .forms .now) (c .before .before .fill .last .1 .1 .1 .1 .1 .1 .1 .0) h)) (c .before .before .fill .ensures (c .before .before .before .before .before .before .before .before .before .before .before .before .before .before .args .signals .now) (known-of f) (f .count)))
 
 pub fill-forms-spec : {M : Type 1} → statement M
 fill-forms-spec =

@@ -1,5 +1,4 @@
 use Rattle.fusing.proofs.Finding.{fused-none, fused-forms, fused-values}
-use native.Mathlib.Omega.{arith}
 use borrow.Author.Needs.{needs}
 use Rattle.fusing.proofs.find.fused.Statement.{statement}
 use Rattle.fusing.proofs.find.fused.Tie as tie

@@ -1,5 +1,4 @@
 use Rattle.fusing.proofs.Finding.{alone-at}
-use native.Mathlib.Omega.{arith}
 use borrow.Author.Needs.{needs}
 use Rattle.fusing.proofs.find.itself.Statement.{statement}
 use Rattle.fusing.proofs.find.itself.Tie as tie

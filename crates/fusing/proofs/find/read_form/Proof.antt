@@ -1,5 +1,4 @@
 use Rattle.fusing.proofs.Finding.{one-spot}
-use mathlib.Core.Path.{refl, sym, _∙_, ap, ap₂, subst}
 use native.Mathlib.Omega.{arith}
 use borrow.Author.Needs.{needs}
 use Rattle.fusing.proofs.find.read_form.Statement.{statement}

@@ -1,5 +1,4 @@
 use Rattle.fusing.proofs.Finding.{spot-by, spot-kept}
-use native.Mathlib.Omega.{arith}
 use borrow.Author.Needs.{needs}
 use Rattle.fusing.proofs.find.spot.Statement.{statement}
 use Rattle.fusing.proofs.find.spot.Tie as tie

@@ -1,5 +1,4 @@
 use Rattle.fusing.proofs.Finding.{view-is}
-use native.Mathlib.Omega.{arith}
 use borrow.Author.Needs.{needs}
 use Rattle.fusing.proofs.find.view.Statement.{statement}
 use Rattle.fusing.proofs.find.view.Tie as tie

@@ -1,6 +1,5 @@
 use Rattle.bits.specs.Bits.{digit}
-use Prim.Native.Nat.{ℕ, _+_, _*_}
-use mathlib.Core.Path.{_≡_, sym, _∙_, ap}
+use mathlib.Core.Path.{ap}
 use native.Mathlib.Omega.{arith}
 use borrow.Author.Needs.{needs}
 use Rattle.fusing.proofs.join.above.Statement.{statement}

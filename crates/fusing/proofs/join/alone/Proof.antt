@@ -1,6 +1,5 @@
 use Rattle.fusing.proofs.Joining.{is-alone}
 use mathlib.Core.Path.{refl}
-use native.Mathlib.Omega.{arith}
 use Rattle.fusing.proofs.join.alone.Statement.{statement}
 use Rattle.fusing.proofs.join.alone.Tie as tie
 use Rattle.fusing.proofs.join.alone.Reads as reads

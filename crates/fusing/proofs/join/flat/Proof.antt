@@ -1,5 +1,4 @@
 use Rattle.fusing.proofs.Joining.{flat-zero, flat-ones}
-use native.Mathlib.Omega.{arith}
 use Rattle.fusing.proofs.join.flat.Statement.{statement}
 use Rattle.fusing.proofs.join.flat.Tie as tie
 use Rattle.fusing.proofs.join.flat.Reads as reads

@@ -1,7 +1,6 @@
 use Rattle.fusing.proofs.Joining.{gate-is, gate-else}
 use mathlib.Core.Bool.{true, false}
 use mathlib.Core.Path.{refl}
-use native.Mathlib.Omega.{arith}
 use Rattle.fusing.proofs.join.gate.Statement.{statement}
 use Rattle.fusing.proofs.join.gate.Tie as tie
 use Rattle.fusing.proofs.join.gate.Reads as reads

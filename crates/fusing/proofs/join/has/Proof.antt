@@ -1,5 +1,4 @@
 use Rattle.fusing.proofs.Joining.{among-a, among-b, among-c, among-d}
-use native.Mathlib.Omega.{arith}
 use Rattle.fusing.proofs.join.has.Statement.{statement}
 use Rattle.fusing.proofs.join.has.Tie as tie
 use Rattle.fusing.proofs.join.has.Reads as reads

@@ -1,7 +1,6 @@
 use Rattle.fusing.proofs.Joining.{tabled-joins, none-joins}
 use borrow.Author.Tests.{not-false}
-use mathlib.Core.Path.{refl, sym, _∙_}
-use native.Mathlib.Omega.{arith}
+use mathlib.Core.Path.{refl}
 use borrow.Author.Needs.{needs}
 use Rattle.fusing.proofs.join.joined.Statement.{statement}
 use Rattle.fusing.proofs.join.joined.Tie as tie

@@ -1,5 +1,4 @@
 use Rattle.fusing.proofs.Joining.{row-is}
-use native.Mathlib.Omega.{arith}
 use borrow.Author.Needs.{needs}
 use Rattle.fusing.proofs.join.row.Statement.{statement}
 use Rattle.fusing.proofs.join.row.Tie as tie

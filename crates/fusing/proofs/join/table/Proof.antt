@@ -1,6 +1,6 @@
 use borrow.Author.Needs.{needs}
 use Rattle.fusing.proofs.Joining.{tabled-start, tabled-fits, tabled-below, tabled-done}
-use Rattle.fusing.proofs.Joining.{tabled-start, tabled-fits, tabled-next}
+use Rattle.fusing.proofs.Joining.{tabled-start, tabled-fits}
 use Rattle.fusing.specs.Join.{rowBit, Tabled}
 use Prim.Native.Nat.{_≤_}
 use native.Mathlib.Omega.{arith}

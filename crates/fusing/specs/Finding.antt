@@ -8,7 +8,7 @@ use lib.Dec.{eqb}
 use lib.ListN.{length, getD}
 use lib.Seq.{sets}
 use Rattle.simulation.specs.Tick.{given, assigns}
-use Rattle.simulation.specs.Index.{recordsIn, widthsIn, offset, clipped, stmtsIn, Indexed, Starts, Driven}
+use Rattle.simulation.specs.Index.{recordsIn, offset, clipped, stmtsIn, Indexed, Starts, Driven}
 use Rattle.evaluation.specs.Ready.{Prepared}
 use Rattle.fusing.specs.declared.join.Lut.{Lut}
 use Rattle.fusing.specs.Form.{formBit, formAt, Means, Formed}
@@ -27,7 +27,7 @@ pub record Formable (signals exprs stmts starts exprTable signalTable driverTabl
   pub prepared : Prepared signals exprs stmts exprTable signalTable
   pub started : Starts exprs starts
   pub driven : Driven stmts driverTable
-  pub counted : n ≡ length (recordsIn exprs)
+  pub count : n ≡ length (recordsIn exprs)
   pub room : from + 6 * n ≤ length forms
 
 -- WHERE A BIT STANDS
