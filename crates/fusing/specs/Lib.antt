@@ -1,0 +1,2 @@
+-- The specs of fusing.
+pub mod Form

@@ -1,0 +1,1 @@
+// One-bit expressions as tables of up to four bits.
