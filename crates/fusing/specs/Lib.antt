@@ -1,2 +1,3 @@
 -- The specs of fusing.
 pub mod Form
+pub mod Finding
