@@ -1,0 +1,2 @@
+-- The laws of coding.
+pub mod Running

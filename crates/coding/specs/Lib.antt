@@ -1,0 +1,2 @@
+-- The specs of coding.
+pub mod Coded
