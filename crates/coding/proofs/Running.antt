@@ -60,7 +60,7 @@ looked-bit t a b c d = ap (λ (i : ℕ). t / 2 ^ i % 2) (small a b c d) ∙ one 
     one (suc zero) h = refl
     one (suc (suc n)) h = absurd (omega arith)
 
-five : {A : Type 0} (f : ℕ → ℕ → ℕ → ℕ → ℕ → A) {t u a a′ b b′ c c′ d d′ : ℕ} → t ≡ u → a ≡ a′ → b ≡ b′ → c ≡ c′ → d ≡ d′ → f t a b c d ≡ f u a′ b′ c′ d′
+pub five : {A : Type 0} (f : ℕ → ℕ → ℕ → ℕ → ℕ → A) {t u a a′ b b′ c c′ d d′ : ℕ} → t ≡ u → a ≡ a′ → b ≡ b′ → c ≡ c′ → d ≡ d′ → f t a b c d ≡ f u a′ b′ c′ d′
 five f p q r s z = cc
 
 -- THE WIDTH OF AN EXPRESSION IS NOT ZERO
@@ -217,11 +217,11 @@ module _ {signals exprs stmts exprTable signalTable : List ℕ} (p : Prepared si
         table-is : getD (drop (2 * n) order) (6 * e) 0 ≡ getD order at 0
         table-is = getD-drop (2 * n) order (6 * e) 0 ∙ ap (λ (i : ℕ). getD order i 0) (sym ha)
 
-        pub running-needs : {values′ : List ℕ} → length values′ ≡ length values → Computed signals exprs stmts bytes e values values′ → Running signals exprs stmts n k order bytes values₀ values′ (j + 1)
-        running-needs {values′} l w = next hn r hj he code-there l (λ old vs behind rest ho hv g.
-            subst (λ (b : Bits). Holds (widthsIn exprs) (set vs e b) (map digit (flat old) ++ rest) values′)
+        pub running-needs : {values′ values″ : List ℕ} → values′ ≡ values″ → length values″ ≡ length values → Computed signals exprs stmts bytes e values values″ → Running signals exprs stmts n k order bytes values₀ values′ (j + 1)
+        running-needs {values′} {values″} z l w = subst (λ (u : List ℕ). Running signals exprs stmts n k order bytes values₀ u (j + 1)) (sym z) (next hn r hj he code-there l (λ old vs behind rest ho hv g.
+            subst (λ (b : Bits). Holds (widthsIn exprs) (set vs e b) (map digit (flat old) ++ rest) values″)
             (same-computed m old vs (Settle signals exprs stmts old) e (λ y i. g y (computable .by-needs (omega (arith, table-is)) y i)) ∙ settled-agrees old behind ho .right e (omega (arith, exprs-are, hn, code-there)))
-            (w .computed-holds old vs behind (map digit (flat old) ++ rest) ho hv))
+            (w .computed-holds old vs behind (map digit (flat old) ++ rest) ho hv)))
 
       -- by its form
       module _ {at : ℕ} (ha : at ≡ 2 * n + 6 * e) (yes-form : getD order at 0 < 65536) where
@@ -249,8 +249,7 @@ module _ {signals exprs stmts exprTable signalTable : List ℕ} (p : Prepared si
         pub inputs-inside : bitsIn exprs + bitsIn signals ≤ length values₀ → (getD order (at + 2) 0 < length values) × (getD order (at + 3) 0 < length values) × (getD order (at + 4) 0 < length values) × (getD order (at + 5) 0 < length values)
         inputs-inside h =
             let f = known in
-            let l = r .values-long in
-            (
+            let l = r .values-long in (
               omega (arith, l, known-inside signals exprs (InCode order n j) (getD order (at + 2) 0) (f .0)),
               omega (arith, l, known-inside signals exprs (InCode order n j) (getD order (at + 3) 0) (f .1)),
               omega (arith, l, known-inside signals exprs (InCode order n j) (getD order (at + 4) 0) (f .2)),

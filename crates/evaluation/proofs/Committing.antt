@@ -4,7 +4,7 @@ use Prim.Native.Nat.{ℕ, zero, suc, _+_, _≤_, _<_}
 use mathlib.Core.Path.{_≡_, refl, sym, _∙_, ap, ap₂, subst}
 use mathlib.Core.Bool.{Bool, true, false, _&&_, true≢false, false≢true}
 use mathlib.Core.List.{List, [], _∷_}
-use mathlib.Core.Logic.{inl, inr}
+use mathlib.Core.Logic.{_⊎_, inl, inr}
 use mathlib.Core.Option.{Option, none, some, Option·some-injective, Option·none-ne-some}
 use native.Mathlib.Omega.{arith}
 use native.Mathlib.Numerals.{add-one}
@@ -647,6 +647,24 @@ module _ {signals exprs stmts values marks bytes₀ : List ℕ} {word : ℕ} {by
       where
         next : drop (g .number) (stmtsIn stmts) ≡ stmtIn stmts (g .number) ∷ drop (g .number + 1) (stmtsIn stmts)
         next = drop-cons (stmtsIn stmts) (g .number) (assign 0 0) (omega (arith, there, read-length readStmt (recordsIn stmts) (s .readable))) ∙ ap (λ (n : ℕ). stmtIn stmts (g .number) ∷ drop n (stmtsIn stmts)) (sym (add-one (g .number)))
+
+-- THE WORDS THAT NAME AN EXPRESSION: the fourth, and a register's tenth if it has a reset
+
+module _ (l : List ℕ) (word e : ℕ) where
+  abbrev NamedBy : Type 0
+  NamedBy = (getD l (word + 3) 0 ≡ e) ⊎ ((getD l (word + 1) 0 ≡ 1) × (getD l (word + 6) 0 ≡ 0 → ⊥) × (getD l (word + 9) 0 ≡ e))
+
+  names-by : (x : Stmt) → Spelled l word x → Names x e → NamedBy
+  names-by (assign t n) p (inl h) = inl (p .words 3 (omega arith) ∙ Option·some-injective n e h)
+  names-by (assign t n) p (inr (inl h)) = absurd (Option·none-ne-some e h)
+  names-by (assign t n) p (inr (inr h)) = absurd (Option·none-ne-some e h)
+  names-by (reg t n c d r v) p (inl h) = absurd (Option·none-ne-some e h)
+  names-by (reg t n c d r v) p (inr (inl h)) = inl (p .words 3 (omega (arith, least (reg t n c d r v))) ∙ Option·some-injective n e h)
+  names-by (reg t n c d none v) p (inr (inr h)) = absurd (Option·none-ne-some e h)
+  names-by (reg t n c d (some r) v) p (inr (inr h)) = inr (kind-is p, (λ z. absurd (omega (arith, reset-words l word t n c d r v p .first, z))), reset-value l word t n c d r v p ∙ Option·some-injective (r .value) e h)
+
+pub names-word : {signals stmts : List ℕ} → Stated signals stmts → {word k : ℕ} → k < length (recordsIn stmts) → word ≡ startOf stmts k → (e : ℕ) → Names (stmtIn stmts k) e → (getD stmts (word + 3) 0 ≡ e) ⊎ ((getD stmts (word + 1) 0 ≡ 1) × (getD stmts (word + 6) 0 ≡ 0 → ⊥) × (getD stmts (word + 9) 0 ≡ e))
+names-word {stmts = stmts} s {word} {k} q b e h = names-by stmts word e (stmtIn stmts k) (spelled s q b) h
 
 -- THE COMMIT
 
