@@ -4,6 +4,7 @@ use Prim.Native.Nat.{ℕ, zero, suc, _+_, _≤_, _<_}
 use mathlib.Core.Path.{_≡_, refl, sym, _∙_, ap, ap₂, subst}
 use mathlib.Core.Bool.{Bool, true, false, _&&_, true≢false, false≢true}
 use mathlib.Core.List.{List, [], _∷_}
+use mathlib.Core.Logic.{_⊎_, inl, inr}
 use mathlib.Core.Option.{Option, none, some, Option·some-injective, Option·none-ne-some}
 use native.Mathlib.Omega.{arith}
 use native.Mathlib.Numerals.{add-one}
@@ -37,7 +38,7 @@ use Rattle.simulation.proofs.Kept.{Gives}
 use Rattle.evaluation.specs.Bytes.{Holds}
 use Rattle.evaluation.specs.Ready.{modelIn, Prepared, Room}
 use Rattle.evaluation.specs.Ticks.{StoresOne, Commits}
-use Rattle.evaluation.specs.Loads.{stmtIn, Stated, Begins, Control, controlAt, enableAt, resetValue, marked, byMarks, MarkOf, NotesOne, Noted, StoresMarked, StoresLoad}
+use Rattle.evaluation.specs.Loads.{stmtIn, Stated, Begins, Control, controlAt, enableAt, resetValue, marked, byMarks, MarkOf, NotesOne, Noted, StoresMarked, StoresLoad, Names}
 use Rattle.evaluation.proofs.Held.{holds-length, holds-bit}
 use Rattle.evaluation.proofs.Evaluating.{offset-before}
 use Rattle.evaluation.proofs.Whole.{read-length, read-at, all-at, record-inside, record-word, is-sound, signals-wide, exprs-wide}
@@ -647,6 +648,24 @@ module _ {signals exprs stmts values marks bytes₀ : List ℕ} {word : ℕ} {by
         next : drop (g .number) (stmtsIn stmts) ≡ stmtIn stmts (g .number) ∷ drop (g .number + 1) (stmtsIn stmts)
         next = drop-cons (stmtsIn stmts) (g .number) (assign 0 0) (omega (arith, there, read-length readStmt (recordsIn stmts) (s .readable))) ∙ ap (λ (n : ℕ). stmtIn stmts (g .number) ∷ drop n (stmtsIn stmts)) (sym (add-one (g .number)))
 
+-- THE WORDS THAT NAME AN EXPRESSION: the fourth, and a register's tenth if it has a reset
+
+module _ (l : List ℕ) (word e : ℕ) where
+  abbrev NamedBy : Type 0
+  NamedBy = (getD l (word + 3) 0 ≡ e) ⊎ ((getD l (word + 1) 0 ≡ 1) × (getD l (word + 6) 0 ≡ 0 → ⊥) × (getD l (word + 9) 0 ≡ e))
+
+  names-by : (x : Stmt) → Spelled l word x → Names x e → NamedBy
+  names-by (assign t n) p (inl h) = inl (p .words 3 (omega arith) ∙ Option·some-injective n e h)
+  names-by (assign t n) p (inr (inl h)) = absurd (Option·none-ne-some e h)
+  names-by (assign t n) p (inr (inr h)) = absurd (Option·none-ne-some e h)
+  names-by (reg t n c d r v) p (inl h) = absurd (Option·none-ne-some e h)
+  names-by (reg t n c d r v) p (inr (inl h)) = inl (p .words 3 (omega (arith, least (reg t n c d r v))) ∙ Option·some-injective n e h)
+  names-by (reg t n c d none v) p (inr (inr h)) = absurd (Option·none-ne-some e h)
+  names-by (reg t n c d (some r) v) p (inr (inr h)) = inr (kind-is p, (λ z. absurd (omega (arith, reset-words l word t n c d r v p .first, z))), reset-value l word t n c d r v p ∙ Option·some-injective (r .value) e h)
+
+pub names-word : {signals stmts : List ℕ} → Stated signals stmts → {word k : ℕ} → k < length (recordsIn stmts) → word ≡ startOf stmts k → (e : ℕ) → Names (stmtIn stmts k) e → (getD stmts (word + 3) 0 ≡ e) ⊎ ((getD stmts (word + 1) 0 ≡ 1) × (getD stmts (word + 6) 0 ≡ 0 → ⊥) × (getD stmts (word + 9) 0 ≡ e))
+names-word {stmts = stmts} s {word} {k} q b e h = names-by stmts word e (stmtIn stmts k) (spelled s q b) h
+
 -- THE COMMIT
 
 -- rules that agree on some statements store the same
@@ -656,15 +675,37 @@ same-stores rule rule′ vs (x ∷ ss) t h =
     ap (λ (o : Option ℕ). stores rule vs ss (store vs o (target x) t)) (h 0 (omega arith))
     ∙ same-stores rule rule′ vs ss (store vs (rule′ x) (target x) t) (λ k q. h (suc k) (omega arith))
 
+-- and so do values that agree on what the rule gives
+pub same-values : (rule : Stmt → Option ℕ) (a b : List Bits) (ss : List Stmt) (t : List Bits) → ((k : ℕ) → k < length ss → (e : ℕ) → rule (getD ss k (assign 0 0)) ≡ some e → getD a e [] ≡ getD b e []) → stores rule a ss t ≡ stores rule b ss t
+same-values rule a b [] t h = refl
+same-values rule a b (x ∷ ss) t h =
+    ap (stores rule a ss) (one (rule x) (λ e k. h 0 (omega arith) e k))
+    ∙ same-values rule a b ss (store b (rule x) (target x) t) (λ k q. h (suc k) (omega arith))
+  where
+    one : (o : Option ℕ) → ((e : ℕ) → o ≡ some e → getD a e [] ≡ getD b e []) → store a o (target x) t ≡ store b o (target x) t
+    one none g = refl
+    one (some e) g = ap (set t (target x)) (g e refl)
+
+-- what a register loads by a mark it names
+names-marked : (mark : ℕ) (x : Stmt) (e : ℕ) → marked mark x ≡ some e → Names x e
+names-marked mark (assign t n) e h = absurd (Option·none-ne-some e h)
+names-marked mark (reg t n c d r v) e h = go (eqb mark 1) (eqb mark 2) h
+  where
+    go : (y z : Bool) → pick y (some n) (pick z (resetValue r) none) ≡ some e → Names (reg t n c d r v) e
+    go true z k = inr (inl k)
+    go false true k = inr (inr k)
+    go false false k = absurd (Option·none-ne-some e k)
+
 module _ {signals exprs stmts exprTable signalTable : List ℕ} (p : Prepared signals exprs stmts exprTable signalTable) where
   pub committed : {f : Firing} {values marks bytes bytes′ : List ℕ} → Noted signals stmts f bytes (length (recordsIn stmts)) marks → StoresMarked signals exprs stmts values marks bytes bytes′ → Commits signals exprs stmts f values bytes bytes′
   unfolding modelOf
   committed {f} {values} {marks} {bytes} {bytes′} n w = record {
-    commits = λ t behind rest ht hv.
+    commits = λ t vs behind rest ht hv z.
         subst (λ (l : List Bits). Holds (widthsIn signals) l behind bytes′)
-        (same-stores (byMarks marks) (loads f (signalsAt [] t)) (valuesIn m t) (stmtsIn stmts) t (λ k q. n .noted k (omega (arith, read-length readStmt (recordsIn stmts) (stated p .readable))) .means t behind ht)
+        (same-values (byMarks marks) vs (valuesIn m t) (stmtsIn stmts) t (λ k q e r. z e (record { number = k; there = omega (arith, read-length readStmt (recordsIn stmts) (stated p .readable)); names = names-marked (getD marks (target (stmtIn stmts k)) 0) (stmtIn stmts k) e r }))
+        ∙ same-stores (byMarks marks) (loads f (signalsAt [] t)) (valuesIn m t) (stmtsIn stmts) t (λ k q. n .noted k (omega (arith, read-length readStmt (recordsIn stmts) (stated p .readable))) .means t behind ht)
         ∙ stores-is-commit m (one-each (p .widest) m (is-sound p)) f t (holds-length ht ∙ ap length (signals-wide p) ∙ count p))
-        (w .stores-marked t (valuesIn m t) behind rest ht hv);
+        (w .stores-marked t vs behind rest ht hv);
   }
     where
       m : Model

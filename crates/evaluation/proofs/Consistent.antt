@@ -10,7 +10,7 @@ use native.Mathlib.Omega.{arith}
 use native.Mathlib.Nat.{not-suc-le-zero, zero-add}
 use lib.Dec.{eqb, leb, ltb}
 use lib.ListN.{length, getD, set, length-append, length-map, List·getD-append}
-use lib.Seq.{getD-set-same, getD-set-other, append-snoc}
+use lib.Seq.{getD-set-same, getD-set-other, append-snoc, getD-append-add}
 use borrow.Author.Tests.{ltb-true}
 use Rattle.bits.specs.Bits.{pick, Bits, binary, number, lowest, window, differ, sameBits}
 use Rattle.settle.specs.Table.{at, tabFrom, length-tab, getD-tab}
@@ -23,7 +23,9 @@ use Rattle.simulation.specs.Wellformed.{wide, inRange, earlier, widthSum, exprF
 use Rattle.simulation.specs.Tick.{given, assigns, become, valuesIn, settle, depends, looped}
 use Rattle.simulation.specs.Settled.{IsSettled}
 use Rattle.simulation.specs.Sound.{AllFrom, Sound, signalWidths, exprWidths}
-use Rattle.simulation.proofs.Settles.{settled-is-settle, looped-says}
+use Rattle.recorder.proofs.Makes.{keeps-all, length-all}
+use Rattle.recorder.specs.Meaning.{Is}
+use Rattle.simulation.proofs.Settles.{settled-is-settle, settle-settled, settle-length, looped-says}
 use Rattle.simulation.proofs.Bounds.{reads-under}
 use Rattle.ordering.specs.Order.{listed, needsOf, needs}
 use Rattle.evaluation.specs.Consistent.{assigned, stored, exprAt, computed, Right, Consistent, Settling, ConsistentSettles, operands, signalsOf}
@@ -56,7 +58,7 @@ module _ (v w : Signals) (a b : List Bits) where
   same-value (mul i j) g q = two-same (λ x y. binary 36 (number x * number y)) i j g
 
 -- what an assigned signal has depends on its expression's value
-become-same : (a b : List Bits) (o : Option ℕ) (old : Bits) → ((e : ℕ) → Mem e (listed o) → getD a e [] ≡ getD b e []) → become a o old ≡ become b o old
+pub become-same : (a b : List Bits) (o : Option ℕ) (old : Bits) → ((e : ℕ) → Mem e (listed o) → getD a e [] ≡ getD b e []) → become a o old ≡ become b o old
 become-same a b none old g = refl
 become-same a b (some e) old g = g e (here refl)
 
@@ -219,3 +221,48 @@ consistent-settles widest m old vs h lo c = record {
 
     holds : IsSettled m old (stored m old vs)
     holds s q = ap (λ (l : List Bits). become l (given assigns (m .stmts) s) (getD old s [])) are ∙ sym (stored-at s q)
+
+-- THE VALUES OF A SETTLED MODEL
+
+module _ (widest : ℕ) (sw ew : List ℕ) (v w : Signals) (agree : (s : ℕ) → s < length sw → v s ≡ w s) where
+  -- each means what its expression says over all of them
+  each-means : (es : List Expr) (d : List Bits) → AllFrom (exprFits widest sw ew) (length d) es → (i : ℕ) → i < length es → evalExpr w (evalAll v d es) (getD es i (const 0 0)) ≡ getD (evalAll v d es) (length d + i) []
+  unfolding evalAll
+  each-means [] d h i q = absurd (not-suc-le-zero q)
+  each-means (e ∷ es) d h zero q = sym (same-value v w d all e early (λ s k. agree s (signals-under widest sw ew (length d) e (h .0) s k))) ∙ sym now
+    where
+      all : List Bits
+      all = evalAll v (d ++ (evalExpr v d e ∷ [])) es
+
+      long : length (d ++ (evalExpr v d e ∷ [])) ≡ length d + 1
+      long = length-append d (evalExpr v d e ∷ [])
+
+      kept : (y : ℕ) → y < length d + 1 → getD (evalAll v (d ++ (evalExpr v d e ∷ [])) es) y [] ≡ getD (d ++ (evalExpr v d e ∷ [])) y []
+      kept y k = keeps-all v es (d ++ (evalExpr v d e ∷ [])) y (getD (d ++ (evalExpr v d e ∷ [])) y []) (record { there = omega (arith, long); value = refl }) .value
+
+      early : (y : ℕ) → Mem y (operands e) → getD d y [] ≡ getD (evalAll v (d ++ (evalExpr v d e ∷ [])) es) y []
+      early y k =
+          let u = operands-under widest sw ew (length d) e (h .0) y k in
+          sym (kept y (omega (arith, u)) ∙ List·getD-append d (evalExpr v d e ∷ []) [] y u)
+
+      now : getD (evalAll v (d ++ (evalExpr v d e ∷ [])) es) (length d + 0) [] ≡ evalExpr v d e
+      now = kept (length d + 0) (omega arith) ∙ getD-append-add d (evalExpr v d e ∷ []) 0 []
+  each-means (e ∷ es) d h (suc i) q =
+      each-means es (d ++ (evalExpr v d e ∷ [])) (subst (λ (n : ℕ). AllFrom (exprFits widest sw ew) n es) (sym longer) (h .1)) i (omega arith)
+      ∙ ap (λ (n : ℕ). getD (evalAll v (d ++ (evalExpr v d e ∷ [])) es) n []) (omega (arith, longer))
+    where
+      longer : length (d ++ (evalExpr v d e ∷ [])) ≡ suc (length d)
+      longer = length-append d (evalExpr v d e ∷ []) ∙ omega arith
+
+-- they agree with one another
+pub settled-consistent : (widest : ℕ) (m : Model) (old : List Bits) → Sound widest m → length old ≡ length (m .signals) → looped m ≡ none → Consistent m old (valuesIn m (settle m old))
+settled-consistent widest m old h lo q = record {
+  each = length-all (at [] (settle m old)) (m .exprs) [] ∙ zero-add (length (m .exprs));
+  right = λ e k. each-means widest (signalWidths m) (exprWidths m) (at [] (settle m old)) (assigned m old (valuesIn m (settle m old))) agrees (m .exprs) [] (h .exprs-fit) e k ∙ ap (λ (n : ℕ). getD (valuesIn m (settle m old)) n []) (zero-add e);
+}
+  where
+    under : DepsUnder (length (m .signals)) (depends m)
+    under = reads-under widest m h
+
+    agrees : (s : ℕ) → s < length (signalWidths m) → at [] (settle m old) s ≡ assigned m old (valuesIn m (settle m old)) s
+    agrees s k = sym (settle-settled m old under (subst (LowestOnLoop (length (m .signals)) (depends m)) q (looped-says m old under)) s (omega (arith, length-map (m .signals) (λ (x : Signal). x .width))))

@@ -1,37 +1,42 @@
 -- Settling expression by expression, along an order or in passes: whoever has the right value keeps it. Assumes nothing.
 use Prim.Native.Nat.{ℕ, suc, _+_, _≤_, _<_}
-use mathlib.Core.Path.{_≡_, refl, sym, _∙_, ap, subst}
+use mathlib.Core.Path.{_≡_, refl, sym, _∙_, ap, subst, fun-ext}
 use mathlib.Core.Logic.{_⊎_, inl, inr}
 use mathlib.Core.Bool.{Bool, true, false, not, _||_, false≢true, Bool-discrete, Bool·not-not, or-true, or-false}
 use mathlib.Core.List.{List, [], _∷_, _++_, List·Memᴰ as Mem, List·Memᴰ·head as here, List·Memᴰ·tail as there, List·Memᴰ·cases-cons as cases-cons, List·Memᴰ·not-nil as not-nil, List·Memᴰ·eq-of-singleton as singleton, List·Memᴰ·append-cases as append-cases, Memᴰ·append-left as mem-left}
-use mathlib.Core.Option.{none}
+use mathlib.Core.Option.{Option, none, some, Option·none-ne-some}
 use native.Mathlib.Omega.{arith}
 use native.Mathlib.Decide.{ℕ-discrete}
-use lib.Dec.{leb}
+use lib.Dec.{eqb, leb}
 use lib.ListN.{length, getD, set, take, replicate, length-set}
 use lib.Seq.{getD-set-same, getD-set-other, set-getD, take-suc}
 use Rattle.bits.specs.Bits.{pick, Bits}
+use Rattle.settle.specs.Table.{tabFrom}
 use Rattle.settle.specs.Tests.{all-out}
-use Rattle.recorder.specs.Record.{Model}
+use Rattle.recorder.specs.Record.{Stmt, Model, assign}
 use Rattle.recorder.specs.Lists.{lists}
-use Rattle.recorder.specs.Read.{modelOf}
-use Rattle.simulation.specs.Tick.{looped, valuesIn}
-use Rattle.simulation.specs.Index.{recordsIn, widthsIn}
+use Rattle.recorder.specs.Read.{readStmt, modelOf}
+use Rattle.recorder.specs.Words.{rawOf}
+use Rattle.simulation.specs.Wellformed.{orElse}
+use Rattle.simulation.specs.Tick.{target, given, assigns, looped, valuesIn, settle}
+use Rattle.simulation.specs.Index.{recordsIn, widthsIn, stmtsIn}
+use Rattle.simulation.proofs.Sound.{stmts-read}
 use Rattle.simulation.proofs.Steps.{length-widths}
 use Rattle.simulation.proofs.Tally.{getD-zeros}
-use Rattle.ordering.specs.Order.{needs}
+use Rattle.ordering.specs.Order.{listed, needs}
 use Rattle.ordering.specs.Marks.{marked, ready, left, adds}
 use Rattle.ordering.specs.Words.{modelIn as exprsModel}
 use Rattle.ordering.proofs.Marking.{unlooped-marked}
 use Rattle.ordering.proofs.Sorted.{left-set, adds-new, Quiet, quiet-none, quiet-more, quiet-stuck}
 use Rattle.evaluation.specs.Bytes.{Holds}
-use Rattle.evaluation.specs.Consistent.{computed, Right, Consistent, Settling}
+use Rattle.evaluation.specs.Consistent.{stored, computed, Right}
 use Rattle.evaluation.specs.Ready.{modelIn, Prepared, Room, Computed}
-use Rattle.evaluation.specs.Ticks.{NoFault, Filled, Ordered, Settles, Stores, Settled}
+use Rattle.evaluation.specs.Ticks.{NoFault, Filled, Ordered, Settles, SettlesNamed, Stores, Settled}
+use Rattle.evaluation.specs.Loads.{Named, SameNamed}
 use Rattle.evaluation.specs.Settling.{InOrder, InMarks, RightOn, SettlesOne, SettlesPass}
 use Rattle.evaluation.proofs.Held.{holds-length}
-use Rattle.evaluation.proofs.Consistent.{still-right, now-right, consistent-settles}
-use Rattle.evaluation.proofs.Whole.{is-sound}
+use Rattle.evaluation.proofs.Consistent.{become-same, still-right, now-right, consistent-settles, settled-consistent}
+use Rattle.evaluation.proofs.Whole.{read-length, is-sound}
 
 -- e needs only what is in S: so do S and e
 closed-more : (m : Model) (S : ℕ → Type 0) → ((e d : ℕ) → S e → Mem d (needs m e) → S d) → (e : ℕ) → ((d : ℕ) → Mem d (needs m e) → S d) → (x d : ℕ) → (x ≡ e) ⊎ S x → Mem d (needs m x) → S d
@@ -115,8 +120,8 @@ module _ (signals exprs stmts : List ℕ) where
     pub marks-long : length marks ≡ length marks₀
 
 module _ {signals exprs stmts bytes : List ℕ} where
-  pub settles-same : {values values′ : List ℕ} → values′ ≡ values → Settles signals exprs stmts bytes values → Settles signals exprs stmts bytes values′
-  settles-same z s = subst (λ (l : List ℕ). Settles signals exprs stmts bytes l) (sym z) s
+  pub named-same : {values values′ : List ℕ} → values′ ≡ values → SettlesNamed signals exprs stmts bytes values → SettlesNamed signals exprs stmts bytes values′
+  named-same z s = subst (λ (l : List ℕ). SettlesNamed signals exprs stmts bytes l) (sym z) s
 
   pub passing-start : {n : ℕ} {values marks : List ℕ} → RightOn signals exprs stmts (InMarks marks) bytes values → Passing signals exprs stmts n bytes values marks values marks false 0
   passing-start {marks = marks} r = record { right = r; within = omega arith; fewer = λ z. absurd (false≢true z); no-more = omega arith; quiet = λ z. quiet-none (modelIn signals exprs stmts) marks; values-long = refl; marks-long = refl }
@@ -141,6 +146,19 @@ module _ {signals exprs stmts bytes : List ℕ} {e : ℕ} {values marks : List �
   pub settles-more : {values′ : List ℕ} → not b ≡ false → Computed signals exprs stmts bytes e values values′ → SettlesOne signals exprs stmts bytes e values marks true values′ (set marks e 1)
   settles-more h c = record { added = sym (sym (Bool·not-not b) ∙ ap not h) ∙ q ∙ adds-same signals exprs stmts marks e; marks-are = refl; computes = λ z. c; keeps = λ z. absurd (false≢true (sym z)) }
 
+-- what is assigned is named
+assigned-named : (ss : List Stmt) (s d : ℕ) → given assigns ss s ≡ some d → (k : ℕ) × (k < length ss) × (assigns (getD ss k (assign 0 0)) ≡ some d)
+assigned-named [] s d h = absurd (Option·none-ne-some d h)
+assigned-named (x ∷ ss) s d h = go (eqb (target x) s) (assigns x) refl h (assigned-named ss s d)
+  where
+    later : (k : ℕ) × (k < length ss) × (assigns (getD ss k (assign 0 0)) ≡ some d) → (k : ℕ) × (k < length (x ∷ ss)) × (assigns (getD (x ∷ ss) k (assign 0 0)) ≡ some d)
+    later t = (suc (t .0), omega (arith, t .1), t .2)
+
+    go : (b : Bool) (o : Option ℕ) → assigns x ≡ o → pick b (orElse o (given assigns ss s)) (given assigns ss s) ≡ some d → (given assigns ss s ≡ some d → (k : ℕ) × (k < length ss) × (assigns (getD ss k (assign 0 0)) ≡ some d)) → (k : ℕ) × (k < length (x ∷ ss)) × (assigns (getD (x ∷ ss) k (assign 0 0)) ≡ some d)
+    go true (some e) z k ih = (0, omega arith, z ∙ k)
+    go true none z k ih = later (ih k)
+    go false o z k ih = later (ih k)
+
 -- THE EXPRESSIONS IN S
 
 module _ {signals exprs stmts exprTable signalTable : List ℕ} (p : Prepared signals exprs stmts exprTable signalTable) where
@@ -155,6 +173,18 @@ module _ {signals exprs stmts exprTable signalTable : List ℕ} (p : Prepared si
 
   pub no-fault : NoFault signals exprs stmts
   no-fault = record { widest = p .widest; faultless = p .faultless }
+
+  -- values that agree on what is named, stored, make the same state
+  same-stored : (old a b : List Bits) → SameNamed stmts a b → stored (modelIn signals exprs stmts) old a ≡ stored (modelIn signals exprs stmts) old b
+  unfolding modelOf
+  same-stored old a b z = ap (λ (f : ℕ → Bits). tabFrom f 0 (length (m .signals))) (fun-ext (λ s. become-same a b (given assigns (stmtsIn stmts) s) (getD old s []) (λ e k. z e (named s e (listed-some (given assigns (stmtsIn stmts) s) e k)))))
+    where
+      listed-some : (o : Option ℕ) (e : ℕ) → Mem e (listed o) → o ≡ some e
+      listed-some none e k = absurd (not-nil k)
+      listed-some (some d) e k = ap some (sym (singleton k))
+
+      named : (s e : ℕ) → given assigns (stmtsIn stmts) s ≡ some e → Named stmts e
+      named s e h = let t = assigned-named (stmtsIn stmts) s e h in record { number = t .0; there = omega (arith, t .1, read-length readStmt (recordsIn stmts) (stmts-read (p .widest) (rawOf (lists signals exprs stmts)) (p .faultless))); names = inl (t .2) }
 
   module _ {bytes : List ℕ} where
     -- nothing is in S
@@ -273,17 +303,23 @@ module _ {signals exprs stmts exprTable signalTable : List ℕ} (p : Prepared si
 
     -- THE WHOLE
 
-    -- consistent values, stored: the model is settled
-    pub settles-stored : {bytes′ values′ : List ℕ} → looped (modelIn signals exprs stmts) ≡ none → Settles signals exprs stmts bytes values′ → Stores signals exprs stmts values′ bytes bytes′ → Settled signals exprs stmts bytes bytes′ values′
+    -- consistent values are those of the settled model
+    pub settles-all : {values′ : List ℕ} → looped (modelIn signals exprs stmts) ≡ none → Settles signals exprs stmts bytes values′ → SettlesNamed signals exprs stmts bytes values′
+    settles-all q s = record {
+      settles-named = λ old behind h.
+          let r = s .settles old behind h in
+          let i = consistent-settles (p .widest) m old (r .0) (is-sound p) (holds-length h ∙ length-widths signals ∙ sym signals-count) (r .3) in
+          (r .0, r .1, r .2, λ e k. ap (λ (l : List Bits). getD l e []) (sym (ap (valuesIn m) (i .settling q) ∙ i .values)));
+    }
+
+    -- stored, they settle the model
+    pub settles-stored : {bytes′ values′ : List ℕ} → looped (modelIn signals exprs stmts) ≡ none → SettlesNamed signals exprs stmts bytes values′ → Stores signals exprs stmts values′ bytes bytes′ → Settled signals exprs stmts bytes bytes′ values′
     settles-stored {bytes′} {values′} q s t = record {
       signals-hold = λ old behind h.
-          let r = s .settles old behind h in
-          subst (λ (u : List Bits). Holds (widthsIn signals) u behind bytes′) (sym (is old (r .0) behind h (r .3) .settling q)) (t .stores old (r .0) behind (r .1) h (r .2));
-      values-hold = λ old behind h.
-          let r = s .settles old behind h in
-          let i = is old (r .0) behind h (r .3) in
-          (r .1, subst (λ (u : List Bits). Holds (widthsIn exprs) u (r .1) values′) (sym (ap (valuesIn m) (i .settling q) ∙ i .values)) (r .2));
+          let r = s .settles-named old behind h in
+          let long = holds-length h ∙ length-widths signals ∙ sym signals-count in
+          subst (λ (u : List Bits). Holds (widthsIn signals) u behind bytes′)
+          (same-stored old (r .0) (valuesIn m (settle m old)) (r .3) ∙ sym (consistent-settles (p .widest) m old (valuesIn m (settle m old)) (is-sound p) long (settled-consistent (p .widest) m old (is-sound p) long q) .settling q))
+          (t .stores old (r .0) behind (r .1) h (r .2));
+      values-hold = s;
     }
-      where
-        is : (old vs : List Bits) (behind : List ℕ) → Holds (widthsIn signals) old behind bytes → Consistent (modelIn signals exprs stmts) old vs → Settling (modelIn signals exprs stmts) old vs
-        is old vs behind h c = consistent-settles (p .widest) m old vs (is-sound p) (holds-length h ∙ length-widths signals ∙ sym signals-count) c

@@ -4,6 +4,7 @@ use Prim.Native.Nat.{ℕ, _+_, _≤_, _<_}
 use mathlib.Core.Path.{_≡_}
 use mathlib.Core.Bool.{Bool}
 use mathlib.Core.List.{List, []}
+use mathlib.Core.Logic.{_⊎_}
 use mathlib.Core.Option.{Option, none, some}
 use lib.Dec.{eqb}
 use lib.ListN.{length, getD}
@@ -14,7 +15,7 @@ use Rattle.recorder.specs.Read.{readStmt}
 use Rattle.recorder.specs.Words.{EachReads}
 use Rattle.recorder.specs.Evaluate.{Signals}
 use Rattle.simulation.specs.Wellformed.{countOf, stmtFits}
-use Rattle.simulation.specs.Tick.{target, asserted, Firing, loads}
+use Rattle.simulation.specs.Tick.{target, assigns, asserted, Firing, loads}
 use Rattle.simulation.specs.Sound.{AllFrom, on}
 use Rattle.simulation.specs.Index.{recordsIn, widthsIn, startOf, stmtsIn}
 use Rattle.simulation.proofs.Stores.{store, stores}
@@ -68,6 +69,20 @@ marked mark (reg t n c d r e) = pick (eqb mark 1) (some n) (pick (eqb mark 2) (r
 -- each signal's mark stands by its number
 abbrev pub byMarks : List ℕ → Stmt → Option ℕ
 byMarks marks x = marked (getD marks (target x) 0) x
+
+-- EXPRESSIONS THAT STATEMENTS NAME: what is assigned, a register's next value and its reset's
+
+abbrev pub Names : Stmt → ℕ → Type 0
+Names x e = (assigns x ≡ some e) ⊎ ((marked 1 x ≡ some e) ⊎ (marked 2 x ≡ some e))
+
+pub record Named (stmts : List ℕ) (e : ℕ) : Type 0 where
+  pub number : ℕ
+  pub there : number < length (recordsIn stmts)
+  pub names : Names (stmtIn stmts number) e
+
+-- values that agree on them
+abbrev pub SameNamed : List ℕ → List Bits → List Bits → Type 0
+SameNamed stmts a b = (e : ℕ) → Named stmts e → getD a e [] ≡ getD b e []
 
 -- every statement's signal has one
 pub record Markable (stmts marks : List ℕ) : Type 0 where

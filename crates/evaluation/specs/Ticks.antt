@@ -17,6 +17,7 @@ use Rattle.ordering.specs.Order.{needs}
 use Rattle.evaluation.specs.Bytes.{Holds}
 use Rattle.evaluation.specs.Consistent.{stored, Consistent}
 use Rattle.evaluation.specs.Ready.{modelIn}
+use Rattle.evaluation.specs.Loads.{SameNamed}
 
 -- a model without a fault
 pub record NoFault (signals exprs stmts : List ℕ) : Type 0 where
@@ -59,6 +60,10 @@ module _ (signals exprs stmts : List ℕ) where
   pub record Settles (bytes values′ : List ℕ) : Type 0 where
     pub settles : (old : List Bits) (behind : List ℕ) → Holds (widthsIn signals) old behind bytes → (vs : List Bits) × (rest : List ℕ) × Holds (widthsIn exprs) vs rest values′ × Consistent (modelIn signals exprs stmts) old vs
 
+  -- of the expressions that statements name, those of the settled model
+  pub record SettlesNamed (bytes values′ : List ℕ) : Type 0 where
+    pub settles-named : (old : List Bits) (behind : List ℕ) → Holds (widthsIn signals) old behind bytes → (vs : List Bits) × (rest : List ℕ) × Holds (widthsIn exprs) vs rest values′ × SameNamed stmts vs (valuesIn (modelIn signals exprs stmts) (settle (modelIn signals exprs stmts) old))
+
   -- every assigned signal has its expression's value
   pub record Stores (values bytes bytes′ : List ℕ) : Type 0 where
     pub stores : (old vs : List Bits) (behind rest : List ℕ) → Holds (widthsIn signals) old behind bytes → Holds (widthsIn exprs) vs rest values → Holds (widthsIn signals) (stored (modelIn signals exprs stmts) old vs) behind bytes′
@@ -66,11 +71,11 @@ module _ (signals exprs stmts : List ℕ) where
   -- both
   pub record Settled (bytes bytes′ values′ : List ℕ) : Type 0 where
     pub signals-hold : (old : List Bits) (behind : List ℕ) → Holds (widthsIn signals) old behind bytes → Holds (widthsIn signals) (settle (modelIn signals exprs stmts) old) behind bytes′
-    pub values-hold : (old : List Bits) (behind : List ℕ) → Holds (widthsIn signals) old behind bytes → (rest : List ℕ) × Holds (widthsIn exprs) (valuesIn (modelIn signals exprs stmts) (settle (modelIn signals exprs stmts) old)) rest values′
+    pub values-hold : SettlesNamed bytes values′
 
   -- the registers load
   pub record Commits (fires : Firing) (values bytes bytes′ : List ℕ) : Type 0 where
-    pub commits : (t : List Bits) (behind rest : List ℕ) → Holds (widthsIn signals) t behind bytes → Holds (widthsIn exprs) (valuesIn (modelIn signals exprs stmts) t) rest values → Holds (widthsIn signals) (commit (modelIn signals exprs stmts) fires t) behind bytes′
+    pub commits : (t vs : List Bits) (behind rest : List ℕ) → Holds (widthsIn signals) t behind bytes → Holds (widthsIn exprs) vs rest values → SameNamed stmts vs (valuesIn (modelIn signals exprs stmts) t) → Holds (widthsIn signals) (commit (modelIn signals exprs stmts) fires t) behind bytes′
 
   pub record Ticks (ticks : List ℕ) (fires : Firing) (bytes bytes′ : List ℕ) : Type 0 where
     pub ticks-to : (old : List Bits) (behind : List ℕ) → Holds (widthsIn signals) old behind bytes → Holds (widthsIn signals) (tick (modelIn signals exprs stmts) (map isOne ticks) fires old) behind bytes′

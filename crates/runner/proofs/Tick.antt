@@ -25,7 +25,7 @@ pub inputs-fill : {signals ticks bytes bytes′ : List ℕ} → Filled (widthsIn
 inputs-fill f i = record { values = _; rest = f .rest; holds = i .inputs (f .values) (f .rest) (f .holds) }
 
 pub settled-values : {signals exprs stmts bytes bytes′ values′ : List ℕ} → Filled (widthsIn signals) bytes → Settled signals exprs stmts bytes bytes′ values′ → Filled (widthsIn exprs) values′
-settled-values f s = let v = s .values-hold (f .values) (f .rest) (f .holds) in record { values = _; rest = v .0; holds = v .1 }
+settled-values f s = let v = s .values-hold .settles-named (f .values) (f .rest) (f .holds) in record { values = v .0; rest = v .1; holds = v .2 }
 
 module _ {signals exprs stmts ticks : List ℕ} {fires : Firing} where
   module _ {bytes b₁ b₂ b₃ b₄ v₂ v₄ : List ℕ} (i : Inputs signals ticks bytes b₁) (s : Settled signals exprs stmts b₁ b₂ v₂) (c : Commits signals exprs stmts fires v₂ b₂ b₃) (t : Settled signals exprs stmts b₃ b₄ v₄) where
@@ -34,13 +34,13 @@ module _ {signals exprs stmts ticks : List ℕ} {fires : Firing} where
     made = record {
       ticks-to = λ old behind h.
           let h₁ = i .inputs old behind h in
-          let v = s .values-hold _ behind h₁ in
-          t .signals-hold _ behind (c .commits _ behind (v .0) (s .signals-hold _ behind h₁) (v .1));
+          let v = s .values-hold .settles-named _ behind h₁ in
+          t .signals-hold _ behind (c .commits _ (v .0) behind (v .1) (s .signals-hold _ behind h₁) (v .2) (v .3));
     }
 
     pub values-fill : Filled (widthsIn signals) bytes → Filled (widthsIn exprs) v₄
     values-fill f =
         let h₁ = i .inputs (f .values) (f .rest) (f .holds) in
-        let v = s .values-hold _ (f .rest) h₁ in
-        let w = t .values-hold _ (f .rest) (c .commits _ (f .rest) (v .0) (s .signals-hold _ (f .rest) h₁) (v .1)) in
-        record { values = _; rest = w .0; holds = w .1 }
+        let v = s .values-hold .settles-named _ (f .rest) h₁ in
+        let w = t .values-hold .settles-named _ (f .rest) (c .commits _ (v .0) (f .rest) (v .1) (s .signals-hold _ (f .rest) h₁) (v .2) (v .3)) in
+        record { values = w .0; rest = w .1; holds = w .2 }

@@ -1,5 +1,7 @@
 // The run of a model. All but its entries is private: it asks what they have checked.
 mod bytes; // bytes.rt: copies, tests, numbers
+mod code; // code.rt: the code of a model
+mod coded; // coded.rt: the values of a model's expressions along its code
 mod commit; // commit.rt: the registers load
 mod expression; // expression.rt: the value of one expression
 mod list; // list.rt: a list of ticks
@@ -14,6 +16,7 @@ mod tables; // tables.rt: where records and values stand, by tables
 mod ticks; // ticks.rt: one tick
 mod whole; // whole.rt: a whole list's run
 
+use code::no_code;
 use model_check::call::check_call;
 use ordering::Loop;
 use prepare::prepare;
@@ -91,6 +94,7 @@ fn run_checked(
                 driver_table,
                 &order[..ordered],
                 n,
+                no_code(),
                 s,
                 ticks,
                 fired,

@@ -1,4 +1,5 @@
 // A list of ticks on a model that was checked and prepared once.
+use crate::code::Code;
 use crate::show::end_of;
 use crate::show::fired_by;
 use crate::show::put_answer;
@@ -19,6 +20,7 @@ ghost use Rattle.simulation.specs.Run.{answerOf, firedOf, total, inputWidth};
 ghost use Rattle.simulation.specs.Tick.{looped};
 ghost use Rattle.evaluation.specs.Ready.{Prepared, Room, modelIn};
 ghost use Rattle.evaluation.specs.Ticks.{Filled, Ordered, signalsIn};
+ghost use Rattle.coding.specs.Coded.{Coding};
 ghost use Rattle.runner.specs.Calls.{outputWidth};
 ghost use Rattle.runner.specs.Parts.{tickCauses, RunsTick, RunsTicks};
 
@@ -33,6 +35,7 @@ fn run_tick(
     driver_table: &[u32],
     order: &[u32],
     n: usize,
+    code: Code,
     count: usize,
     inputs: usize,
     ticks: &[u8],
@@ -42,7 +45,7 @@ fn run_tick(
     work_exprs: &mut [u8],
     work_signals: &mut [u8],
 ) -> Ran
-    requires { ⌜ Prepared (now signals) (now exprs) (now stmts) (now «expr_table») (now «signal_table») × Starts (now exprs) (now starts) × Driven (now stmts) (now «driver_table») × Room (now signals) (now exprs) (now bytes) (now values) × (n ≡ length (recordsIn (now exprs))) × (count ≡ length (recordsIn (now signals))) × (n ≤ length (now «work_exprs»)) × (count ≤ length (now «work_signals»)) × Ordered (modelIn (now signals) (now exprs) (now stmts)) n (now order) × (looped (modelIn (now signals) (now exprs) (now stmts)) ≡ none) × Filled (widthsIn (now exprs)) (now values) × Filled (widthsIn (now signals)) (now bytes) × (inputs ≡ total inputWidth (signalsIn (now signals))) ⌝ }
+    requires { ⌜ Prepared (now signals) (now exprs) (now stmts) (now «expr_table») (now «signal_table») × Starts (now exprs) (now starts) × Driven (now stmts) (now «driver_table») × Room (now signals) (now exprs) (now bytes) (now values) × (n ≡ length (recordsIn (now exprs))) × (count ≡ length (recordsIn (now signals))) × (n ≤ length (now «work_exprs»)) × (count ≤ length (now «work_signals»)) × Ordered (modelIn (now signals) (now exprs) (now stmts)) n (now order) × (looped (modelIn (now signals) (now exprs) (now stmts)) ≡ none) × Filled (widthsIn (now exprs)) (now values) × Filled (widthsIn (now signals)) (now bytes) × (inputs ≡ total inputWidth (signalsIn (now signals))) × Coding (now signals) (now exprs) (now stmts) n (code .words) (code .base) (code .state) (now order) (now values) ⌝ }
     ensures answered { λ r. ⌜ answerOf r ≡ tickCauses count inputs (now (ticks .entry)) (firedOf fired) ⌝ }
     ensures runs { λ r. ⌜ RunsTick (now (signals .entry)) (now (exprs .entry)) (now (stmts .entry)) (now (ticks .entry)) (firedOf fired) (answerOf r) (now (bytes .entry)) (now (bytes .exit)) ⌝ }
     ensures filled { λ _. ⌜ Filled (widthsIn (now (exprs .entry))) (now (values .exit)) ⌝ }
@@ -60,6 +63,7 @@ fn run_tick(
                 driver_table,
                 order,
                 n,
+                code,
                 count,
                 ticks,
                 fired,
@@ -84,6 +88,7 @@ pub fn run_ticks(
     driver_table: &[u32],
     order: &[u32],
     n: usize,
+    code: Code,
     count: usize,
     inputs: usize,
     heads: &[u32],
@@ -95,7 +100,7 @@ pub fn run_ticks(
     answers: &mut [u64],
     shown: &mut [u8],
 )
-    requires { ⌜ Prepared (now signals) (now exprs) (now stmts) (now «expr_table») (now «signal_table») × Starts (now exprs) (now starts) × Driven (now stmts) (now «driver_table») × Room (now signals) (now exprs) (now bytes) (now values) × (n ≡ length (recordsIn (now exprs))) × (count ≡ length (recordsIn (now signals))) × (n ≤ length (now «work_exprs»)) × (count ≤ length (now «work_signals»)) × Ordered (modelIn (now signals) (now exprs) (now stmts)) n (now order) × (looped (modelIn (now signals) (now exprs) (now stmts)) ≡ none) × Filled (widthsIn (now exprs)) (now values) × Filled (widthsIn (now signals)) (now bytes) × (inputs ≡ total inputWidth (signalsIn (now signals))) × (2 * (length (now heads) / 3) ≤ length (now answers)) × (total outputWidth (signalsIn (now signals)) * (length (now heads) / 3) ≤ length (now shown)) × (malformed largest (lists (now signals) (now exprs) (now stmts)) ≡ none) ⌝ }
+    requires { ⌜ Prepared (now signals) (now exprs) (now stmts) (now «expr_table») (now «signal_table») × Starts (now exprs) (now starts) × Driven (now stmts) (now «driver_table») × Room (now signals) (now exprs) (now bytes) (now values) × (n ≡ length (recordsIn (now exprs))) × (count ≡ length (recordsIn (now signals))) × (n ≤ length (now «work_exprs»)) × (count ≤ length (now «work_signals»)) × Ordered (modelIn (now signals) (now exprs) (now stmts)) n (now order) × (looped (modelIn (now signals) (now exprs) (now stmts)) ≡ none) × Filled (widthsIn (now exprs)) (now values) × Filled (widthsIn (now signals)) (now bytes) × (inputs ≡ total inputWidth (signalsIn (now signals))) × (2 * (length (now heads) / 3) ≤ length (now answers)) × (total outputWidth (signalsIn (now signals)) * (length (now heads) / 3) ≤ length (now shown)) × (malformed largest (lists (now signals) (now exprs) (now stmts)) ≡ none) × Coding (now signals) (now exprs) (now stmts) n (code .words) (code .base) (code .state) (now order) (now values) ⌝ }
     ensures { λ _. ⌜ RunsTicks (lists (now (signals .entry)) (now (exprs .entry)) (now (stmts .entry))) (now (heads .entry)) (now (bits .entry)) (now (bytes .entry)) (now (bytes .exit)) (now (answers .entry)) (now (answers .exit)) (now (shown .entry)) (now (shown .exit)) ⌝ }
 {
     let mut at: usize = 0;
@@ -116,6 +121,7 @@ pub fn run_ticks(
             driver_table,
             order,
             n,
+            code,
             count,
             inputs,
             &bits[pos..end],

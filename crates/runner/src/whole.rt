@@ -1,5 +1,6 @@
 // The run of a whole list of ticks: what refuses it, and then the ticks.
 use crate::WIDEST;
+use crate::code::encode;
 use crate::list::run_ticks;
 use crate::prepare::prepare;
 use crate::show::output_total;
@@ -189,8 +190,23 @@ fn run_unrefused(
     match found {
         Loop::At(x) => Ran::Refused(Refusal::CombinationalLoop(x)),
         Loop::Free => {
-            let ordered = ready.ordered;
             let inputs = input_total(signals);
+            let code = encode(
+                signals,
+                exprs,
+                stmts,
+                starts,
+                expr_table,
+                signal_table,
+                driver_table,
+                n,
+                s,
+                ready.ordered,
+                order,
+                work_bits,
+                work_exprs,
+            );
+            let used = code.used;
             zero_bytes(work_bits);
             run_ticks(
                 signals,
@@ -200,8 +216,9 @@ fn run_unrefused(
                 expr_table,
                 signal_table,
                 driver_table,
-                &order[..ordered],
+                &order[..used],
                 n,
+                code,
                 s,
                 inputs,
                 heads,

@@ -1,0 +1,3 @@
+-- The laws of coding.
+pub mod Running
+pub mod Emitting

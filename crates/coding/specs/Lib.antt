@@ -1,0 +1,3 @@
+-- The specs of coding.
+pub mod Coded
+pub mod Emitting

@@ -1,0 +1,1 @@
+// Theory only: see specs/ and proofs/.
