@@ -1,4 +1,6 @@
 // Prints what a list of ticks shows: a line for each tick, written in pieces through a lent buffer.
+pub mod vcd; // vcd.rt: the same as a VCD file
+
 use lines::records::put_refused;
 use text::Place;
 use text::flush;
@@ -138,7 +140,7 @@ fn put_ports(out: &mut [u8], from: Spot, signals: &[u32], shown: &[u8]) -> Spot 
 }
 
 // The bytes that a tick shows.
-fn output_total(signals: &[u32]) -> usize {
+pub fn output_total(signals: &[u32]) -> usize {
     let n = signals.len() / 4;
     let mut sum: usize = 0;
     let mut i: usize = 0;
