@@ -1,2 +1,4 @@
 -- The laws of fusing.
+pub mod Joining
+pub mod Finding
 pub mod Filling

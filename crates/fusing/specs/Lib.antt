@@ -1,3 +1,4 @@
 -- The specs of fusing.
 pub mod Form
+pub mod Join
 pub mod Finding

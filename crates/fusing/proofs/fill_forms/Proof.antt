@@ -1,90 +1,71 @@
-use Rattle.fusing.proofs.Filling.{Filling, filling-start, filling-next, filling-end, filling-short}
 use Prim.Native.Nat.{_-_}
+use lib.ListN.{length}
+use Prim.Native.Nat.{_≤_}
+use Rattle.fusing.proofs.Filling.{put-rest, known-of}
+use Rattle.fusing.specs.Form.{Formed}
+use borrow.Rule.Slice.PartMut.{take-put}
+use Prim.Native.Nat.{ℕ}
+use mathlib.Core.List.{List}
+use mathlib.Core.Path.{refl, sym, subst}
 use native.Mathlib.Omega.{arith}
+use borrow.Author.Needs.{needs}
 use Rattle.fusing.proofs.fill_forms.Statement.{statement}
 use Rattle.fusing.proofs.fill_forms.Tie as tie
 use Rattle.fusing.proofs.fill_forms.Reads as reads
 use Rattle.fusing.proofs.fill_forms.Lts as lts
+use Rattle.fusing.proofs.fill.Reads as fill-reads
 
-abbrev Inv-loop : tie.InvT-loop
-Inv-loop signals exprs stmts starts expr-table signal-table driver-table n from forms₀ e₀ at₀ forms e at = Filling from forms₀ forms e at
+-- src/lib.rt:93:9
+returns : tie.Need-returns
+returns c = (refl, λ f. absurd (omega (arith, f .room)))
 
-abbrev μ-loop : tie.MeasureT-loop
-μ-loop signals exprs stmts starts expr-table signal-table driver-table n from forms₀ e₀ at₀ forms e at = n - e
+-- src/lib.rt:95:13
+sub-if2 : tie.Need-sub-if2
+sub-if2 c = search needs
 
--- src/lib.rt:25:5
-loop-holds : tie.Need-loop-holds Inv-loop μ-loop
-loop-holds c = filling-start _ _
+-- src/lib.rt:96:9
+returns-2 : tie.Need-returns-2
+returns-2 c = (refl, λ f. absurd (omega (arith, f .room)))
 
--- src/lib.rt:27:13
-same-length : tie.Need-same-length Inv-loop μ-loop
-same-length c = c .before .before .loop .inv .as-long
+-- src/lib.rt:106:9
+mul-fill : tie.Need-mul-fill
+mul-fill c = search needs
 
--- src/lib.rt:27:13
-returns : tie.Need-returns Inv-loop μ-loop
-returns c = (c .before .before .loop .inv .kept, λ g. filling-short (c .before .before .loop .inv) _ _ _ _ _ _ _ (c .before .loop-test .taken) (omega (arith, c .if1 .taken)) g)
+-- src/lib.rt:106:9
+sub-fill : tie.Need-sub-fill
+sub-fill c = search needs
 
--- src/lib.rt:29:12
-sub-if2 : tie.Need-sub-if2 Inv-loop μ-loop
-sub-if2 c = omega (arith, c .if1 .left)
+-- src/lib.rt:106:9
+part-fill-start : tie.Need-part-fill-start
+part-fill-start c = search needs
 
--- src/lib.rt:30:13
-same-length-2 : tie.Need-same-length-2 Inv-loop μ-loop
-same-length-2 c = c .before .before .before .loop .inv .as-long
+-- src/lib.rt:106:9
+part-fill-end : tie.Need-part-fill-end
+part-fill-end c = search needs
 
--- src/lib.rt:30:13
-returns-2 : tie.Need-returns-2 Inv-loop μ-loop
-returns-2 c = (c .before .before .before .loop .inv .kept, λ g. filling-short (c .before .before .before .loop .inv) _ _ _ _ _ _ _ (c .before .before .loop-test .taken) (omega (arith, c .if2 .taken, c .before .if1 .left)) g)
+-- src/lib.rt:98:5
+fill-requires : tie.Need-fill-requires
+fill-requires c κs = search needs
 
--- src/lib.rt:32:9
-mul-forms : tie.Need-mul-forms Inv-loop μ-loop
-mul-forms c = record { fits = omega (arith, c .before .if1 .left, c .before .before .before .before .good .1 .1 .1 .1 .1 .1 .1 .1 .1 .0 .1, c .before .before .before .loop .inv .as-long) }
+-- src/lib.rt:77:1
+same-length : tie.Need-same-length
+same-length c = search needs
 
--- src/lib.rt:32:9
-slice-write-forms : tie.Need-slice-write-forms Inv-loop μ-loop
-slice-write-forms c = c .before .if1 .left
-
--- src/lib.rt:33:9
-add-at : tie.Need-add-at Inv-loop μ-loop
-add-at c = omega (arith, c .if2 .left, c .before .if1 .left, c .before .before .before .before .good .1 .1 .1 .1 .1 .1 .1 .1 .1 .0 .1, c .before .before .before .loop .inv .as-long)
-
--- src/lib.rt:34:9
-add-e : tie.Need-add-e Inv-loop μ-loop
-add-e c = omega (arith, c .before .before .loop-test .taken, c .before .before .before .before .fits .n)
-
--- src/lib.rt:25:5
-loop-less : tie.Need-loop-less Inv-loop μ-loop
-loop-less c = omega (arith, c .before .before .loop-test .taken)
-
--- src/lib.rt:25:5
-loop-again : tie.Need-loop-again Inv-loop μ-loop
-loop-again c = filling-next (c .before .before .before .loop .inv) (c .before .if1 .left)
-
--- src/lib.rt:8:1
-same-length-3 : tie.Need-same-length-3 Inv-loop μ-loop
-same-length-3 c = c .before .loop .inv .as-long
-
--- src/lib.rt:8:1
-returns-3 : tie.Need-returns-3 Inv-loop μ-loop
-returns-3 c = (c .before .loop .inv .kept, λ g. filling-end (c .before .loop .inv) _ _ _ (c .before .before .args .starts .now) (c .before .before .args .expr-table .now) (c .before .before .args .signal-table .now) (c .before .before .args .driver-table .now) (c .loop-test .left))
+-- src/lib.rt:77:1
+returns-3 : tie.Need-returns-3
+returns-3 c = let h : c .before .before .before .before .before .before .before .before .before .before .before .before .before .before .args .from ≤ length (c .before .before .before .before .before .before .before .before .before .before .before .before .before .before .args .forms .now) = omega arith in (take-put (c .before .before .before .before .before .before .before .before .before .before .before .before .before .before .args .from) (length (c .before .before .before .before .before .before .before .before .before .before .before .before .before .before .args .forms .now) - c .before .before .before .before .before .before .before .before .before .before .before .before .before .before .args .from) (c .before .before .before .before .before .before .before .before .before .before .before .before .before .before .args .forms .now) (c .before .before .fill .last .1 .1 .1 .1 .1 .1 .1 .0) h, λ f. subst (λ (l : List ℕ). Formed (c .before .before .before .before .before .before .before .before .before .before .before .before .before .before .args .signals .now) (c .before .before .before .before .before .before .before .before .before .before .before .before .before .before .args .exprs .now) (c .before .before .before .before .before .before .before .before .before .before .before .before .before .before .args .stmts .now) l (c .before .before .before .before .before .before .before .before .before .before .before .before .before .before .args .n)) (sym (put-rest (c .before .before .before .before .before .before .before .before .before .before .before .before .before .before .args .from) (c .before .before .before .before .before .before .before .before .before .before .before .before .before .before .args .forms .now) (c .before .before .fill .last .1 .1 .1 .1 .1 .1 .1 .0) h)) (c .before .before .fill .ensures (c .before .before .before .before .before .before .before .before .before .before .before .before .before .before .args .signals .now) (known-of f) (f .count)))
 
 pub fill-forms-spec : {M : Type 1} → statement M
 fill-forms-spec =
     tie.close
     (tie.spec
-    Inv-loop
-    μ-loop
-    loop-holds
-    same-length
     returns
     sub-if2
-    same-length-2
     returns-2
-    mul-forms
-    slice-write-forms
-    add-at
-    add-e
-    loop-less
-    loop-again
-    same-length-3
+    mul-fill
+    sub-fill
+    part-fill-start
+    part-fill-end
+    fill-requires
+    same-length
     returns-3)
