@@ -1,6 +1,6 @@
 #!/bin/sh
 # Builds the static library and tries it from other languages: declarations compared, the example in C, the safe Rust on small netlists
-# and, beside the oracle, on random ones. From oracle/ for its cargo settings. About a minute.
+# and, beside the oracle, on random ones. From oracle/ for its cargo settings. One to two minutes.
 set -eu
 cd "$(dirname "$0")/.."
 rt staticlib capi
