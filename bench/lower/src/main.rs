@@ -11,58 +11,13 @@ use std::hint::black_box;
 use celox::recorder::{self, Recording};
 use lower::{lower_netlist, mapped_netlist};
 use netlist::{Bit, BlockRam, Cell, Control, Direction, Edge, Limits, Netlist, Port};
+use reamerpoppy::calls::{self, WORK};
 
-const WORK: usize = 16_384;
-
-unsafe extern "C" {
-    fn reamerpoppy_lower(
-        words: *const u32,
-        words_len: usize,
-        signals: *mut u32,
-        signals_len: usize,
-        exprs: *mut u32,
-        exprs_len: usize,
-        stmts: *mut u32,
-        stmts_len: usize,
-        wires: *mut u32,
-        wires_len: usize,
-        places: *mut u32,
-        places_len: usize,
-        parts: *mut u32,
-        parts_len: usize,
-        values: *mut u32,
-        values_len: usize,
-        banks: *mut u32,
-        banks_len: usize,
-    ) -> usize;
-}
-
-/// The refusal's number, 0 when accepted. The function has no `requires`.
+/// The refusal's number, 0 when accepted.
 fn proved(words: &[u32], lists: &mut [Vec<u32>; 3], works: &mut [Vec<u32>; 5]) -> usize {
-    let [s, e, t] = lists;
-    let [a, b, c, d, f] = works;
-    unsafe {
-        reamerpoppy_lower(
-            words.as_ptr(),
-            words.len(),
-            s.as_mut_ptr(),
-            s.len(),
-            e.as_mut_ptr(),
-            e.len(),
-            t.as_mut_ptr(),
-            t.len(),
-            a.as_mut_ptr(),
-            a.len(),
-            b.as_mut_ptr(),
-            b.len(),
-            c.as_mut_ptr(),
-            c.len(),
-            d.as_mut_ptr(),
-            d.len(),
-            f.as_mut_ptr(),
-            f.len(),
-        )
-    }
+    let lists = lists.each_mut().map(Vec::as_mut_slice);
+    let works = works.each_mut().map(Vec::as_mut_slice);
+    calls::lower(words, lists, works, &mut [])
 }
 
 fn by_rust(words: &[u32]) -> Recording {

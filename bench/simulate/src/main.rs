@@ -28,7 +28,6 @@ const TICKS: usize = 1_000;
 /// The model in Rust and the run of one tick are timed over so many ticks, and multiplied.
 const FEW: usize = 50;
 /// Records that the tables of the run of one tick have room for: behind them it walks the lists.
-#[cfg(one_tick)]
 const TABLE: usize = 65_536;
 
 const SIZES: &[usize] = &[100, 1_000, 2_000, 4_000];
@@ -65,12 +64,11 @@ struct Row {
     one_tick: Option<f64>,
 }
 
-/// A netlist, its model and the ticks.
+/// A netlist, what the Rust records of it, and the ticks.
 struct Case {
     netlist: Netlist,
     words: Vec<u32>,
     recording: Recording,
-    model: Model,
     ticks: Ticks,
 }
 
@@ -78,24 +76,20 @@ impl Case {
     fn new(sort: &Sort, size: usize) -> Self {
         let netlist = (sort.make)(size);
         let recording = lower::lower_netlist(&netlist, [usize::MAX; 3]).expect("accepted");
-        let model = Model::new(recording.words.each_ref().map(Vec::as_slice)).expect("well formed");
         Self {
             words: netlist::write(&netlist),
             netlist,
             recording,
-            model,
             ticks: Ticks::draw(size as u64, TICKS),
         }
     }
 }
 
 fn measure(sort: &Sort, size: usize, folder: &Path) -> Row {
-    let Case { netlist, words, recording, model, ticks } = Case::new(sort, size);
-    let mut lent = Lent::new(&recording, &model, &ticks);
+    let Case { netlist, words, recording, ticks } = Case::new(sort, size);
+    let mut lent = Lent::new(&words, &ticks);
 
-    let mut simulate = |count: usize| {
-        times::call(3, || assert_eq!(lent.simulate(&words, &ticks, count), 0, "accepted"))
-    };
+    let mut simulate = |count: usize| times::call(3, || lent.simulate(&words, &ticks, count));
     let (start, whole) = (simulate(0), simulate(TICKS));
     let shown = lent.shown(&ticks);
     let changes = shown.windows(2).filter(|pair| pair[0] != pair[1]).count();
@@ -103,7 +97,7 @@ fn measure(sort: &Sort, size: usize, folder: &Path) -> Row {
 
     let (model_time, by_model) = run_model(&recording, &ticks);
     assert!(shown.starts_with(&by_model), "{} {size}: the model in Rust shows the same", sort.name);
-    let one_tick = run_one_by_one(&mut lent, &recording, &model, &ticks, &shown);
+    let one_tick = run_one_by_one(&mut lent, &recording, &ticks, &shown);
     let (mut icarus, mut verilator) = (None, None);
     if sort.verilog {
         let folder = Folder::new(folder.join(format!("{}-{size}", sort.name)), &netlist, &ticks);
@@ -148,11 +142,9 @@ fn run_model(recording: &Recording, ticks: &Ticks) -> (f64, Vec<u32>) {
     (start + few * (ticks.len() / FEW) as f64, ticks.words(&shown))
 }
 
-#[cfg(one_tick)]
 fn run_one_by_one(
     lent: &mut Lent,
     recording: &Recording,
-    model: &Model,
     ticks: &Ticks,
     shown: &[u32],
 ) -> Option<f64> {
@@ -161,21 +153,11 @@ fn run_one_by_one(
     }
     let few = times::call(1, || {
         lent.clear();
-        for at in 0..FEW {
-            assert_eq!(lent.one_tick(&recording.words, ticks, at), 0, "a tick");
-            assert_eq!(
-                lent.shown_now(model, ticks),
-                shown[at],
-                "the run of one tick shows the same"
-            );
+        for (at, shown) in shown.iter().enumerate().take(FEW) {
+            assert_eq!(lent.one_tick(ticks, at), *shown, "the run of one tick shows the same");
         }
     });
     Some(few * (ticks.len() / FEW) as f64)
-}
-
-#[cfg(not(one_tick))]
-fn run_one_by_one(_: &mut Lent, _: &Recording, _: &Model, _: &Ticks, _: &[u32]) -> Option<f64> {
-    None
 }
 
 fn milliseconds(seconds: f64) -> String {
@@ -317,10 +299,8 @@ fn print(rows: &[Row]) {
 fn profile(sort: &str, size: usize) {
     let sort = SORTS.iter().find(|known| known.name == sort).expect("a sort");
     let case = Case::new(sort, size);
-    let mut lent = Lent::new(&case.recording, &case.model, &case.ticks);
-    let time = times::call(3, || {
-        assert_eq!(lent.simulate(&case.words, &case.ticks, TICKS), 0, "accepted")
-    });
+    let mut lent = Lent::new(&case.words, &case.ticks);
+    let time = times::call(3, || lent.simulate(&case.words, &case.ticks, TICKS));
     println!("{} {size}: {} ms", sort.name, milliseconds(time));
     // how many expressions of each kind, of one bit and wider
     for (kind, name) in KINDS.iter().enumerate() {

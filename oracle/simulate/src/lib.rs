@@ -2,6 +2,8 @@
 //! simulators: outputs by the netlist's own cells, refusals by the model. Where
 //! the cells form no loop, both must say the same.
 
+mod draw;
+
 use cells::Circuit;
 use model::{Model, Refusal};
 use netlist::{Direction, Limits, Netlist};
@@ -126,7 +128,8 @@ pub fn refused(number: u32, place: u32) -> String {
 }
 
 /// The output ports in order, the highest bit of each first.
-fn shown(netlist: &Netlist, bits: &[u8]) -> String {
+#[must_use]
+pub fn shown(netlist: &Netlist, bits: &[u8]) -> String {
     let outputs = netlist.ports.iter().filter(|port| port.direction == Direction::Output);
     let mut left = bits;
     let ports = outputs.map(|port| {

@@ -10,11 +10,9 @@ use std::collections::BTreeMap;
 use std::io::{BufWriter, Write};
 
 use cells::Circuit;
-use compare::draw;
-use generate::{Faults, Plan, Rng};
 use model::Model;
 use netlist::Limits;
-use simulate::{Case, LISTS, NETLIST, TICKS, Tick};
+use simulate::{Case, LISTS, NETLIST, TICKS};
 
 fn main() -> std::io::Result<()> {
     let arguments = std::env::args().skip(1).collect::<Vec<_>>();
@@ -32,8 +30,7 @@ fn main() -> std::io::Result<()> {
     let mut tally = BTreeMap::<String, u64>::new();
     let (mut made, mut index) = (0, 0);
     while made < cases {
-        let netlist = netlist_of(seed, index);
-        let case = Case { ticks: ticks_for(seed, index, &netlist, ticks), netlist };
+        let case = Case::draw(seed, index, ticks);
         index += 1;
         let words = case.write();
         let Some(read) = Case::read(&words).filter(|_| case.netlist.len() <= longest) else {
@@ -55,54 +52,6 @@ fn main() -> std::io::Result<()> {
         println!("{times:9} {what}");
     }
     Ok(())
-}
-
-fn netlist_of(seed: u64, index: u64) -> Vec<u32> {
-    match index % 20 {
-        16..=18 => generate::sample(seed, index),
-        19 => {
-            let mut rng = Rng::new(seed, index);
-            let plan = Plan::draw(&mut rng, Faults { any_rank: 4, ..Faults::default() });
-            netlist::write(&generate::netlist(&mut rng, &plan))
-        }
-        _ => netlist::write(&generate::runnable(seed, index)),
-    }
-}
-
-/// Ticks that suit the netlist, those that cannot be made among them. A netlist
-/// that lowering refuses gets a few of any kind.
-fn ticks_for(seed: u64, index: u64, words: &[u32], ticks: usize) -> Vec<Tick> {
-    let mut rng = Rng::new(!seed, index);
-    let accepted = lower::lower(words, &Limits::BASE, LISTS).ok().map(|recording| {
-        let lists = recording.words.each_ref().map(Vec::as_slice);
-        let model = Model::new(lists).expect("a model of the Rust is well formed");
-        let netlist = netlist::read(words, &Limits::BASE).expect("lowering accepts it");
-        let clocks = Circuit::new(&netlist).clocks();
-        (model.input_bits(), clocks, model.signal_count(), model.on_loop().is_some())
-    });
-    let (inputs, clocks, signals, refused) =
-        accepted.unwrap_or_else(|| (rng.below(9), Vec::new(), 4, true));
-    let ticks = match rng.below(40) {
-        0 => rng.below(2),
-        _ if refused => rng.below(4),
-        _ => ticks,
-    };
-    let mut bits = vec![0; inputs];
-    let drawn = (0..ticks).map(|_| {
-        let tick = draw(&mut rng, &mut bits, &clocks, signals);
-        let (fires, signal) = tick.fired.map_or((0, 0), |(signal, edge)| (edge + 1, signal));
-        let mut tick = Tick { bits: tick.bits, fires, signal };
-        // Now and then the largest values; a signal counts only where one fires.
-        match rng.below(400) {
-            0 => tick.fires = u32::MAX,
-            1 => tick.signal = u32::MAX,
-            2 => tick.bits.iter_mut().for_each(|bit| *bit = 255),
-            3 => tick.bits.clear(),
-            _ => {}
-        }
-        tick
-    });
-    drawn.collect()
 }
 
 /// What has been drawn, for a reader.
