@@ -50,7 +50,7 @@ fn replay_bits(
         return false;
     }
     let m = most(bits, count);
-    run(&words[..k], heads, &bits[..m]);
+    run(&words[..k], heads, &bits[..m], false);
     true
 }
 

@@ -2,8 +2,10 @@
 use converter::Lowered;
 use recorder::Tape;
 use simulator::simulate;
+use tick_text::output_total;
 use tick_text::print_refusal;
 use tick_text::print_ticks;
+use tick_text::vcd::print_vcd;
 ghost use Rattle.io.specs.Counts.{Counts};
 
 fn used(list: &[u32], tape: Tape) -> usize
@@ -13,27 +15,48 @@ fn used(list: &[u32], tape: Tape) -> usize
     if n <= list.len() { n } else { 0 }
 }
 
-// A line for each tick, or one for the refusal.
+// A line for each tick, or a VCD file.
+fn print_shown(
+    signals: &[u32],
+    heads: &[u32],
+    bits: &[u8],
+    answers: &[u64],
+    shown: &[u8],
+    vcd: bool,
+) -> bool {
+    let mut out = [0u8; 32768];
+    if vcd {
+        let outputs = output_total(signals);
+        return print_vcd(&mut out, signals, heads, bits, answers, shown, outputs);
+    }
+    print_ticks(&mut out, signals, answers, shown, heads.len() / 3)
+}
+
+// What is shown, or one line for the refusal.
 fn print_answer(
     answer: Lowered,
     signals: &[u32],
+    heads: &[u32],
+    bits: &[u8],
     answers: &[u64],
     shown: &[u8],
-    ticks: usize,
+    vcd: bool,
 ) -> bool {
-    let mut out = [0u8; 32768];
     match answer {
         Lowered::Accepted(t) => {
             let n = used(signals, t.signals);
-            print_ticks(&mut out, &signals[..n], answers, shown, ticks)
+            print_shown(&signals[..n], heads, bits, answers, shown, vcd)
         }
-        Lowered::Refused(x) => print_refusal(&mut out, x.number(), x.place()),
+        Lowered::Refused(x) => {
+            let mut out = [0u8; 64];
+            print_refusal(&mut out, x.number(), x.place())
+        }
     }
 }
 
 // Lowers, runs and prints. The five works of lowering are the run's tables too: they have room for 98,304 expressions and
 // 16,384 signals.
-pub fn run(words: &[u32], heads: &[u32], bits: &[u8]) -> bool {
+pub fn run(words: &[u32], heads: &[u32], bits: &[u8], vcd: bool) -> bool {
     let mut signals = [0u32; 65536];
     let mut exprs = [0u32; 1000000];
     let mut stmts = [0u32; 98304];
@@ -67,5 +90,5 @@ pub fn run(words: &[u32], heads: &[u32], bits: &[u8]) -> bool {
         &mut answers,
         &mut shown,
     );
-    print_answer(answer, &signals, &answers, &shown, heads.len() / 3)
+    print_answer(answer, &signals, heads, bits, &answers, &shown, vcd)
 }

@@ -21,6 +21,22 @@ fn most(list: &[u8], n: usize) -> usize
     if n <= list.len() { n } else { 0 }
 }
 
+// The program was started with the one argument --vcd.
+fn wants_vcd() -> bool {
+    let mut word = [0u8; 6];
+    let n = os::arg(1, &mut word);
+    if n != 5 {
+        return false;
+    }
+    if word[2] != b'v' {
+        return false;
+    }
+    if word[3] != b'c' {
+        return false;
+    }
+    word[4] == b'd'
+}
+
 fn refuse() -> bool {
     let mut out = [0u8; 64];
     print_refusal(&mut out, 3, 0)
@@ -37,7 +53,7 @@ fn run_netlist(input: &mut [u8], heads: &[u32], bits: &[u8]) -> bool {
         return refuse();
     }
     let k = words_of(&input[..n], &mut words);
-    run(&words[..k], heads, bits)
+    run(&words[..k], heads, bits, wants_vcd())
 }
 
 // The bits of all ticks.

@@ -71,8 +71,8 @@ fn put_var(out: &mut [u8], at: usize, signals: &[u32], i: usize) -> usize {
     put_words(out, c, b" $end\n")
 }
 
-// A variable's value: the bits from an index on, the highest first, or zeros.
-fn put_bits(out: &mut [u8], at: usize, bits: &[u8], from: usize, width: usize) -> usize {
+// Several bits from an index on, the highest first.
+fn put_vector(out: &mut [u8], at: usize, bits: &[u8], from: usize, width: usize) -> usize {
     let mut a = put(out, at, b'b');
     let mut left = width;
     while 0 < left {
@@ -80,6 +80,14 @@ fn put_bits(out: &mut [u8], at: usize, bits: &[u8], from: usize, width: usize) -
         a = put(out, a, digit(bits, plus(from, left)));
     }
     put(out, a, b' ')
+}
+
+// A variable's value; a single bit stands alone.
+fn put_bits(out: &mut [u8], at: usize, bits: &[u8], from: usize, width: usize) -> usize {
+    if width == 1 {
+        return put(out, at, digit(bits, from));
+    }
+    put_vector(out, at, bits, from, width)
 }
 
 // The value of the port whose signal stands at word i.

@@ -3,10 +3,10 @@ use Prim.Native.Nat.{_≤_, _-_, _/_}
 use lib.ListN.{length}
 use native.Mathlib.Omega.{arith}
 use borrow.Author.Needs.{needs}
-use Rattle.tick_text.proofs.vcd.put_bits.Statement.{statement}
-use Rattle.tick_text.proofs.vcd.put_bits.Tie as tie
-use Rattle.tick_text.proofs.vcd.put_bits.Reads as reads
-use Rattle.tick_text.proofs.vcd.put_bits.Lts as lts
+use Rattle.tick_text.proofs.vcd.put_vector.Statement.{statement}
+use Rattle.tick_text.proofs.vcd.put_vector.Tie as tie
+use Rattle.tick_text.proofs.vcd.put_vector.Reads as reads
+use Rattle.tick_text.proofs.vcd.put_vector.Lts as lts
 use Rattle.tick_text.proofs.digit.Reads as digit-reads
 use Rattle.tick_text.proofs.plus.Reads as plus-reads
 use Rattle.tick_text.proofs.put.Reads as put-reads
@@ -61,8 +61,8 @@ same-length c = search needs
 returns : tie.Need-returns Inv-loop μ-loop
 returns c = tt
 
-pub put-bits-spec : {M : Type 1} → statement M
-put-bits-spec =
+pub put-vector-spec : {M : Type 1} → statement M
+put-vector-spec =
     tie.close
     (tie.spec
     Inv-loop
