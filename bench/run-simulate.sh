@@ -3,7 +3,7 @@
 # tables in Markdown. Sorts of netlists may be named: LUT4s logic carry RAM chain. Give it a machine with nothing else to do.
 set -eu
 cd "$(dirname "$0")/.."
-rt staticlib capi
+rt staticlib capi >&2
 cd oracle
 unset RUSTFLAGS CARGO_ENCODED_RUSTFLAGS
 cargo build --release --offline -j1 --manifest-path ../bench/simulate/Cargo.toml --target-dir target/bench

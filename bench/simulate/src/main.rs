@@ -217,8 +217,9 @@ fn print_targets(rows: &[Row]) {
 }
 
 fn print(rows: &[Row]) {
+    println!("Milliseconds of processor time for {TICKS} ticks, all runners showing the same.");
     println!(
-        "Milliseconds of processor time for {TICKS} ticks; 'start' is the same run without a tick.\n"
+        "'Start' is the same run without a tick; the last two columns are from {FEW} ticks.\n"
     );
     heading(&[
         "sort",

@@ -78,7 +78,7 @@ impl Folder {
         (Times { compile, start, whole }, words.collect())
     }
 
-    /// Times, and what the outputs showed. Nothing that could make it faster is left out but threads.
+    /// Times, and what the outputs showed. One thread, and the options that its manual names for speed.
     pub fn verilator(&self, ticks: usize) -> (Times, Vec<u32>) {
         let compile = times::process_once(|| {
             let arguments = [
