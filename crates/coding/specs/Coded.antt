@@ -1,27 +1,22 @@
--- Code: the expressions to evaluate, in order, so that those that statements name get their values. One with a form is looked up in its table.
--- A table of 8 n words has first an order of all n expressions, then the code, then the forms.
+-- Code: expressions to evaluate, in order, each from what is known by then. One with a form is looked up in its table. A table of words has
+-- first an order of all n expressions, then six words for each one's form; code stands somewhere behind them.
 use Prim.Native.Nat.{ℕ, _+_, _*_, _/_, _%_, _^_, _≤_, _<_}
 use mathlib.Core.Path.{_≡_}
-use mathlib.Core.Bool.{true}
 use mathlib.Core.Logic.{_⊎_}
-use mathlib.Core.List.{List, List·Memᴰ as Mem}
+use mathlib.Core.List.{List, [], List·Memᴰ as Mem}
 use lib.ListN.{length, getD, take, drop, set}
+use Rattle.bits.specs.Bits.{Bits}
 use Rattle.simulation.specs.Index.{recordsIn, widthsIn, offset}
+use Rattle.simulation.specs.Tick.{valuesIn, settle}
 use Rattle.ordering.specs.Order.{needs}
-use Rattle.ordering.specs.Marks.{marked}
+use Rattle.evaluation.specs.Bytes.{Holds}
 use Rattle.evaluation.specs.Ready.{modelIn}
-use Rattle.evaluation.specs.Loads.{Named}
+use Rattle.evaluation.specs.Late.{Among}
 use Rattle.fusing.specs.Form.{Form, formAt, Formed}
 
 -- all bits of the records of a list
 abbrev pub bitsIn : List ℕ → ℕ
 bitsIn list = offset (widthsIn list) (length (recordsIn list))
-
--- e is one of the first j code words
-pub record InCode (order : List ℕ) (n j e : ℕ) : Type 0 where
-  pub place : ℕ
-  pub before : place < j
-  pub stands : getD order (n + place) 0 ≡ e
 
 -- a position of expression e
 abbrev pub Within : List ℕ → ℕ → ℕ → Type 0
@@ -38,20 +33,16 @@ module _ (signals exprs stmts : List ℕ) where
     pub by-form : getD forms (6 * e) 0 < 65536 → Known signals exprs S (getD forms (6 * e + 2) 0) × Known signals exprs S (getD forms (6 * e + 3) 0) × Known signals exprs S (getD forms (6 * e + 4) 0) × Known signals exprs S (getD forms (6 * e + 5) 0)
     pub by-needs : 65536 ≤ getD forms (6 * e) 0 → (d : ℕ) → Mem d (needs (modelIn signals exprs stmts) e) → S d
 
-  -- k words of right code
-  pub record Coded (n k : ℕ) (order : List ℕ) : Type 0 where
-    pub room : 8 * n ≤ length order
-    pub few : k ≤ n
-    pub formed : Formed signals exprs stmts (drop (2 * n) order) n
-    pub each : (j : ℕ) → j < k → Computable (InCode order n j) (drop (2 * n) order) (getD order (n + j) 0)
-    pub all-named : (e : ℕ) → Named stmts e → InCode order n k e
+  -- k words of right code, from a word on
+  pub record Coded (n from k : ℕ) (order : List ℕ) : Type 0 where
+    pub forms-before : 7 * n ≤ from
+    pub room : from + k ≤ length order
+    pub formed : Formed signals exprs stmts (drop n order) n
+    pub each : (j : ℕ) → j < k → Computable (Among order from j) (drop n order) (getD order (from + j) 0)
 
-  -- `words` of right code, if there is any; the signals' bits have room behind the expressions', which are `base`
-  pub record Coding (n words base state : ℕ) (order values : List ℕ) : Type 0 where
-    pub coded : 0 < words → Coded n words order
-    pub base-is : 0 < words → base ≡ bitsIn exprs
-    pub state-is : 0 < words → state ≡ bitsIn signals
-    pub room : 0 < words → bitsIn exprs + bitsIn signals ≤ length values
+  -- every code word has the value that it has in the settled model
+  pub record SettlesCode (order : List ℕ) (from k : ℕ) (bytes values′ : List ℕ) : Type 0 where
+    pub settles-code : (old : List Bits) (behind : List ℕ) → Holds (widthsIn signals) old behind bytes → (vs : List Bits) × (rest : List ℕ) × Holds (widthsIn exprs) vs rest values′ × ((e : ℕ) → Among order from k e → getD vs e [] ≡ getD (valuesIn (modelIn signals exprs stmts) (settle (modelIn signals exprs stmts) old)) e [])
 
 -- a bit of a table, by the four bytes at its inputs
 abbrev pub looked : ℕ → ℕ → ℕ → ℕ → ℕ → ℕ

@@ -4,3 +4,4 @@ pub mod Ready
 pub mod Ticks
 pub mod Loads
 pub mod Settling
+pub mod Late

@@ -2,3 +2,4 @@
 pub mod Calls
 pub mod Parts
 pub mod Whole
+pub mod Plan

@@ -1,9 +1,15 @@
-// The code of a model: the expressions to evaluate, in order, most of them by a look into a table (crate fusing). What is wanted is only
-// guessed; what is used is checked, and where a check fails there is no code.
+// What is made once for a list of ticks: code, which is the expressions to evaluate, in order, most of them by a look into a table (crate
+// fusing); one piece for what registers load and ask for, one for the outputs. What is wanted is only guessed; what is used is checked, and
+// where a check fails there is no code.
+use crate::lists::list_controls;
+use crate::lists::list_outputs;
+use crate::lists::list_registers;
+use crate::marks::driver_marked;
 use crate::marks::is_marked;
 use crate::marks::ready;
 use crate::tables::offset;
 use fusing::fill_forms;
+use simulation::Driver;
 use simulation::index;
 use simulation::index::field;
 use simulation::index::size;
@@ -12,22 +18,33 @@ use simulation::zero::zero_bytes;
 ghost use mathlib.Core.Path.{_≡_};
 ghost use mathlib.Core.Bool.{Bool, true};
 ghost use mathlib.Core.List.{List};
+ghost use mathlib.Core.Option.{some};
 ghost use Prim.Native.Nat.{ℕ, _+_, _*_, _≤_, _<_};
 ghost use lib.ListN.{length, getD, take, drop, set};
-ghost use Rattle.simulation.specs.Index.{recordsIn, widthsIn, startOf, Starts, Driven};
+ghost use Rattle.simulation.specs.Tick.{given, assigns};
+ghost use Rattle.simulation.specs.Index.{recordsIn, widthsIn, startOf, stmtsIn, Starts, Driven};
 ghost use Rattle.ordering.specs.Words.{Tabled};
 ghost use Rattle.ordering.specs.Marks.{marked};
 ghost use Rattle.evaluation.specs.Ready.{Prepared, modelIn};
 ghost use Rattle.evaluation.specs.Ticks.{Ordered};
 ghost use Rattle.evaluation.specs.Loads.{stmtIn, Stated, Begins, Names};
-ghost use Rattle.coding.specs.Coded.{bitsIn, InCode, Computable, Coded, Coding};
-ghost use Rattle.coding.specs.Emitting.{Unplaced, Placed, Places, MarksNamed, Emitting, Emits, EmitsAll};
+ghost use Rattle.evaluation.specs.Late.{Among, Loaded, Registers};
+ghost use Rattle.fusing.specs.Form.{Formed};
+ghost use Rattle.coding.specs.Coded.{bitsIn, Computable, Coded};
+ghost use Rattle.coding.specs.Emitting.{Unplaced, Placed, Places, MarksLoaded, MarksDrivers, Emitting, Emits, EmitsAll};
+ghost use Rattle.runner.specs.Plan.{Planning};
 
-// How many words the code has, none if there is no code; the bits of all expressions, and of all signals; how much of the order is lent.
+// Whether there is code; the bits of all expressions, and of all signals; how many registers, signals that they ask for and outputs are
+// listed; how many words the two pieces of code have; how much of the order is lent.
 pub struct Code {
-    pub words: usize,
+    pub usable: bool,
     pub base: usize,
     pub state: usize,
+    pub registers: usize,
+    pub controls: usize,
+    pub outputs: usize,
+    pub first: usize,
+    pub second: usize,
     pub used: usize,
 }
 
@@ -79,18 +96,49 @@ fn want_stmt(
     want_expr(exprs, expr_table, field(stmts, at, size, 8), values);
 }
 
-fn want_named(exprs: &[u32], expr_table: &[u32], stmts: &[u32], values: &mut [u8])
-    requires { ⌜ Unplaced (now values) ⌝ }
+// What the statements name that begin at k words of a list.
+fn want_loads(
+    exprs: &[u32],
+    expr_table: &[u32],
+    stmts: &[u32],
+    order: &[u32],
+    from: usize,
+    k: usize,
+    values: &mut [u8],
+)
+    requires { ⌜ (from + k ≤ length (now order)) × Unplaced (now values) ⌝ }
     ensures { λ _. ⌜ Unplaced (now (values .exit)) ⌝ }
 {
-    let mut at: usize = 0;
-    while at < stmts.len() {
+    let mut j: usize = 0;
+    while j < k {
+        let at = wide(order[from + j]);
         let size = size(stmts, at);
-        if size == 0 {
-            return;
-        }
         want_stmt(exprs, expr_table, stmts, at, size, values);
-        at += size;
+        j += 1;
+    }
+}
+
+// What is assigned to k signals of a list.
+fn want_drivers(
+    exprs: &[u32],
+    expr_table: &[u32],
+    stmts: &[u32],
+    driver_table: &[u32],
+    order: &[u32],
+    from: usize,
+    k: usize,
+    values: &mut [u8],
+)
+    requires { ⌜ (from + k ≤ length (now order)) × Unplaced (now values) ⌝ }
+    ensures { λ _. ⌜ Unplaced (now (values .exit)) ⌝ }
+{
+    let mut j: usize = 0;
+    while j < k {
+        match index::driver(stmts, driver_table, wide(order[from + j])) {
+            Driver::By(d) => want_expr(exprs, expr_table, d, values),
+            Driver::None => {}
+        }
+        j += 1;
     }
 }
 
@@ -132,7 +180,7 @@ fn want_inputs(
     e: usize,
     values: &mut [u8],
 )
-    requires { ⌜ (8 * n ≤ length (now order)) × Unplaced (now values) ⌝ }
+    requires { ⌜ (7 * n ≤ length (now order)) × Unplaced (now values) ⌝ }
     ensures { λ _. ⌜ Unplaced (now (values .exit)) ⌝ }
 {
     if e >= n {
@@ -141,7 +189,7 @@ fn want_inputs(
     if !wanted(exprs, expr_table, values, e) {
         return;
     }
-    let at = 2 * n + 6 * e;
+    let at = n + 6 * e;
     if order[at] < 65536 {
         want_form(order, at, values);
         return;
@@ -158,7 +206,7 @@ fn want_needed(
     n: usize,
     values: &mut [u8],
 )
-    requires { ⌜ (8 * n ≤ length (now order)) × Unplaced (now values) ⌝ }
+    requires { ⌜ (7 * n ≤ length (now order)) × Unplaced (now values) ⌝ }
     ensures { λ _. ⌜ Unplaced (now (values .exit)) ⌝ }
 {
     let mut i = n;
@@ -196,10 +244,10 @@ fn computable(
     marks: &[u8],
     e: usize,
 ) -> bool
-    requires { ⌜ Tabled (now exprs) (now starts) (now stmts) (now «driver_table») × (e < length (recordsIn (now exprs))) × (n ≡ length (recordsIn (now exprs))) × (8 * n ≤ length (now order)) × (base ≡ bitsIn (now exprs)) ⌝ }
-    ensures { λ r. ⌜ ((signals : List ℕ) (k : ℕ) → top ≡ bitsIn (now (exprs .entry)) + bitsIn signals → Emitting signals (now (exprs .entry)) (now (stmts .entry)) n k (now (order .entry)) (now (values .entry)) (now (marks .entry)) → r ≡ true → Computable signals (now (exprs .entry)) (now (stmts .entry)) (InCode (now (order .entry)) n k) (drop (2 * n) (now (order .entry))) e) ⌝ }
+    requires { ⌜ Tabled (now exprs) (now starts) (now stmts) (now «driver_table») × (e < length (recordsIn (now exprs))) × (n ≡ length (recordsIn (now exprs))) × (7 * n ≤ length (now order)) × (base ≡ bitsIn (now exprs)) ⌝ }
+    ensures { λ r. ⌜ ((signals : List ℕ) (from k : ℕ) → top ≡ bitsIn (now (exprs .entry)) + bitsIn signals → Emitting signals (now (exprs .entry)) (now (stmts .entry)) n from k (now (order .entry)) (now (values .entry)) (now (marks .entry)) → r ≡ true → Computable signals (now (exprs .entry)) (now (stmts .entry)) (Among (now (order .entry)) from k) (drop n (now (order .entry))) e) ⌝ }
 {
-    let at = 2 * n + 6 * e;
+    let at = n + 6 * e;
     if order[at] >= 65536 {
         return ready(exprs, starts, stmts, driver_table, marks, e);
     }
@@ -236,21 +284,22 @@ fn put(
     expr_table: &[u32],
     signal_table: &[u32],
     n: usize,
+    from: usize,
     k: usize,
     e: u32,
     order: &mut [u32],
     values: &mut [u8],
     marks: &mut [u8],
 )
-    requires { ⌜ Prepared (now signals) (now exprs) (now stmts) (now «expr_table») (now «signal_table») × (n ≡ length (recordsIn (now exprs))) × (n ≤ length (now marks)) × (bitsIn (now exprs) ≤ length (now values)) × Emitting (now signals) (now exprs) (now stmts) n k (now order) (now values) (now marks) × (k < n) × Computable (now signals) (now exprs) (now stmts) (InCode (now order) n k) (drop (2 * n) (now order)) e ⌝ }
-    ensures emitted { λ _. ⌜ Emitting (now (signals .entry)) (now (exprs .entry)) (now (stmts .entry)) n (k + 1) (now (order .exit)) (now (values .exit)) (now (marks .exit)) ⌝ }
-    ensures kept { λ _. ⌜ take n (now (order .exit)) ≡ take n (now (order .entry)) ⌝ }
+    requires { ⌜ Prepared (now signals) (now exprs) (now stmts) (now «expr_table») (now «signal_table») × (n ≡ length (recordsIn (now exprs))) × (n ≤ length (now marks)) × (bitsIn (now exprs) ≤ length (now values)) × Emitting (now signals) (now exprs) (now stmts) n from k (now order) (now values) (now marks) × (k < n) × Computable (now signals) (now exprs) (now stmts) (Among (now order) from k) (drop n (now order)) e ⌝ }
+    ensures emitted { λ _. ⌜ Emitting (now (signals .entry)) (now (exprs .entry)) (now (stmts .entry)) n from (k + 1) (now (order .exit)) (now (values .exit)) (now (marks .exit)) ⌝ }
+    ensures kept { λ _. ⌜ take from (now (order .exit)) ≡ take from (now (order .entry)) ⌝ }
 {
-    order[n + k] = e;
+    order[from + k] = e;
     let x = wide(e);
-    let from = offset(exprs, expr_table, x);
+    let begin = offset(exprs, expr_table, x);
     let end = offset(exprs, expr_table, x + 1);
-    place(values, from, end);
+    place(values, begin, end);
     marks[x] = 1;
 }
 
@@ -264,6 +313,7 @@ fn emit(
     signal_table: &[u32],
     driver_table: &[u32],
     n: usize,
+    from: usize,
     base: usize,
     top: usize,
     i: usize,
@@ -272,8 +322,8 @@ fn emit(
     values: &mut [u8],
     marks: &mut [u8],
 ) -> usize
-    requires { ⌜ Prepared (now signals) (now exprs) (now stmts) (now «expr_table») (now «signal_table») × Tabled (now exprs) (now starts) (now stmts) (now «driver_table») × (n ≡ length (recordsIn (now exprs))) × (n ≤ length (now marks)) × (base ≡ bitsIn (now exprs)) × (top ≡ bitsIn (now exprs) + bitsIn (now signals)) × (base ≤ length (now values)) × Emitting (now signals) (now exprs) (now stmts) n k (now order) (now values) (now marks) × (k ≤ i) × (i < n) ⌝ }
-    ensures { λ r. ⌜ Emits (now (signals .entry)) (now (exprs .entry)) (now (stmts .entry)) n k r (now (order .entry)) (now (order .exit)) (now (values .exit)) (now (marks .exit)) ⌝ }
+    requires { ⌜ Prepared (now signals) (now exprs) (now stmts) (now «expr_table») (now «signal_table») × Tabled (now exprs) (now starts) (now stmts) (now «driver_table») × (n ≡ length (recordsIn (now exprs))) × (n ≤ length (now marks)) × (base ≡ bitsIn (now exprs)) × (top ≡ bitsIn (now exprs) + bitsIn (now signals)) × (base ≤ length (now values)) × Emitting (now signals) (now exprs) (now stmts) n from k (now order) (now values) (now marks) × (k ≤ i) × (i < n) ⌝ }
+    ensures { λ r. ⌜ Emits (now (signals .entry)) (now (exprs .entry)) (now (stmts .entry)) n from k r (now (order .entry)) (now (order .exit)) (now (values .exit)) (now (marks .exit)) ⌝ }
 {
     let word = order[i];
     let e = wide(word);
@@ -305,6 +355,7 @@ fn emit(
         expr_table,
         signal_table,
         n,
+        from,
         k,
         word,
         order,
@@ -324,14 +375,15 @@ fn emit_all(
     signal_table: &[u32],
     driver_table: &[u32],
     n: usize,
+    from: usize,
     base: usize,
     top: usize,
     order: &mut [u32],
     values: &mut [u8],
     marks: &mut [u8],
 ) -> usize
-    requires { ⌜ Prepared (now signals) (now exprs) (now stmts) (now «expr_table») (now «signal_table») × Tabled (now exprs) (now starts) (now stmts) (now «driver_table») × (n ≡ length (recordsIn (now exprs))) × (n ≤ length (now marks)) × (base ≡ bitsIn (now exprs)) × (top ≡ bitsIn (now exprs) + bitsIn (now signals)) × (base ≤ length (now values)) × Emitting (now signals) (now exprs) (now stmts) n 0 (now order) (now values) (now marks) ⌝ }
-    ensures { λ r. ⌜ EmitsAll (now (signals .entry)) (now (exprs .entry)) (now (stmts .entry)) n r (now (order .entry)) (now (order .exit)) (now (values .exit)) (now (marks .exit)) ⌝ }
+    requires { ⌜ Prepared (now signals) (now exprs) (now stmts) (now «expr_table») (now «signal_table») × Tabled (now exprs) (now starts) (now stmts) (now «driver_table») × (n ≡ length (recordsIn (now exprs))) × (n ≤ length (now marks)) × (base ≡ bitsIn (now exprs)) × (top ≡ bitsIn (now exprs) + bitsIn (now signals)) × (base ≤ length (now values)) × Emitting (now signals) (now exprs) (now stmts) n from 0 (now order) (now values) (now marks) ⌝ }
+    ensures { λ r. ⌜ EmitsAll (now (signals .entry)) (now (exprs .entry)) (now (stmts .entry)) n from r (now (order .entry)) (now (order .exit)) (now (values .exit)) (now (marks .exit)) ⌝ }
 {
     let mut k: usize = 0;
     let mut i: usize = 0;
@@ -345,6 +397,7 @@ fn emit_all(
             signal_table,
             driver_table,
             n,
+            from,
             base,
             top,
             i,
@@ -378,27 +431,54 @@ fn named(signals: &[u32], stmts: &[u32], at: usize, marks: &[u8]) -> bool
     is_marked(marks, wide(stmts[at + 9]))
 }
 
-// All that statements name is marked.
-fn all_named(signals: &[u32], stmts: &[u32], marks: &[u8]) -> bool
-    requires { ⌜ Stated (now signals) (now stmts) ⌝ }
-    ensures { λ r. ⌜ (r ≡ true → MarksNamed (now (stmts .entry)) (now (marks .entry))) ⌝ }
+// What the registers that begin at k words of a list load is marked.
+fn loads_marked(
+    signals: &[u32],
+    stmts: &[u32],
+    order: &[u32],
+    from: usize,
+    k: usize,
+    marks: &[u8],
+) -> bool
+    requires { ⌜ Stated (now signals) (now stmts) × (from + k ≤ length (now order)) × Registers (now stmts) (now order) from k ⌝ }
+    ensures { λ r. ⌜ (r ≡ true → MarksLoaded (now (stmts .entry)) (now (marks .entry))) ⌝ }
 {
-    let mut at: usize = 0;
-    while at < stmts.len() {
-        let size = size(stmts, at);
-        if size == 0 {
-            return true;
-        }
-        if !named(signals, stmts, at, marks) {
+    let mut j: usize = 0;
+    while j < k {
+        if !named(signals, stmts, wide(order[from + j]), marks) {
             return false;
         }
-        at += size;
+        j += 1;
     }
     true
 }
 
-// The code of a model, in a table with room for it: how many words, none if there is no code. Values and marks are work.
-fn encode_in(
+// What is assigned to k signals of a list is marked.
+fn drivers_marked(
+    stmts: &[u32],
+    driver_table: &[u32],
+    order: &[u32],
+    from: usize,
+    k: usize,
+    marks: &[u8],
+) -> bool
+    requires { ⌜ Driven (now stmts) (now «driver_table») × (from + k ≤ length (now order)) ⌝ }
+    ensures { λ r. ⌜ (r ≡ true → MarksDrivers (now (stmts .entry)) (now (order .entry)) from k (now (marks .entry))) ⌝ }
+{
+    let mut j: usize = 0;
+    while j < k {
+        if !driver_marked(stmts, driver_table, marks, wide(order[from + j]), true) {
+            return false;
+        }
+        j += 1;
+    }
+    true
+}
+
+// THE TWO PIECES
+
+// Code for what the listed registers load and what is assigned to the listed signals, from a word on behind the lists: how many words, or one past n. Values and marks are work.
+fn first_code(
     signals: &[u32],
     exprs: &[u32],
     stmts: &[u32],
@@ -407,30 +487,26 @@ fn encode_in(
     signal_table: &[u32],
     driver_table: &[u32],
     n: usize,
+    from: usize,
     base: usize,
     top: usize,
+    loads: usize,
+    registers: usize,
+    asked: usize,
+    controls: usize,
     order: &mut [u32],
     values: &mut [u8],
     marks: &mut [u8],
 ) -> usize
-    requires { ⌜ Prepared (now signals) (now exprs) (now stmts) (now «expr_table») (now «signal_table») × Starts (now exprs) (now starts) × Driven (now stmts) (now «driver_table») × (n ≡ length (recordsIn (now exprs))) × (n ≤ length (now marks)) × (base ≡ bitsIn (now exprs)) × (top ≡ bitsIn (now exprs) + bitsIn (now signals)) × (base ≤ length (now values)) × (8 * n ≤ length (now order)) ⌝ }
-    ensures coded { λ r. ⌜ (0 < r → Coded (now (signals .entry)) (now (exprs .entry)) (now (stmts .entry)) n r (now (order .exit))) ⌝ }
-    ensures kept { λ _. ⌜ take n (now (order .exit)) ≡ take n (now (order .entry)) ⌝ }
+    requires { ⌜ Prepared (now signals) (now exprs) (now stmts) (now «expr_table») (now «signal_table») × Starts (now exprs) (now starts) × Driven (now stmts) (now «driver_table») × (n ≡ length (recordsIn (now exprs))) × (n ≤ length (now marks)) × (base ≡ bitsIn (now exprs)) × (top ≡ bitsIn (now exprs) + bitsIn (now signals)) × (base ≤ length (now values)) × (7 * n ≤ from) × (from + n ≤ length (now order)) × Formed (now signals) (now exprs) (now stmts) (drop n (now order)) n × (loads + registers ≤ from) × Registers (now stmts) (now order) loads registers × (asked + controls ≤ from) ⌝ }
+    ensures kept { λ _. ⌜ take from (now (order .exit)) ≡ take from (now (order .entry)) ⌝ }
+    ensures coded { λ r. ⌜ (r ≤ n → Coded (now (signals .entry)) (now (exprs .entry)) (now (stmts .entry)) n from r (now (order .exit))) ⌝ }
+    ensures loaded { λ r. ⌜ (r ≤ n → (e : ℕ) → Loaded (now (stmts .entry)) e → Among (now (order .exit)) from r e) ⌝ }
+    ensures driven { λ r. ⌜ (r ≤ n → (x d : ℕ) → Among (now (order .exit)) asked controls x → given assigns (stmtsIn (now (stmts .entry))) x ≡ some d → Among (now (order .exit)) from r d) ⌝ }
 {
-    fill_forms(
-        signals,
-        exprs,
-        stmts,
-        starts,
-        expr_table,
-        signal_table,
-        driver_table,
-        n,
-        2 * n,
-        order,
-    );
     zero_bytes(values);
-    want_named(exprs, expr_table, stmts, values);
+    want_loads(exprs, expr_table, stmts, order, loads, registers, values);
+    want_drivers(exprs, expr_table, stmts, driver_table, order, asked, controls, values);
     want_needed(exprs, starts, expr_table, order, n, values);
     zero_bytes(marks);
     let k = emit_all(
@@ -442,6 +518,7 @@ fn encode_in(
         signal_table,
         driver_table,
         n,
+        from,
         base,
         top,
         order,
@@ -449,12 +526,195 @@ fn encode_in(
         marks,
     );
     if k > n {
-        return 0;
+        return k;
     }
-    if !all_named(signals, stmts, marks) {
-        return 0;
+    if !loads_marked(signals, stmts, order, loads, registers, marks) {
+        return n + 1;
+    }
+    if !drivers_marked(stmts, driver_table, order, asked, controls, marks) {
+        return n + 1;
     }
     k
+}
+
+// Code for what is assigned to the listed signals alone.
+fn second_code(
+    signals: &[u32],
+    exprs: &[u32],
+    stmts: &[u32],
+    starts: &[u32],
+    expr_table: &[u32],
+    signal_table: &[u32],
+    driver_table: &[u32],
+    n: usize,
+    from: usize,
+    base: usize,
+    top: usize,
+    shown: usize,
+    outputs: usize,
+    order: &mut [u32],
+    values: &mut [u8],
+    marks: &mut [u8],
+) -> usize
+    requires { ⌜ Prepared (now signals) (now exprs) (now stmts) (now «expr_table») (now «signal_table») × Starts (now exprs) (now starts) × Driven (now stmts) (now «driver_table») × (n ≡ length (recordsIn (now exprs))) × (n ≤ length (now marks)) × (base ≡ bitsIn (now exprs)) × (top ≡ bitsIn (now exprs) + bitsIn (now signals)) × (base ≤ length (now values)) × (7 * n ≤ from) × (from + n ≤ length (now order)) × Formed (now signals) (now exprs) (now stmts) (drop n (now order)) n × (shown + outputs ≤ from) ⌝ }
+    ensures kept { λ _. ⌜ take from (now (order .exit)) ≡ take from (now (order .entry)) ⌝ }
+    ensures coded { λ r. ⌜ (r ≤ n → Coded (now (signals .entry)) (now (exprs .entry)) (now (stmts .entry)) n from r (now (order .exit))) ⌝ }
+    ensures driven { λ r. ⌜ (r ≤ n → (x d : ℕ) → Among (now (order .exit)) shown outputs x → given assigns (stmtsIn (now (stmts .entry))) x ≡ some d → Among (now (order .exit)) from r d) ⌝ }
+{
+    zero_bytes(values);
+    want_drivers(exprs, expr_table, stmts, driver_table, order, shown, outputs, values);
+    want_needed(exprs, starts, expr_table, order, n, values);
+    zero_bytes(marks);
+    let k = emit_all(
+        signals,
+        exprs,
+        stmts,
+        starts,
+        expr_table,
+        signal_table,
+        driver_table,
+        n,
+        from,
+        base,
+        top,
+        order,
+        values,
+        marks,
+    );
+    if k > n {
+        return k;
+    }
+    if !drivers_marked(stmts, driver_table, order, shown, outputs, marks) {
+        return n + 1;
+    }
+    k
+}
+
+// No code; so much of the order is lent.
+fn none(used: usize) -> Code
+    ensures { λ r. ⌜ (r .usable ≡ false) × (r .used ≡ used) ⌝ }
+{
+    Code {
+        usable: false,
+        base: 0,
+        state: 0,
+        registers: 0,
+        controls: 0,
+        outputs: 0,
+        first: 0,
+        second: 0,
+        used: used,
+    }
+}
+
+// Forms, lists and code in a table with room for them. Values and both marks are work.
+fn encode_in(
+    signals: &[u32],
+    exprs: &[u32],
+    stmts: &[u32],
+    starts: &[u32],
+    expr_table: &[u32],
+    signal_table: &[u32],
+    driver_table: &[u32],
+    n: usize,
+    count: usize,
+    base: usize,
+    state: usize,
+    order: &mut [u32],
+    values: &mut [u8],
+    marks: &mut [u8],
+    asked: &mut [u8],
+) -> Code
+    requires { ⌜ Prepared (now signals) (now exprs) (now stmts) (now «expr_table») (now «signal_table») × Starts (now exprs) (now starts) × Driven (now stmts) (now «driver_table») × (n ≡ length (recordsIn (now exprs))) × (count ≡ length (recordsIn (now signals))) × (n ≤ length (now marks)) × (count ≤ length (now asked)) × (base ≡ bitsIn (now exprs)) × (state ≡ bitsIn (now signals)) × (base + state ≤ length (now values)) × (9 * n + 3 * count ≤ length (now order)) ⌝ }
+    ensures planned { λ r. ⌜ Planning (now (signals .entry)) (now (exprs .entry)) (now (stmts .entry)) n count r (now (order .exit)) (now (values .exit)) ⌝ }
+    ensures kept { λ _. ⌜ take n (now (order .exit)) ≡ take n (now (order .entry)) ⌝ }
+    ensures used { λ r. ⌜ r .used ≡ length (now (order .entry)) ⌝ }
+{
+    let all = order.len();
+    fill_forms(
+        signals,
+        exprs,
+        stmts,
+        starts,
+        expr_table,
+        signal_table,
+        driver_table,
+        n,
+        n,
+        order,
+    );
+    let loads = 7 * n;
+    let registers = list_registers(signals, stmts, order, loads, count);
+    if registers > count {
+        return none(all);
+    }
+    let controls_at = loads + count;
+    let controls = list_controls(signals, stmts, order, loads, registers, controls_at, count, asked);
+    if controls > count {
+        return none(all);
+    }
+    let outputs_at = controls_at + count;
+    let outputs = list_outputs(signals, order, outputs_at, count);
+    if outputs > count {
+        return none(all);
+    }
+    let first_at = outputs_at + count;
+    let top = base + state;
+    let first = first_code(
+        signals,
+        exprs,
+        stmts,
+        starts,
+        expr_table,
+        signal_table,
+        driver_table,
+        n,
+        first_at,
+        base,
+        top,
+        loads,
+        registers,
+        controls_at,
+        controls,
+        order,
+        values,
+        marks,
+    );
+    if first > n {
+        return none(all);
+    }
+    let second = second_code(
+        signals,
+        exprs,
+        stmts,
+        starts,
+        expr_table,
+        signal_table,
+        driver_table,
+        n,
+        first_at + n,
+        base,
+        top,
+        outputs_at,
+        outputs,
+        order,
+        values,
+        marks,
+    );
+    if second > n {
+        return none(all);
+    }
+    Code {
+        usable: true,
+        base: base,
+        state: state,
+        registers: registers,
+        controls: controls,
+        outputs: outputs,
+        first: first,
+        second: second,
+        used: all,
+    }
 }
 
 // The code of a prepared model of n expressions and `count` signals, of which `ordered` stand in the order.
@@ -472,39 +732,28 @@ pub fn encode(
     order: &mut [u32],
     values: &mut [u8],
     marks: &mut [u8],
+    asked: &mut [u8],
 ) -> Code
-    requires { ⌜ Prepared (now signals) (now exprs) (now stmts) (now «expr_table») (now «signal_table») × Starts (now exprs) (now starts) × Driven (now stmts) (now «driver_table») × (n ≡ length (recordsIn (now exprs))) × (count ≡ length (recordsIn (now signals))) × (n ≤ length (now marks)) × (bitsIn (now exprs) ≤ length (now values)) × (bitsIn (now signals) ≤ 18446744073709551615) × (ordered ≤ length (now order)) × Ordered (modelIn (now signals) (now exprs) (now stmts)) n (take ordered (now order)) ⌝ }
-    ensures coded { λ r. ⌜ Coding (now (signals .entry)) (now (exprs .entry)) (now (stmts .entry)) n (r .words) (r .base) (r .state) (take (r .used) (now (order .exit))) (now (values .exit)) ⌝ }
+    requires { ⌜ Prepared (now signals) (now exprs) (now stmts) (now «expr_table») (now «signal_table») × Starts (now exprs) (now starts) × Driven (now stmts) (now «driver_table») × (n ≡ length (recordsIn (now exprs))) × (count ≡ length (recordsIn (now signals))) × (n ≤ length (now marks)) × (count ≤ length (now asked)) × (bitsIn (now exprs) ≤ length (now values)) × (bitsIn (now signals) ≤ 18446744073709551615) × (ordered ≤ length (now order)) × Ordered (modelIn (now signals) (now exprs) (now stmts)) n (take ordered (now order)) ⌝ }
+    ensures planned { λ r. ⌜ Planning (now (signals .entry)) (now (exprs .entry)) (now (stmts .entry)) n count r (take (r .used) (now (order .exit))) (now (values .exit)) ⌝ }
     ensures ordered { λ r. ⌜ Ordered (modelIn (now (signals .entry)) (now (exprs .entry)) (now (stmts .entry))) n (take (r .used) (now (order .exit))) ⌝ }
     ensures inside { λ r. ⌜ r .used ≤ length (now (order .exit)) ⌝ }
 {
+    if ordered != n {
+        return none(ordered);
+    }
+    if order.len() / 9 < n {
+        return none(ordered);
+    }
+    if (order.len() - 9 * n) / 3 < count {
+        return none(ordered);
+    }
     let base = offset(exprs, expr_table, n);
     let state = offset(signals, signal_table, count);
-    if ordered != n {
-        return Code {
-            words: 0,
-            base: base,
-            state: state,
-            used: ordered,
-        };
-    }
-    if order.len() / 8 < n {
-        return Code {
-            words: 0,
-            base: base,
-            state: state,
-            used: ordered,
-        };
-    }
     if values.len() - base < state {
-        return Code {
-            words: 0,
-            base: base,
-            state: state,
-            used: ordered,
-        };
+        return none(ordered);
     }
-    let k = encode_in(
+    encode_in(
         signals,
         exprs,
         stmts,
@@ -513,28 +762,12 @@ pub fn encode(
         signal_table,
         driver_table,
         n,
+        count,
         base,
-        base + state,
+        state,
         order,
         values,
         marks,
-    );
-    Code {
-        words: k,
-        base: base,
-        state: state,
-        used: order.len(),
-    }
-}
-
-// None.
-pub fn no_code() -> Code
-    ensures { λ r. ⌜ r .words ≡ 0 ⌝ }
-{
-    Code {
-        words: 0,
-        base: 0,
-        state: 0,
-        used: 0,
-    }
+        asked,
+    )
 }

@@ -1,6 +1,5 @@
 // The values of a model's expressions along its code.
 use crate::bytes::copy;
-use crate::code::Code;
 use crate::expression::eval_expr;
 use simulation::index::wide;
 ghost use mathlib.Core.Path.{_≡_};
@@ -10,8 +9,8 @@ ghost use lib.ListN.{length, getD};
 ghost use Rattle.simulation.specs.Index.{recordsIn, widthsIn, Starts, Driven};
 ghost use Rattle.simulation.specs.Tick.{looped};
 ghost use Rattle.evaluation.specs.Ready.{Prepared, Room, modelIn};
-ghost use Rattle.evaluation.specs.Ticks.{Filled, SettlesNamed};
-ghost use Rattle.coding.specs.Coded.{Coding, looked as lookedIn, lookedUp};
+ghost use Rattle.evaluation.specs.Ticks.{Filled};
+ghost use Rattle.coding.specs.Coded.{bitsIn, Coded, SettlesCode, looked as lookedIn, lookedUp};
 
 fn digit(x: u8) -> u32
     ensures { λ r. ⌜ r ≡ x ⌝ }
@@ -39,7 +38,7 @@ fn look_up(order: &[u32], at: usize, values: &mut [u8])
     values[wide(order[at + 1])] = looked(order[at], a, b, c, d);
 }
 
-// Along the code, which there is.
+// Along k code words, from a word on, over the signals' bytes; `base` and `state` are the bits of all expressions and signals.
 pub fn settle_coded(
     signals: &[u32],
     exprs: &[u32],
@@ -50,19 +49,21 @@ pub fn settle_coded(
     driver_table: &[u32],
     order: &[u32],
     n: usize,
-    code: Code,
+    from: usize,
+    k: usize,
+    base: usize,
+    state: usize,
     bytes: &[u8],
     values: &mut [u8],
 )
-    requires { ⌜ Prepared (now signals) (now exprs) (now stmts) (now «expr_table») (now «signal_table») × Starts (now exprs) (now starts) × Driven (now stmts) (now «driver_table») × Room (now signals) (now exprs) (now bytes) (now values) × (n ≡ length (recordsIn (now exprs))) × Coding (now signals) (now exprs) (now stmts) n (code .words) (code .base) (code .state) (now order) (now values) × (0 < code .words) × (looped (modelIn (now signals) (now exprs) (now stmts)) ≡ none) × Filled (widthsIn (now exprs)) (now values) ⌝ }
-    ensures { λ _. ⌜ SettlesNamed (now (signals .entry)) (now (exprs .entry)) (now (stmts .entry)) (now (bytes .entry)) (now (values .exit)) ⌝ }
+    requires { ⌜ Prepared (now signals) (now exprs) (now stmts) (now «expr_table») (now «signal_table») × Starts (now exprs) (now starts) × Driven (now stmts) (now «driver_table») × Room (now signals) (now exprs) (now bytes) (now values) × (n ≡ length (recordsIn (now exprs))) × Coded (now signals) (now exprs) (now stmts) n from k (now order) × (base ≡ bitsIn (now exprs)) × (state ≡ bitsIn (now signals)) × (bitsIn (now exprs) + bitsIn (now signals) ≤ length (now values)) × (looped (modelIn (now signals) (now exprs) (now stmts)) ≡ none) × Filled (widthsIn (now exprs)) (now values) ⌝ }
+    ensures { λ _. ⌜ SettlesCode (now (signals .entry)) (now (exprs .entry)) (now (stmts .entry)) (now (order .entry)) from k (now (bytes .entry)) (now (values .exit)) ⌝ }
 {
-    copy(values, code.base, bytes, 0, code.state);
-    let k = code.words;
+    copy(values, base, bytes, 0, state);
     let mut j: usize = 0;
     while j < k {
-        let e = wide(order[n + j]);
-        let at = 2 * n + 6 * e;
+        let e = wide(order[from + j]);
+        let at = n + 6 * e;
         if order[at] < 65536 {
             look_up(order, at, values);
         } else {

@@ -19,6 +19,7 @@ ghost use Rattle.simulation.specs.Tick.{asserted as assertedIn};
 ghost use Rattle.evaluation.specs.Bytes.{Holds};
 ghost use Rattle.evaluation.specs.Ready.{Prepared, Room};
 ghost use Rattle.evaluation.specs.Ticks.{Commits};
+ghost use Rattle.evaluation.specs.Late.{Registers, LoadsMarked, LoadsListed};
 ghost use Rattle.evaluation.specs.Loads.{stmtIn, Stated, Begins, Control, controlAt, enableAt, byMarks, Markable, MarkOf, NotesOne, Noted, StoresMarked, StoresLoad};
 
 // An edge (0 rises, 1 falls) of signal c fires.
@@ -70,7 +71,7 @@ fn control(
 }
 
 // The word of the enable of the register at a word.
-fn enable_at(stmts: &[u32], at: usize) -> usize
+pub fn enable_at(stmts: &[u32], at: usize) -> usize
     requires { ⌜ at + 7 < length (now stmts) ⌝ }
     ensures { λ r. ⌜ r ≡ enableAt (now (stmts .entry)) at ⌝ }
 {
@@ -238,6 +239,98 @@ fn store_loads(
         );
         at += size;
     }
+}
+
+// BY A LIST of the words at which registers begin: the others load nothing
+
+fn note_listed(
+    signals: &[u32],
+    stmts: &[u32],
+    signal_table: &[u32],
+    fired: Fired,
+    order: &[u32],
+    from: usize,
+    k: usize,
+    bytes: &[u8],
+    marks: &mut [u8],
+)
+    requires { ⌜ Indexed (widthsIn (now signals)) (now «signal_table») × (sumTo (widthsIn (now signals)) (length (recordsIn (now signals))) ≤ length (now bytes)) × Stated (now signals) (now stmts) × (length (recordsIn (now signals)) ≤ length (now marks)) × (from + k ≤ length (now order)) × Registers (now stmts) (now order) from k ⌝ }
+    ensures { λ _. ⌜ Noted (now (signals .entry)) (now (stmts .entry)) (firing (firedOf fired)) (now (bytes .entry)) (length (recordsIn (now (stmts .entry)))) (now (marks .exit)) ⌝ }
+{
+    let mut j: usize = 0;
+    while j < k {
+        let at = wide(order[from + j]);
+        note_load(signals, stmts, signal_table, at, fired, bytes, marks);
+        j += 1;
+    }
+}
+
+fn load_listed(
+    signals: &[u32],
+    exprs: &[u32],
+    stmts: &[u32],
+    expr_table: &[u32],
+    signal_table: &[u32],
+    order: &[u32],
+    from: usize,
+    k: usize,
+    values: &[u8],
+    marks: &[u8],
+    bytes: &mut [u8],
+)
+    requires { ⌜ Prepared (now signals) (now exprs) (now stmts) (now «expr_table») (now «signal_table») × Room (now signals) (now exprs) (now bytes) (now values) × (length (recordsIn (now signals)) ≤ length (now marks)) × (from + k ≤ length (now order)) × Registers (now stmts) (now order) from k ⌝ }
+    ensures { λ _. ⌜ LoadsMarked (now (signals .entry)) (now (exprs .entry)) (now (stmts .entry)) (now (values .entry)) (now (marks .entry)) (now (bytes .entry)) (now (bytes .exit)) ⌝ }
+{
+    let mut j: usize = 0;
+    while j < k {
+        let at = wide(order[from + j]);
+        store_load(
+            signals,
+            exprs,
+            stmts,
+            expr_table,
+            signal_table,
+            values,
+            marks,
+            at,
+            bytes,
+        );
+        j += 1;
+    }
+}
+
+// The registers that begin at k words of a list load. The marks are work.
+pub fn commit_listed(
+    signals: &[u32],
+    exprs: &[u32],
+    stmts: &[u32],
+    expr_table: &[u32],
+    signal_table: &[u32],
+    fired: Fired,
+    order: &[u32],
+    from: usize,
+    k: usize,
+    values: &[u8],
+    marks: &mut [u8],
+    bytes: &mut [u8],
+)
+    requires { ⌜ Prepared (now signals) (now exprs) (now stmts) (now «expr_table») (now «signal_table») × Room (now signals) (now exprs) (now bytes) (now values) × (length (recordsIn (now signals)) ≤ length (now marks)) × (from + k ≤ length (now order)) × Registers (now stmts) (now order) from k ⌝ }
+    ensures { λ _. ⌜ LoadsListed (now (signals .entry)) (now (exprs .entry)) (now (stmts .entry)) (firing (firedOf fired)) (now (values .entry)) (now (bytes .entry)) (now (bytes .exit)) ⌝ }
+{
+    note_listed(signals, stmts, signal_table, fired, order, from, k, bytes, marks);
+    load_listed(
+        signals,
+        exprs,
+        stmts,
+        expr_table,
+        signal_table,
+        order,
+        from,
+        k,
+        values,
+        marks,
+        bytes,
+    );
 }
 
 // The registers load, with the values of all expressions. The marks are work.

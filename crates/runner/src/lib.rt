@@ -1,10 +1,12 @@
 // The run of a model. All but its entries is private: it asks what they have checked.
 mod bytes; // bytes.rt: copies, tests, numbers
-mod code; // code.rt: the code of a model
-mod coded; // coded.rt: the values of a model's expressions along its code
+mod code; // code.rt: the plan of a list of ticks
+mod coded; // coded.rt: the values of expressions along code
 mod commit; // commit.rt: the registers load
 mod expression; // expression.rt: the value of one expression
+mod late; // late.rt: one tick by a plan
 mod list; // list.rt: a list of ticks
+mod lists; // lists.rt: what a plan lists
 mod loops; // loops.rt: the lowest signal on a loop
 mod marks; // marks.rt: what an expression needs, marked
 mod prepare; // prepare.rt: tables, order and loop of a model
@@ -16,7 +18,6 @@ mod tables; // tables.rt: where records and values stand, by tables
 mod ticks; // ticks.rt: one tick
 mod whole; // whole.rt: a whole list's run
 
-use code::no_code;
 use model_check::call::check_call;
 use ordering::Loop;
 use prepare::prepare;
@@ -94,7 +95,6 @@ fn run_checked(
                 driver_table,
                 &order[..ordered],
                 n,
-                no_code(),
                 s,
                 ticks,
                 fired,

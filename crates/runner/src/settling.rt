@@ -1,7 +1,4 @@
-// The values of expressions: along the code if there is one, else along an order if it has them all, else in passes, marking those that
-// are done.
-use crate::code::Code;
-use crate::coded::settle_coded;
+// The values of all expressions: along an order if it has them all, else in passes, marking those that are done.
 use crate::expression::eval_expr;
 use crate::loops::either;
 use crate::sort::adds_one;
@@ -16,8 +13,7 @@ ghost use Rattle.simulation.specs.Index.{recordsIn, widthsIn, Starts, Driven};
 ghost use Rattle.simulation.specs.Tick.{looped};
 ghost use Rattle.evaluation.specs.Ready.{Prepared, Room, modelIn};
 ghost use Rattle.evaluation.specs.Settling.{InMarks, RightOn, SettlesOne, SettlesPass};
-ghost use Rattle.evaluation.specs.Ticks.{Filled, Ordered, Settles, SettlesNamed, Settled};
-ghost use Rattle.coding.specs.Coded.{Coding};
+ghost use Rattle.evaluation.specs.Ticks.{Filled, Ordered, Settles, Settled};
 
 // Along an order of all n expressions.
 fn settle_ordered(
@@ -170,8 +166,8 @@ fn settle_marked(
     }
 }
 
-// Without code.
-fn settle_plain(
+// The values of the n expressions, and in each assigned one of the `count` signals its expression's.
+pub fn settle(
     signals: &[u32],
     exprs: &[u32],
     stmts: &[u32],
@@ -181,12 +177,13 @@ fn settle_plain(
     driver_table: &[u32],
     order: &[u32],
     n: usize,
-    bytes: &[u8],
+    count: usize,
+    bytes: &mut [u8],
     values: &mut [u8],
     marks: &mut [u8],
 )
-    requires { ⌜ Prepared (now signals) (now exprs) (now stmts) (now «expr_table») (now «signal_table») × Starts (now exprs) (now starts) × Driven (now stmts) (now «driver_table») × Room (now signals) (now exprs) (now bytes) (now values) × (n ≡ length (recordsIn (now exprs))) × (n ≤ length (now marks)) × Ordered (modelIn (now signals) (now exprs) (now stmts)) n (now order) × (looped (modelIn (now signals) (now exprs) (now stmts)) ≡ none) × Filled (widthsIn (now exprs)) (now values) ⌝ }
-    ensures { λ _. ⌜ SettlesNamed (now (signals .entry)) (now (exprs .entry)) (now (stmts .entry)) (now (bytes .entry)) (now (values .exit)) ⌝ }
+    requires { ⌜ Prepared (now signals) (now exprs) (now stmts) (now «expr_table») (now «signal_table») × Starts (now exprs) (now starts) × Driven (now stmts) (now «driver_table») × Room (now signals) (now exprs) (now bytes) (now values) × (n ≡ length (recordsIn (now exprs))) × (count ≡ length (recordsIn (now signals))) × (n ≤ length (now marks)) × Ordered (modelIn (now signals) (now exprs) (now stmts)) n (now order) × (looped (modelIn (now signals) (now exprs) (now stmts)) ≡ none) × Filled (widthsIn (now exprs)) (now values) ⌝ }
+    ensures { λ _. ⌜ Settled (now (signals .entry)) (now (exprs .entry)) (now (stmts .entry)) (now (bytes .entry)) (now (bytes .exit)) (now (values .exit)) ⌝ }
 {
     if n <= order.len() {
         settle_ordered(
@@ -211,59 +208,6 @@ fn settle_plain(
             expr_table,
             signal_table,
             driver_table,
-            n,
-            bytes,
-            values,
-            marks,
-        );
-    }
-}
-
-// The values of those of the n expressions that statements name, and in each assigned one of the `count` signals its expression's.
-pub fn settle(
-    signals: &[u32],
-    exprs: &[u32],
-    stmts: &[u32],
-    starts: &[u32],
-    expr_table: &[u32],
-    signal_table: &[u32],
-    driver_table: &[u32],
-    order: &[u32],
-    n: usize,
-    code: Code,
-    count: usize,
-    bytes: &mut [u8],
-    values: &mut [u8],
-    marks: &mut [u8],
-)
-    requires { ⌜ Prepared (now signals) (now exprs) (now stmts) (now «expr_table») (now «signal_table») × Starts (now exprs) (now starts) × Driven (now stmts) (now «driver_table») × Room (now signals) (now exprs) (now bytes) (now values) × (n ≡ length (recordsIn (now exprs))) × (count ≡ length (recordsIn (now signals))) × (n ≤ length (now marks)) × Ordered (modelIn (now signals) (now exprs) (now stmts)) n (now order) × (looped (modelIn (now signals) (now exprs) (now stmts)) ≡ none) × Filled (widthsIn (now exprs)) (now values) × Coding (now signals) (now exprs) (now stmts) n (code .words) (code .base) (code .state) (now order) (now values) ⌝ }
-    ensures { λ _. ⌜ Settled (now (signals .entry)) (now (exprs .entry)) (now (stmts .entry)) (now (bytes .entry)) (now (bytes .exit)) (now (values .exit)) ⌝ }
-{
-    if code.words > 0 {
-        settle_coded(
-            signals,
-            exprs,
-            stmts,
-            starts,
-            expr_table,
-            signal_table,
-            driver_table,
-            order,
-            n,
-            code,
-            bytes,
-            values,
-        );
-    } else {
-        settle_plain(
-            signals,
-            exprs,
-            stmts,
-            starts,
-            expr_table,
-            signal_table,
-            driver_table,
-            order,
             n,
             bytes,
             values,

@@ -6,10 +6,11 @@ use simulation::Driver;
 use simulation::index::size;
 use simulation::index::wide;
 ghost use mathlib.Core.Path.{_≡_};
-ghost use Prim.Native.Nat.{_≤_, _<_};
+ghost use Prim.Native.Nat.{_+_, _≤_, _<_};
 ghost use lib.ListN.{length, getD};
 ghost use Rattle.simulation.specs.Index.{recordsIn, widthsIn, offset as sumTo, Indexed, Driven};
 ghost use Rattle.evaluation.specs.Ready.{Prepared, Room};
+ghost use Rattle.evaluation.specs.Late.{StoresDriven, StoresListed};
 ghost use Rattle.evaluation.specs.Ticks.{ReadSignals, GoodTicks, Inputs, StoresOne, Stores};
 
 // Signal t takes the value of expression d, which is as wide.
@@ -30,6 +31,40 @@ pub fn store(
     let from = offset(exprs, expr_table, d);
     let end = offset(exprs, expr_table, d + 1);
     copy(bytes, to, values, from, end - from);
+}
+
+// Signal s takes the value of what is assigned to it, if there is such a signal.
+fn store_driven(
+    signals: &[u32],
+    exprs: &[u32],
+    stmts: &[u32],
+    expr_table: &[u32],
+    signal_table: &[u32],
+    driver_table: &[u32],
+    values: &[u8],
+    count: usize,
+    s: usize,
+    bytes: &mut [u8],
+)
+    requires { ⌜ Prepared (now signals) (now exprs) (now stmts) (now «expr_table») (now «signal_table») × Driven (now stmts) (now «driver_table») × Room (now signals) (now exprs) (now bytes) (now values) × (count ≡ length (recordsIn (now signals))) ⌝ }
+    ensures { λ _. ⌜ StoresDriven (now (signals .entry)) (now (exprs .entry)) (now (stmts .entry)) s (now (values .entry)) (now (bytes .entry)) (now (bytes .exit)) ⌝ }
+{
+    if s >= count {
+        return;
+    }
+    match driver(stmts, driver_table, s) {
+        Driver::By(d) => store(
+            signals,
+            exprs,
+            expr_table,
+            signal_table,
+            values,
+            s,
+            wide(d),
+            bytes,
+        ),
+        Driver::None => {}
+    }
 }
 
 // Every assigned signal takes its expression's value. There are `count` signals.
@@ -63,6 +98,43 @@ pub fn store_assigned(
             Driver::None => {}
         }
         s += 1;
+    }
+}
+
+// k signals of a list take the values of what is assigned to them. There are `count` signals.
+pub fn store_listed(
+    signals: &[u32],
+    exprs: &[u32],
+    stmts: &[u32],
+    expr_table: &[u32],
+    signal_table: &[u32],
+    driver_table: &[u32],
+    order: &[u32],
+    from: usize,
+    k: usize,
+    values: &[u8],
+    count: usize,
+    bytes: &mut [u8],
+)
+    requires { ⌜ Prepared (now signals) (now exprs) (now stmts) (now «expr_table») (now «signal_table») × Driven (now stmts) (now «driver_table») × Room (now signals) (now exprs) (now bytes) (now values) × (count ≡ length (recordsIn (now signals))) × (from + k ≤ length (now order)) ⌝ }
+    ensures { λ _. ⌜ StoresListed (now (signals .entry)) (now (exprs .entry)) (now (stmts .entry)) (now (order .entry)) from k (now (values .entry)) (now (bytes .entry)) (now (bytes .exit)) ⌝ }
+{
+    let mut j: usize = 0;
+    while j < k {
+        let s = wide(order[from + j]);
+        store_driven(
+            signals,
+            exprs,
+            stmts,
+            expr_table,
+            signal_table,
+            driver_table,
+            values,
+            count,
+            s,
+            bytes,
+        );
+        j += 1;
     }
 }
 

@@ -1,5 +1,4 @@
 // One tick.
-use crate::code::Code;
 use crate::commit::commit;
 use crate::settling::settle;
 use crate::store::set_inputs;
@@ -13,7 +12,6 @@ ghost use Rattle.simulation.specs.Run.{firedOf, firing};
 ghost use Rattle.simulation.specs.Tick.{looped};
 ghost use Rattle.evaluation.specs.Ready.{Prepared, Room, modelIn};
 ghost use Rattle.evaluation.specs.Ticks.{Filled, Ordered, GoodTicks, Ticks};
-ghost use Rattle.coding.specs.Coded.{Coding};
 
 // Inputs, settle, commit, settle.
 pub fn tick(
@@ -26,7 +24,6 @@ pub fn tick(
     driver_table: &[u32],
     order: &[u32],
     n: usize,
-    code: Code,
     count: usize,
     ticks: &[u8],
     fired: Fired,
@@ -35,7 +32,7 @@ pub fn tick(
     work_exprs: &mut [u8],
     work_signals: &mut [u8],
 )
-    requires { ⌜ Prepared (now signals) (now exprs) (now stmts) (now «expr_table») (now «signal_table») × Starts (now exprs) (now starts) × Driven (now stmts) (now «driver_table») × Room (now signals) (now exprs) (now bytes) (now values) × (n ≡ length (recordsIn (now exprs))) × (count ≡ length (recordsIn (now signals))) × (n ≤ length (now «work_exprs»)) × (count ≤ length (now «work_signals»)) × Ordered (modelIn (now signals) (now exprs) (now stmts)) n (now order) × (looped (modelIn (now signals) (now exprs) (now stmts)) ≡ none) × Filled (widthsIn (now exprs)) (now values) × GoodTicks (now signals) (now ticks) × Filled (widthsIn (now signals)) (now bytes) × Coding (now signals) (now exprs) (now stmts) n (code .words) (code .base) (code .state) (now order) (now values) ⌝ }
+    requires { ⌜ Prepared (now signals) (now exprs) (now stmts) (now «expr_table») (now «signal_table») × Starts (now exprs) (now starts) × Driven (now stmts) (now «driver_table») × Room (now signals) (now exprs) (now bytes) (now values) × (n ≡ length (recordsIn (now exprs))) × (count ≡ length (recordsIn (now signals))) × (n ≤ length (now «work_exprs»)) × (count ≤ length (now «work_signals»)) × Ordered (modelIn (now signals) (now exprs) (now stmts)) n (now order) × (looped (modelIn (now signals) (now exprs) (now stmts)) ≡ none) × Filled (widthsIn (now exprs)) (now values) × GoodTicks (now signals) (now ticks) × Filled (widthsIn (now signals)) (now bytes) ⌝ }
     ensures ticked { λ _. ⌜ Ticks (now (signals .entry)) (now (exprs .entry)) (now (stmts .entry)) (now (ticks .entry)) (firing (firedOf fired)) (now (bytes .entry)) (now (bytes .exit)) ⌝ }
     ensures filled { λ _. ⌜ Filled (widthsIn (now (exprs .entry))) (now (values .exit)) ⌝ }
 {
@@ -50,7 +47,6 @@ pub fn tick(
         driver_table,
         order,
         n,
-        code,
         count,
         bytes,
         values,
@@ -77,7 +73,6 @@ pub fn tick(
         driver_table,
         order,
         n,
-        code,
         count,
         bytes,
         values,

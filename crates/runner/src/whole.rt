@@ -205,6 +205,7 @@ fn run_unrefused(
                 order,
                 work_bits,
                 work_exprs,
+                work_signals,
             );
             let used = code.used;
             zero_bytes(work_bits);
