@@ -12,6 +12,7 @@ use fusing::fill_forms;
 use simulation::Driver;
 use simulation::index;
 use simulation::index::field;
+use simulation::index::plus;
 use simulation::index::size;
 use simulation::index::wide;
 use simulation::zero::zero_bytes;
@@ -48,7 +49,7 @@ pub struct Code {
     pub used: usize,
 }
 
-// WHAT IS WANTED: 2 at the first position of an expression
+// WHAT IS WANTED: 2 at a position of an expression
 
 fn want(values: &mut [u8], p: usize)
     requires { ⌜ Unplaced (now values) ⌝ }
@@ -66,10 +67,18 @@ fn want_expr(exprs: &[u32], expr_table: &[u32], e: u32, values: &mut [u8])
     want(values, index::offset(exprs, expr_table, wide(e)));
 }
 
+// Some position of expression e is wanted.
 fn wanted(exprs: &[u32], expr_table: &[u32], values: &[u8], e: usize) -> bool {
-    let p = index::offset(exprs, expr_table, e);
-    if p < values.len() {
-        return values[p] == 2;
+    let end = index::offset(exprs, expr_table, plus(e, 1));
+    let mut p = index::offset(exprs, expr_table, e);
+    while p < end {
+        if p >= values.len() {
+            return false;
+        }
+        if values[p] == 2 {
+            return true;
+        }
+        p += 1;
     }
     false
 }
