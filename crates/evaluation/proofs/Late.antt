@@ -197,12 +197,13 @@ module _ (widest : ℕ) (m : Model) (h : Sound widest m) (q : looped m ≡ none)
 
   module _ (vs new : List Bits) (ln : length new ≡ length (m .signals)) (keep : (s : ℕ) → given assigns (m .stmts) s ≡ none → getD new s [] ≡ getD old s []) where
     -- a signal that has its expression's value, or to which nothing is assigned
-    pub settled-so : (s : ℕ) → s < length (m .signals) → ((d : ℕ) → given assigns (m .stmts) s ≡ some d → getD new s [] ≡ getD vs d []) → ((d : ℕ) → given assigns (m .stmts) s ≡ some d → getD vs d [] ≡ getD (valuesIn m (settle m old)) d []) → getD new s [] ≡ getD (settle m old) s []
-    settled-so s k a b = go (given assigns (m .stmts) s) refl
+    pub settled-so : (s : ℕ) → ((d : ℕ) → given assigns (m .stmts) s ≡ some d → getD new s [] ≡ getD vs d []) → ((d : ℕ) → given assigns (m .stmts) s ≡ some d → getD vs d [] ≡ getD (valuesIn m (settle m old)) d []) → getD new s [] ≡ getD (settle m old) s []
+    settled-so s a b = go (decLt s (length (m .signals))) (given assigns (m .stmts) s) refl
       where
-        go : (o : Option ℕ) → given assigns (m .stmts) s ≡ o → getD new s [] ≡ getD (settle m old) s []
-        go none z = keep s z ∙ sym (settle-at widest m h q old lo s k ∙ ap (λ (o : Option ℕ). become us o (getD old s [])) z)
-        go (some d) z = a d z ∙ b d z ∙ sym (settle-at widest m h q old lo s k ∙ ap (λ (o : Option ℕ). become us o (getD old s [])) z)
+        go : Dec (s < length (m .signals)) → (o : Option ℕ) → given assigns (m .stmts) s ≡ o → getD new s [] ≡ getD (settle m old) s []
+        go (no k) o z = beyond new s (omega (arith, ln, k)) ∙ sym (beyond (settle m old) s (omega (arith, settle-long widest m h q old lo, k)))
+        go (yes k) none z = keep s z ∙ sym (settle-at widest m h q old lo s k ∙ ap (λ (o : Option ℕ). become us o (getD old s [])) z)
+        go (yes k) (some d) z = a d z ∙ b d z ∙ sym (settle-at widest m h q old lo s k ∙ ap (λ (o : Option ℕ). become us o (getD old s [])) z)
 
     -- the registers load from it what they load from the settled state
     module _ (f : Firing) (asked : (k s : ℕ) → k < length (m .stmts) → Asks (getD (m .stmts) k (assign 0 0)) s → getD new s [] ≡ getD (settle m old) s []) (loaded : (k e : ℕ) → k < length (m .stmts) → (marked 1 (getD (m .stmts) k (assign 0 0)) ≡ some e) ⊎ (marked 2 (getD (m .stmts) k (assign 0 0)) ≡ some e) → getD vs e [] ≡ getD (valuesIn m (settle m old)) e []) where
@@ -234,7 +235,7 @@ module _ (widest : ℕ) (m : Model) (h : Sound widest m) (q : looped m ≡ none)
     pub shown-late : ((s d : ℕ) → Output (m .signals) s → given assigns (m .stmts) s ≡ some d → getD new s [] ≡ getD vs d []) → ((s d : ℕ) → Output (m .signals) s → given assigns (m .stmts) s ≡ some d → getD vs d [] ≡ getD (valuesIn m (settle m old)) d []) → Late m (settle m old) new
     shown-late a b = record {
       settles-to = settle-free widest m h q ln (record { as-many = ln ∙ sym lo; free = keep });
-      outputs = λ s o. settled-so s (o .there) (λ d z. a s d o z) (λ d z. b s d o z);
+      outputs = λ s o. settled-so s (λ d z. a s d o z) (λ d z. b s d o z);
     }
 
 -- a settled state is late to itself
