@@ -6,3 +6,4 @@ pub mod Call
 pub mod Running
 pub mod WholeList
 pub mod Lagging
+pub mod Along
