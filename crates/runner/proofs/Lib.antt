@@ -7,3 +7,4 @@ pub mod Running
 pub mod WholeList
 pub mod Lagging
 pub mod Along
+pub mod Listing
