@@ -8,25 +8,26 @@ use native.Mathlib.Omega.{arith}
 use native.Mathlib.Decide.{ℕ-discrete}
 use lib.Dec.{leb}
 use lib.ListN.{length, getD, take, drop, set, length-set}
-use lib.Seq.{getD-set-same, getD-set-other, take-set-le, drop-set-lt, take-take, take-length, length-take-le, getD-take, getD-drop}
+use lib.Seq.{getD-set-same, getD-set-other, take-set-le, take-take, take-length, length-take-le, getD-take, getD-drop}
 use Rattle.settle.specs.Tests.{all-out}
 use Rattle.recorder.specs.Record.{Model}
 use Rattle.recorder.specs.Read.{modelOf}
 use Rattle.simulation.specs.Run.{zeroed}
-use Rattle.simulation.specs.Index.{recordsIn, widthsIn, offset, startOf, sizeAt}
-use Rattle.simulation.proofs.Steps.{Walked, walked-start, walked-next, walked-there, walked-out, walked-end}
+use Rattle.simulation.specs.Index.{recordsIn, widthsIn, offset, startOf}
 use Rattle.simulation.proofs.Tally.{getD-zeros}
 use Rattle.simulation.proofs.Offsets.{offset-next}
 use Rattle.ordering.specs.Order.{needs}
 use Rattle.ordering.specs.Marks.{marked, ready}
 use Rattle.ordering.specs.Words.{modelIn as exprsModel}
-use Rattle.evaluation.specs.Ready.{modelIn, Prepared}
-use Rattle.evaluation.specs.Loads.{stmtIn, Stated, Begins, Names, Named}
+use Rattle.evaluation.specs.Ready.{modelIn}
+use Rattle.evaluation.specs.Loads.{stmtIn, Stated, Names}
 use Rattle.evaluation.proofs.Committing.{names-word}
 use Rattle.evaluation.specs.Ticks.{Ordered}
 use Rattle.fusing.specs.Form.{Formed}
-use Rattle.coding.specs.Coded.{bitsIn, InCode, Within, Known, Computable, Coded, Coding}
-use Rattle.coding.specs.Emitting.{Unplaced, Placed, Places, MarksNamed, Emitting, Emits, EmitsAll}
+use Rattle.evaluation.specs.Late.{Among}
+use Rattle.coding.specs.Coded.{bitsIn, Within, Known, Computable, Coded}
+use Rattle.coding.proofs.Frame.{word-kept, among-kept, formed-kept, computable-kept}
+use Rattle.coding.specs.Emitting.{Unplaced, Placed, Places, Emitting, Emits, EmitsAll}
 
 -- POSITIONS
 
@@ -71,36 +72,25 @@ places-more {from} {end} {values₀} {values} g l = record { places = λ p h. go
 -- ONE CODE WORD
 
 module _ {signals exprs stmts : List ℕ} where
-  computable-more : {S T : ℕ → Type 0} {forms : List ℕ} {e : ℕ} → ((x : ℕ) → S x → T x) → Computable signals exprs stmts S forms e → Computable signals exprs stmts T forms e
-  computable-more {S} {T} up c = record {
-    there = c .there;
-    by-form = λ h. let f = c .by-form h in (more _ (f .0), more _ (f .1), more _ (f .2), more _ (f .3));
-    by-needs = λ h d k. up d (c .by-needs h d k);
-  }
-    where
-      more : (p : ℕ) → Known signals exprs S p → Known signals exprs T p
-      more p (inl h) = inl h
-      more p (inr h) = inr (h .0, up (h .0) (h .1), h .2)
-
-  module _ {n k : ℕ} {order values marks : List ℕ} (g : Emitting signals exprs stmts n k order values marks) where
+  module _ {n from k : ℕ} {order values marks : List ℕ} (g : Emitting signals exprs stmts n from k order values marks) where
     -- a position that is placed is known
-    placed-known : {base top p : ℕ} → base ≡ bitsIn exprs → top ≡ bitsIn exprs + bitsIn signals → Placed values base top p → Known signals exprs (InCode order n k) p
+    placed-known : {base top p : ℕ} → base ≡ bitsIn exprs → top ≡ bitsIn exprs + bitsIn signals → Placed values base top p → Known signals exprs (Among order from k) p
     placed-known {base} {top} {p} hb ht w = go (w .placed)
       where
-        go : ((base ≤ p) × (p < top)) ⊎ ((p < base) × (getD values p 0 ≡ 1)) → Known signals exprs (InCode order n k) p
+        go : ((base ≤ p) × (p < top)) ⊎ ((p < base) × (getD values p 0 ≡ 1)) → Known signals exprs (Among order from k) p
         go (inl h) = inl (omega (arith, hb, h .0), omega (arith, ht, h .1))
         go (inr h) = inr (g .in-values p (omega (arith, hb, h .0)) (h .1))
 
-    module _ {e at : ℕ} (he : e < length (recordsIn exprs)) (ha : at ≡ 2 * n + 6 * e) where
-      word : (i : ℕ) → getD order (at + i) 0 ≡ getD (drop (2 * n) order) (6 * e + i) 0
+    module _ {e at : ℕ} (he : e < length (recordsIn exprs)) (ha : at ≡ n + 6 * e) where
+      word : (i : ℕ) → getD order (at + i) 0 ≡ getD (drop n order) (6 * e + i) 0
       word i =
-          let z : at + i ≡ 2 * n + (6 * e + i) = omega arith in
-          ap (λ (j : ℕ). getD order j 0) z ∙ sym (getD-drop (2 * n) order (6 * e + i) 0)
+          let z : at + i ≡ n + (6 * e + i) = omega arith in
+          ap (λ (j : ℕ). getD order j 0) z ∙ sym (getD-drop n order (6 * e + i) 0)
 
-      table-is : getD order at 0 ≡ getD (drop (2 * n) order) (6 * e) 0
-      table-is = ap (λ (j : ℕ). getD order j 0) ha ∙ sym (getD-drop (2 * n) order (6 * e) 0)
+      table-is : getD order at 0 ≡ getD (drop n order) (6 * e) 0
+      table-is = ap (λ (j : ℕ). getD order j 0) ha ∙ sym (getD-drop n order (6 * e) 0)
 
-      pub computable-needs : {r : Bool} → 65536 ≤ getD order at 0 → r ≡ ready (exprsModel exprs stmts) marks e → r ≡ true → Computable signals exprs stmts (InCode order n k) (drop (2 * n) order) e
+      pub computable-needs : {r : Bool} → 65536 ≤ getD order at 0 → r ≡ ready (exprsModel exprs stmts) marks e → r ≡ true → Computable signals exprs stmts (Among order from k) (drop n order) e
       unfolding modelOf
       computable-needs h z t = record {
         there = he;
@@ -108,78 +98,80 @@ module _ {signals exprs stmts : List ℕ} where
         by-needs = λ l d i. g .in-marks d (all-out (marked marks) (needs (modelIn signals exprs stmts) e) (sym z ∙ t) d i);
       }
 
-      pub computable-form : {base top : ℕ} → base ≡ bitsIn exprs → top ≡ bitsIn exprs + bitsIn signals → getD order at 0 < 65536 → Placed values base top (getD order (at + 2) 0) → Placed values base top (getD order (at + 3) 0) → Placed values base top (getD order (at + 4) 0) → Placed values base top (getD order (at + 5) 0) → Computable signals exprs stmts (InCode order n k) (drop (2 * n) order) e
+      pub computable-form : {base top : ℕ} → base ≡ bitsIn exprs → top ≡ bitsIn exprs + bitsIn signals → getD order at 0 < 65536 → Placed values base top (getD order (at + 2) 0) → Placed values base top (getD order (at + 3) 0) → Placed values base top (getD order (at + 4) 0) → Placed values base top (getD order (at + 5) 0) → Computable signals exprs stmts (Among order from k) (drop n order) e
       computable-form hb ht h a b c d = record {
         there = he;
-        by-form = λ l. (subst (Known signals exprs (InCode order n k)) (word 2) (placed-known hb ht a), subst (Known signals exprs (InCode order n k)) (word 3) (placed-known hb ht b), subst (Known signals exprs (InCode order n k)) (word 4) (placed-known hb ht c), subst (Known signals exprs (InCode order n k)) (word 5) (placed-known hb ht d));
+        by-form = λ l. (subst (Known signals exprs (Among order from k)) (word 2) (placed-known hb ht a), subst (Known signals exprs (Among order from k)) (word 3) (placed-known hb ht b), subst (Known signals exprs (Among order from k)) (word 4) (placed-known hb ht c), subst (Known signals exprs (Among order from k)) (word 5) (placed-known hb ht d));
         by-needs = λ l. absurd (omega (arith, table-is, h, l));
       }
 
     -- e is the next
-    module _ {e : ℕ} (hk : k < n) (c : Computable signals exprs stmts (InCode order n k) (drop (2 * n) order) e) where
+    module _ {e : ℕ} (hn : n ≡ length (recordsIn exprs)) (hk : k < n) (c : Computable signals exprs stmts (Among order from k) (drop n order) e) where
       order′ : List ℕ
-      order′ = set order (n + k) e
+      order′ = set order (from + k) e
 
-      forms-kept : drop (2 * n) (set order (n + k) e) ≡ drop (2 * n) order
-      forms-kept = drop-set-lt (2 * n) order (n + k) e (omega arith)
+      pub order-kept : take from (set order (from + k) e) ≡ take from order
+      order-kept = take-set-le from order (from + k) e (omega arith)
 
-      pub order-kept : take n (set order (n + k) e) ≡ take n order
-      order-kept = take-set-le n order (n + k) e (omega arith)
+      code-kept : take (from + k) (set order (from + k) e) ≡ take (from + k) order
+      code-kept = take-set-le (from + k) order (from + k) e (omega arith)
 
-      still : (j : ℕ) → j ≤ k → (x : ℕ) → InCode order n j x → InCode (set order (n + k) e) n j x
-      still j h x i = record { place = i .place; before = i .before; stands = getD-set-other order (n + k) (n + i .place) e 0 (λ z. absurd (omega (arith, i .before, z))) ∙ i .stands }
+      still : (j : ℕ) → j ≤ k → (x : ℕ) → Among order from j x → Among (set order (from + k) e) from j x
+      still j h x i = among-kept (from + k) order (set order (from + k) e) code-kept (omega arith) i
 
-      inside : n + k < length order
+      computable-still : (j : ℕ) → j ≤ k → {x : ℕ} → Computable signals exprs stmts (Among order from j) (drop n order) x → Computable signals exprs stmts (Among (set order (from + k) e) from j) (drop n (set order (from + k) e)) x
+      computable-still j h d = computable-kept from order (set order (from + k) e) order-kept (g .forms-before) hn (still j h) d
+
+      inside : from + k < length order
       inside = omega (arith, g .room)
 
-      own : InCode (set order (n + k) e) n (k + 1) e
-      own = record { place = k; before = omega arith; stands = getD-set-same order (n + k) e 0 inside }
+      own : Among (set order (from + k) e) from (k + 1) e
+      own = record { place = k; before = omega arith; stands = getD-set-same order (from + k) e 0 inside }
 
-      up : (x : ℕ) → InCode order n k x → InCode (set order (n + k) e) n (k + 1) x
+      up : (x : ℕ) → Among order from k x → Among (set order (from + k) e) from (k + 1) x
       up x i = let s = still k (omega arith) x i in record { place = s .place; before = omega (arith, s .before); stands = s .stands }
 
-      pub emitted : {values′ : List ℕ} → Places (offset (widthsIn exprs) e) (offset (widthsIn exprs) (e + 1)) values values′ → Emitting signals exprs stmts n (k + 1) (set order (n + k) e) values′ (set marks e 1)
+      pub emitted : {values′ : List ℕ} → Places (offset (widthsIn exprs) e) (offset (widthsIn exprs) (e + 1)) values values′ → Emitting signals exprs stmts n from (k + 1) (set order (from + k) e) values′ (set marks e 1)
       emitted {values′} w = record {
-        room = omega (arith, g .room, length-set order (n + k) e);
+        forms-before = g .forms-before;
+        room = omega (arith, g .room, length-set order (from + k) e);
         few = omega arith;
-        formed = subst (λ (f : List ℕ). Formed signals exprs stmts f n) (sym forms-kept) (g .formed);
+        formed = formed-kept from order (set order (from + k) e) order-kept (g .forms-before) (g .formed);
         each = λ j h. word-at j h (ℕ-discrete j k);
         in-marks = λ x h. mark-at x h (ℕ-discrete x e);
         in-values = λ p h b. value-at p h (w .places p b);
       }
         where
-          word-at : (j : ℕ) → j < k + 1 → Dec (j ≡ k) → Computable signals exprs stmts (InCode (set order (n + k) e) n j) (drop (2 * n) (set order (n + k) e)) (getD (set order (n + k) e) (n + j) 0)
+          word-at : (j : ℕ) → j < k + 1 → Dec (j ≡ k) → Computable signals exprs stmts (Among (set order (from + k) e) from j) (drop n (set order (from + k) e)) (getD (set order (from + k) e) (from + j) 0)
           word-at j h (yes z) =
-              subst (λ (i : ℕ). Computable signals exprs stmts (InCode (set order (n + k) e) n i) (drop (2 * n) (set order (n + k) e)) (getD (set order (n + k) e) (n + i) 0)) (sym z)
-              (subst (Computable signals exprs stmts (InCode (set order (n + k) e) n k) (drop (2 * n) (set order (n + k) e))) (sym (getD-set-same order (n + k) e 0 inside))
-              (subst (λ (f : List ℕ). Computable signals exprs stmts (InCode (set order (n + k) e) n k) f e) (sym forms-kept)
-              (computable-more (still k (omega arith)) c)))
+              subst (λ (i : ℕ). Computable signals exprs stmts (Among (set order (from + k) e) from i) (drop n (set order (from + k) e)) (getD (set order (from + k) e) (from + i) 0)) (sym z)
+              (subst (Computable signals exprs stmts (Among (set order (from + k) e) from k) (drop n (set order (from + k) e))) (sym (getD-set-same order (from + k) e 0 inside))
+              (computable-still k (omega arith) c))
           word-at j h (no z) =
-              subst (Computable signals exprs stmts (InCode (set order (n + k) e) n j) (drop (2 * n) (set order (n + k) e))) (sym (getD-set-other order (n + k) (n + j) e 0 (λ y. absurd (omega (arith, z, y)))))
-              (subst (λ (f : List ℕ). Computable signals exprs stmts (InCode (set order (n + k) e) n j) f (getD order (n + j) 0)) (sym forms-kept)
-              (computable-more (still j (omega arith)) (g .each j (omega (arith, z)))))
+              subst (Computable signals exprs stmts (Among (set order (from + k) e) from j) (drop n (set order (from + k) e))) (sym (word-kept (from + k) order (set order (from + k) e) code-kept (from + j) (omega (arith, z))))
+              (computable-still j (omega arith) (g .each j (omega (arith, z))))
 
-          mark-at : (x : ℕ) → marked (set marks e 1) x ≡ true → Dec (x ≡ e) → InCode (set order (n + k) e) n (k + 1) x
-          mark-at x h (yes z) = subst (InCode (set order (n + k) e) n (k + 1)) (sym z) own
+          mark-at : (x : ℕ) → marked (set marks e 1) x ≡ true → Dec (x ≡ e) → Among (set order (from + k) e) from (k + 1) x
+          mark-at x h (yes z) = subst (Among (set order (from + k) e) from (k + 1)) (sym z) own
           mark-at x h (no z) = up x (g .in-marks x (ap (λ (i : ℕ). leb 1 i) (sym (getD-set-other marks e x 1 0 z)) ∙ h))
 
-          value-at : (p : ℕ) → p < bitsIn exprs → ((offset (widthsIn exprs) e ≤ p) × (p < offset (widthsIn exprs) (e + 1))) ⊎ (getD values p 0 ≡ 1) → (d : ℕ) × InCode (set order (n + k) e) n (k + 1) d × Within exprs d p
+          value-at : (p : ℕ) → p < bitsIn exprs → ((offset (widthsIn exprs) e ≤ p) × (p < offset (widthsIn exprs) (e + 1))) ⊎ (getD values p 0 ≡ 1) → (d : ℕ) × Among (set order (from + k) e) from (k + 1) d × Within exprs d p
           value-at p h (inl y) = (e, own, (c .there, y .0, omega (arith, y .1, offset-next (widthsIn exprs) e)))
           value-at p h (inr y) = let t = g .in-values p h y in (t .0, up (t .0) (t .1), t .2)
 
       -- the same by what the code reads
-      pub put-emitted : {x from end : ℕ} {values′ : List ℕ} → x ≡ e → from ≡ offset (widthsIn exprs) x → end ≡ offset (widthsIn exprs) (x + 1) → Places from end values values′ → Emitting signals exprs stmts n (k + 1) (set order (n + k) e) values′ (set marks x 1)
-      put-emitted {x} {from} {end} {values′} hx hf he w =
-          subst (λ (i : ℕ). Emitting signals exprs stmts n (k + 1) (set order (n + k) e) values′ (set marks i 1)) (sym hx)
-          (emitted (subst (λ (i : ℕ). Places i (offset (widthsIn exprs) (e + 1)) values values′) (hf ∙ ap (offset (widthsIn exprs)) hx) (subst (λ (i : ℕ). Places from i values values′) (he ∙ ap (λ (i : ℕ). offset (widthsIn exprs) (i + 1)) hx) w)))
+      pub put-emitted : {x begin end : ℕ} {values′ : List ℕ} → x ≡ e → begin ≡ offset (widthsIn exprs) x → end ≡ offset (widthsIn exprs) (x + 1) → Places begin end values values′ → Emitting signals exprs stmts n from (k + 1) (set order (from + k) e) values′ (set marks x 1)
+      put-emitted {x} {begin} {end} {values′} hx hf he w =
+          subst (λ (i : ℕ). Emitting signals exprs stmts n from (k + 1) (set order (from + k) e) values′ (set marks i 1)) (sym hx)
+          (emitted (subst (λ (i : ℕ). Places i (offset (widthsIn exprs) (e + 1)) values values′) (hf ∙ ap (offset (widthsIn exprs)) hx) (subst (λ (i : ℕ). Places begin i values values′) (he ∙ ap (λ (i : ℕ). offset (widthsIn exprs) (i + 1)) hx) w)))
 
-    -- all that is named is a code word: right code
-    pub emitted-coded : MarksNamed stmts marks → Coded signals exprs stmts n k order
-    emitted-coded h = record { room = g .room; few = g .few; formed = g .formed; each = g .each; all-named = λ e i. g .in-marks e (h .marks-named e i) }
+    pub emitted-coded : Coded signals exprs stmts n from k order
+    emitted-coded = record { forms-before = g .forms-before; room = omega (arith, g .room, g .few); formed = g .formed; each = g .each }
 
   -- before the first
-  pub emitting-start : {n : ℕ} {order values marks : List ℕ} (l : List ℕ) → 8 * n ≤ length order → Formed signals exprs stmts (drop (2 * n) order) n → Unplaced values → marks ≡ zeroed l → Emitting signals exprs stmts n 0 order values marks
-  emitting-start l r f u z = record {
+  pub emitting-start : {n from : ℕ} {order values marks : List ℕ} (l : List ℕ) → 7 * n ≤ from → from + n ≤ length order → Formed signals exprs stmts (drop n order) n → Unplaced values → marks ≡ zeroed l → Emitting signals exprs stmts n from 0 order values marks
+  emitting-start l b r f u z = record {
+    forms-before = b;
     room = r;
     few = omega arith;
     formed = f;
@@ -195,37 +187,6 @@ is-marked marks {r} {e} {x} h z t = ap (marked marks) (sym z) ∙ sym h ∙ t
 
 pub indeed : {b : Bool} → not b ≡ false → b ≡ true
 indeed {b} h = sym (Bool·not-not b) ∙ ap not h
-
--- the first statements' are marked
-pub record Naming (stmts marks : List ℕ) (word : ℕ) : Type 0 where
-  pub number : ℕ
-  pub walked : Walked stmts word number
-  pub so-far : (k : ℕ) → k < number → (e : ℕ) → Names (stmtIn stmts k) e → marked marks e ≡ true
-
-pub naming-start : (stmts marks : List ℕ) → Naming stmts marks 0
-naming-start stmts marks = record { number = 0; walked = walked-start stmts; so-far = λ k q. absurd (omega arith) }
-
-module _ {stmts marks : List ℕ} {word : ℕ} (g : Naming stmts marks word) where
-  all : g .number ≡ length (recordsIn stmts) → MarksNamed stmts marks
-  all z = record { marks-named = λ e h. g .so-far (h .number) (omega (arith, z, h .there)) e (h .names) }
-
-  pub naming-end : length stmts ≤ word → MarksNamed stmts marks
-  naming-end h = all (walked-end (g .walked) h .0)
-
-  module _ {size : ℕ} (e : size ≡ sizeAt stmts word) where
-    pub naming-out : size ≡ 0 → MarksNamed stmts marks
-    naming-out z = all (walked-out (g .walked) size e z)
-
-    module _ (d : size ≡ 0 → ⊥) where
-      pub naming-begins : Begins stmts word
-      naming-begins = record { number = g .number; there = walked-there (g .walked) size e d; begins = g .walked .begins }
-
-      pub naming-next : ((k : ℕ) → k < length (recordsIn stmts) → word ≡ startOf stmts k → (x : ℕ) → Names (stmtIn stmts k) x → marked marks x ≡ true) → Naming stmts marks (word + size)
-      naming-next f = record { number = g .number + 1; walked = walked-next (g .walked) size e d; so-far = λ k q x h. more k q x h (ℕ-discrete k (g .number)) }
-        where
-          more : (k : ℕ) → k < g .number + 1 → (x : ℕ) → Names (stmtIn stmts k) x → Dec (k ≡ g .number) → marked marks x ≡ true
-          more k q x h (yes z) = f k (omega (arith, z, walked-there (g .walked) size e d)) (g .walked .begins ∙ ap (startOf stmts) (sym z)) x h
-          more k q x h (no z) = g .so-far k (omega (arith, z)) x h
 
 -- the words that name: the fourth, and a register's tenth if it has a reset
 module _ {signals stmts : List ℕ} (s : Stated signals stmts) (marks : List ℕ) {word : ℕ} where
@@ -256,14 +217,6 @@ module _ {signals stmts : List ℕ} (s : Stated signals stmts) (marks : List ℕ
 
 -- THE WHOLE
 
--- no code
-pub no-coding : {signals exprs stmts order values : List ℕ} {n words base state : ℕ} → words ≡ 0 → Coding signals exprs stmts n words base state order values
-no-coding z = record { coded = λ h. absurd (omega (arith, z, h)); base-is = λ h. absurd (omega (arith, z, h)); state-is = λ h. absurd (omega (arith, z, h)); room = λ h. absurd (omega (arith, z, h)) }
-
--- values of the same length
-pub coding-kept : {signals exprs stmts order values values′ : List ℕ} {n words base state : ℕ} → Coding signals exprs stmts n words base state order values → length values′ ≡ length values → Coding signals exprs stmts n words base state order values′
-coding-kept c l = record { coded = c .coded; base-is = c .base-is; state-is = c .state-is; room = λ h. let r = c .room h in omega (arith, r, l) }
-
 -- the order is still one
 pub ordered-kept : {m : Model} {n ordered : ℕ} (order : List ℕ) {order′ : List ℕ} → ordered ≡ n → take n order′ ≡ take n order → Ordered m n (take ordered order) → length order′ ≡ length order → n ≤ length order → Ordered m n order′
 ordered-kept {m} {n} {ordered} order {order′} z k o l h = record {
@@ -287,53 +240,44 @@ ordered-kept {m} {n} {ordered} order {order′} z k o l h = record {
 
 module _ {signals exprs stmts : List ℕ} where
   -- nothing is wanted
-  pub emits-none : {n k : ℕ} {order values marks : List ℕ} → Emitting signals exprs stmts n k order values marks → Emits signals exprs stmts n k k order order values marks
+  pub emits-none : {n from k : ℕ} {order values marks : List ℕ} → Emitting signals exprs stmts n from k order values marks → Emits signals exprs stmts n from k k order order values marks
   emits-none g = record { kept = refl; fine = λ h. g; one-more = λ h. omega arith }
 
   -- the code can't be made
-  pub emits-stuck : {n k : ℕ} (order values marks : List ℕ) → Emits signals exprs stmts n k (n + 1) order order values marks
+  pub emits-stuck : {n from k : ℕ} (order values marks : List ℕ) → Emits signals exprs stmts n from k (n + 1) order order values marks
   emits-stuck order values marks = record { kept = refl; fine = λ h. absurd (omega arith); one-more = λ h. absurd (omega arith) }
 
-  pub emits-one : {n k : ℕ} {order order′ values′ marks′ : List ℕ} → Emitting signals exprs stmts n (k + 1) order′ values′ marks′ → take n order′ ≡ take n order → Emits signals exprs stmts n k (k + 1) order order′ values′ marks′
+  pub emits-one : {n from k : ℕ} {order order′ values′ marks′ : List ℕ} → Emitting signals exprs stmts n from (k + 1) order′ values′ marks′ → take from order′ ≡ take from order → Emits signals exprs stmts n from k (k + 1) order order′ values′ marks′
   emits-one g z = record { kept = z; fine = λ h. g; one-more = λ h. omega arith }
 
   pub emits-computable : {S : ℕ → Type 0} {forms : List ℕ} {e x : ℕ} → e ≡ x → Computable signals exprs stmts S forms e → Computable signals exprs stmts S forms x
   emits-computable {S} {forms} z c = subst (Computable signals exprs stmts S forms) z c
 
 -- number i is next
-pub record EmittingAll (signals exprs stmts : List ℕ) (n : ℕ) (order₀ values₀ marks₀ order values marks : List ℕ) (k i : ℕ) : Type 0 where
-  pub so-far : Emitting signals exprs stmts n k order values marks
+pub record EmittingAll (signals exprs stmts : List ℕ) (n from : ℕ) (order₀ values₀ marks₀ order values marks : List ℕ) (k i : ℕ) : Type 0 where
+  pub so-far : Emitting signals exprs stmts n from k order values marks
   pub behind : k ≤ i
   pub within : i ≤ n
-  pub kept : take n order ≡ take n order₀
+  pub kept : take from order ≡ take from order₀
   pub order-long : length order ≡ length order₀
   pub values-long : length values ≡ length values₀
   pub marks-long : length marks ≡ length marks₀
 
-module _ {signals exprs stmts : List ℕ} {n : ℕ} where
-  pub all-start : {order values marks : List ℕ} → Emitting signals exprs stmts n 0 order values marks → EmittingAll signals exprs stmts n order values marks order values marks 0 0
+module _ {signals exprs stmts : List ℕ} {n from : ℕ} where
+  pub all-start : {order values marks : List ℕ} → Emitting signals exprs stmts n from 0 order values marks → EmittingAll signals exprs stmts n from order values marks order values marks 0 0
   all-start g = record { so-far = g; behind = omega arith; within = omega arith; kept = refl; order-long = refl; values-long = refl; marks-long = refl }
 
-  module _ {order₀ values₀ marks₀ order values marks : List ℕ} {k i : ℕ} (g : EmittingAll signals exprs stmts n order₀ values₀ marks₀ order values marks k i) where
-    module _ {order′ values′ marks′ : List ℕ} {r : ℕ} (e : Emits signals exprs stmts n k r order order′ values′ marks′) where
-      pub all-next : i < n → r ≤ n → length order′ ≡ length order → length values′ ≡ length values → length marks′ ≡ length marks → EmittingAll signals exprs stmts n order₀ values₀ marks₀ order′ values′ marks′ r (i + 1)
+  module _ {order₀ values₀ marks₀ order values marks : List ℕ} {k i : ℕ} (g : EmittingAll signals exprs stmts n from order₀ values₀ marks₀ order values marks k i) where
+    module _ {order′ values′ marks′ : List ℕ} {r : ℕ} (e : Emits signals exprs stmts n from k r order order′ values′ marks′) where
+      pub all-next : i < n → r ≤ n → length order′ ≡ length order → length values′ ≡ length values → length marks′ ≡ length marks → EmittingAll signals exprs stmts n from order₀ values₀ marks₀ order′ values′ marks′ r (i + 1)
       all-next hi h o v m = record { so-far = e .fine h; behind = omega (arith, g .behind, e .one-more h); within = omega arith; kept = e .kept ∙ g .kept; order-long = o ∙ g .order-long; values-long = v ∙ g .values-long; marks-long = m ∙ g .marks-long }
 
-      pub all-stuck : n < r → EmitsAll signals exprs stmts n r order₀ order′ values′ marks′
+      pub all-stuck : n < r → EmitsAll signals exprs stmts n from r order₀ order′ values′ marks′
       all-stuck h = record { kept = e .kept ∙ g .kept; fine = λ l. absurd (omega arith) }
 
-    pub all-end : EmitsAll signals exprs stmts n k order₀ order values marks
+    pub all-end : EmitsAll signals exprs stmts n from k order₀ order values marks
     all-end = record { kept = g .kept; fine = λ h. g .so-far }
 
--- the first half of what is kept
-pub kept-less : (n : ℕ) (a b : List ℕ) → take (2 * n) a ≡ take (2 * n) b → take n a ≡ take n b
-kept-less n a b z = sym (take-take n (2 * n) a (omega arith)) ∙ ap (take n) z ∙ take-take n (2 * n) b (omega arith)
-
--- the code of a table that is lent whole
-pub coding-whole : {signals exprs stmts : List ℕ} {n : ℕ} (order′ : List ℕ) {k base state used : ℕ} (values : List ℕ) {values′ : List ℕ} → used ≡ length order′ → (0 < k → Coded signals exprs stmts n k order′) → base ≡ bitsIn exprs → state ≡ bitsIn signals → base ≤ length values → state ≤ length values - base → length values′ ≡ length values → Coding signals exprs stmts n k base state (take used order′) values′
-coding-whole {signals} {exprs} {stmts} {n} order′ {k} {base} {state} {used} values {values′} z c hb hs h l m =
-    subst (λ (o : List ℕ). Coding signals exprs stmts n k base state o values′) (sym (ap (λ (i : ℕ). take i order′) z ∙ take-length order′))
-    (record { coded = c; base-is = λ q. hb; state-is = λ q. hs; room = λ q. omega (arith, hb, hs, h, l, m) })
-
+-- a table that is lent whole
 pub ordered-whole : {n : ℕ} (order′ : List ℕ) {m : Model} {used ordered : ℕ} (order : List ℕ) → used ≡ length order′ → ordered ≡ n → take n order′ ≡ take n order → Ordered m n (take ordered order) → length order′ ≡ length order → ordered ≤ length order → Ordered m n (take used order′)
 ordered-whole {n} order′ {m} {used} order z e k o l h = subst (Ordered m n) (sym (ap (λ (i : ℕ). take i order′) z ∙ take-length order′)) (ordered-kept order e k o l (omega arith))

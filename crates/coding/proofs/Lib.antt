@@ -1,3 +1,4 @@
 -- The laws of coding.
 pub mod Running
+pub mod Frame
 pub mod Emitting

@@ -3,45 +3,42 @@ use Prim.Native.Nat.{ℕ, zero, suc, _+_, _-_, _*_, _/_, _%_, _^_, _≤_, _<_}
 use mathlib.Core.Path.{_≡_, refl, sym, _∙_, ap, ap₂, subst}
 use mathlib.Core.Logic.{_⊎_, inl, inr}
 use mathlib.Core.Bool.{Bool, true, false, _&&_}
-use mathlib.Core.List.{List, [], _∷_, _++_, map, append-assoc, List·Memᴰ as Mem}
+use mathlib.Core.List.{List, [], _∷_, _++_, map, append-assoc}
 use mathlib.Core.Option.{none}
 use native.Mathlib.Omega.{arith}
 use native.Mathlib.Nat.{not-suc-le-zero}
-use native.Mathlib.Decide.{ℕ-discrete, decLt}
+use native.Mathlib.Decide.{ℕ-discrete}
 use lib.Dec.{eqb, leb, ltb}
 use borrow.Author.Tests.{leb-true}
 use Rattle.settle.specs.Tests.{and-left}
-use lib.ListN.{length, getD, take, drop, set, length-set, length-append, length-map, length-drop, List·getD-append, List·getD-map}
-use lib.Seq.{sets, sets-eq, take-at, drop-append-le, getD-append-add, getD-set-same, getD-set-other, length-take-le, getD-drop, getD-take, ext-getD}
+use lib.ListN.{length, getD, take, drop, set, length-set, length-append, length-map, List·getD-append, List·getD-map}
+use lib.Seq.{sets, sets-eq, take-at, getD-append-add, getD-set-same, getD-set-other, getD-drop, getD-take}
 use Rattle.bits.specs.Bits.{Bits, digit, tableBit}
 use Rattle.recorder.specs.Record.{Expr, Model}
 use Rattle.recorder.specs.Record.{const, read, concat, not, and, or, xor, mux, eq, mul}
 use Rattle.recorder.specs.Lists.{lists, over}
-use Rattle.recorder.specs.Read.{modelOf}
-use Rattle.recorder.specs.Words.{rawOf}
 use Rattle.simulation.specs.Tick.{valuesIn, settle, looped}
 use Rattle.simulation.specs.Wellformed.{wide, inRange, earlier, widthSum, exprFits}
 use Rattle.simulation.specs.Run.{flat, exprWidth}
 use Rattle.simulation.proofs.Sound.{expr-width}
 use Rattle.simulation.specs.Index.{recordsIn, widthsIn, offset}
-use Rattle.simulation.specs.Sound.{exprWidths}
 use Rattle.simulation.proofs.Flat.{Wide, flat-part}
 use Rattle.simulation.proofs.Steps.{length-widths, width-of}
 use Rattle.simulation.proofs.Bounds.{values-width}
 use Rattle.simulation.proofs.Found.{exprs-count, signals-count}
 use Rattle.settle.specs.Table.{at}
 use Rattle.recorder.proofs.Makes.{length-all}
-use Rattle.ordering.specs.Order.{needs}
 use Rattle.evaluation.specs.Bytes.{part, Holds}
-use Rattle.evaluation.specs.Consistent.{computed, Consistent}
+use Rattle.evaluation.specs.Consistent.{Consistent}
 use Rattle.evaluation.specs.Ready.{exprIn, modelIn, Prepared, Room, Computed}
-use Rattle.evaluation.specs.Ticks.{Filled, SettlesNamed}
-use Rattle.evaluation.proofs.Held.{wide-length, wide-at, flat-total, holds-length, holds-width, holds-set, map-append}
+use Rattle.evaluation.specs.Ticks.{Filled}
+use Rattle.evaluation.proofs.Held.{wide-length, wide-at, flat-total, holds-length, holds-set, map-append}
 use Rattle.evaluation.proofs.Consistent.{same-computed, settled-consistent}
 use Rattle.evaluation.proofs.Whole.{is-sound, exprs-wide, expr-reads, expr-fits}
 use Rattle.evaluation.proofs.Evaluating.{offset-before}
-use Rattle.fusing.specs.Form.{bitAt, formAt, formBit, Formed}
-use Rattle.coding.specs.Coded.{bitsIn, InCode, Within, Known, Computable, Coded, looked, lookedUp}
+use Rattle.fusing.specs.Form.{bitAt}
+use Rattle.evaluation.specs.Late.{Among}
+use Rattle.coding.specs.Coded.{bitsIn, Within, Known, Computable, Coded, SettlesCode, looked, lookedUp}
 
 -- ONE LOOK INTO A TABLE
 
@@ -150,24 +147,24 @@ module _ (signals exprs stmts : List ℕ) where
   Settle old = valuesIn (modelIn signals exprs stmts) (settle (modelIn signals exprs stmts) old)
 
   -- the signals stand behind the values, and the first j code words have theirs
-  pub record Running (n k : ℕ) (order bytes values₀ values : List ℕ) (j : ℕ) : Type 0 where
+  pub record Running (from k : ℕ) (order bytes values₀ values : List ℕ) (j : ℕ) : Type 0 where
     pub within : j ≤ k
     pub values-long : length values ≡ length values₀
-    pub so-far : (old : List Bits) (behind : List ℕ) → Holds (widthsIn signals) old behind bytes → (vs : List Bits) × (rest : List ℕ) × Holds (widthsIn exprs) vs (map digit (flat old) ++ rest) values × ((e : ℕ) → InCode order n j e → getD vs e [] ≡ getD (Settle old) e [])
+    pub so-far : (old : List Bits) (behind : List ℕ) → Holds (widthsIn signals) old behind bytes → (vs : List Bits) × (rest : List ℕ) × Holds (widthsIn exprs) vs (map digit (flat old) ++ rest) values × ((e : ℕ) → Among order from j e → getD vs e [] ≡ getD (Settle old) e [])
 
 -- the first j + 1 code words
-pub code-more : {order : List ℕ} {n j e : ℕ} → e ≡ getD order (n + j) 0 → (x : ℕ) → InCode order n (j + 1) x → (x ≡ e) ⊎ InCode order n j x
-code-more {order} {n} {j} {e} h x t = go (ℕ-discrete (t .place) j)
+pub code-more : {order : List ℕ} {from j e : ℕ} → e ≡ getD order (from + j) 0 → (x : ℕ) → Among order from (j + 1) x → (x ≡ e) ⊎ Among order from j x
+code-more {order} {from} {j} {e} h x t = go (ℕ-discrete (t .place) j)
   where
-    go : Dec (t .place ≡ j) → (x ≡ e) ⊎ InCode order n j x
-    go (yes z) = inl (sym (t .stands) ∙ ap (λ (i : ℕ). getD order (n + i) 0) z ∙ sym h)
+    go : Dec (t .place ≡ j) → (x ≡ e) ⊎ Among order from j x
+    go (yes z) = inl (sym (t .stands) ∙ ap (λ (i : ℕ). getD order (from + i) 0) z ∙ sym h)
     go (no z) = inr (record { place = t .place; before = omega (arith, t .before, z); stands = t .stands })
 
 -- the words of a form
-form-word : (n : ℕ) (order : List ℕ) (at e i : ℕ) → at ≡ 2 * n + 6 * e → getD (drop (2 * n) order) (6 * e + i) 0 ≡ getD order (at + i) 0
+form-word : (n : ℕ) (order : List ℕ) (at e i : ℕ) → at ≡ n + 6 * e → getD (drop n order) (6 * e + i) 0 ≡ getD order (at + i) 0
 form-word n order at e i h =
-    let z : 2 * n + (6 * e + i) ≡ at + i = omega arith in
-    getD-drop (2 * n) order (6 * e + i) 0 ∙ ap (λ (j : ℕ). getD order j 0) z
+    let z : n + (6 * e + i) ≡ at + i = omega arith in
+    getD-drop n order (6 * e + i) 0 ∙ ap (λ (j : ℕ). getD order j 0) z
 
 module _ {signals exprs stmts exprTable signalTable : List ℕ} (p : Prepared signals exprs stmts exprTable signalTable) where
   abbrev m : Model
@@ -184,14 +181,14 @@ module _ {signals exprs stmts exprTable signalTable : List ℕ} (p : Prepared si
     settled-agrees old behind h = settled-consistent (p .widest) m old (is-sound p) (holds-length h ∙ length-widths signals ∙ sym (signals-count (p .widest) (lists signals exprs stmts) (p .faultless))) q
 
     -- e is next, and gets its value
-    next : {n k : ℕ} {order values₀ values values′ : List ℕ} {j e : ℕ} → n ≡ length (recordsIn exprs) → Running signals exprs stmts n k order bytes values₀ values j → j < k → e ≡ getD order (n + j) 0 → e < n → length values′ ≡ length values
-        → ((old vs : List Bits) (behind rest : List ℕ) → Holds (widthsIn signals) old behind bytes → Holds (widthsIn exprs) vs (map digit (flat old) ++ rest) values → ((x : ℕ) → InCode order n j x → getD vs x [] ≡ getD (Settle signals exprs stmts old) x []) → Holds (widthsIn exprs) (set vs e (getD (Settle signals exprs stmts old) e [])) (map digit (flat old) ++ rest) values′)
-        → Running signals exprs stmts n k order bytes values₀ values′ (j + 1)
-    next {n} {k} {order} {values₀} {values} {values′} {j} {e} hn r hj he ht l f = record { within = omega arith; values-long = l ∙ r .values-long; so-far = λ old behind h. now old behind h (r .so-far old behind h) }
+    next : {n from k : ℕ} {order values₀ values values′ : List ℕ} {j e : ℕ} → n ≡ length (recordsIn exprs) → Running signals exprs stmts from k order bytes values₀ values j → j < k → e ≡ getD order (from + j) 0 → e < n → length values′ ≡ length values
+        → ((old vs : List Bits) (behind rest : List ℕ) → Holds (widthsIn signals) old behind bytes → Holds (widthsIn exprs) vs (map digit (flat old) ++ rest) values → ((x : ℕ) → Among order from j x → getD vs x [] ≡ getD (Settle signals exprs stmts old) x []) → Holds (widthsIn exprs) (set vs e (getD (Settle signals exprs stmts old) e [])) (map digit (flat old) ++ rest) values′)
+        → Running signals exprs stmts from k order bytes values₀ values′ (j + 1)
+    next {n} {from} {k} {order} {values₀} {values} {values′} {j} {e} hn r hj he ht l f = record { within = omega arith; values-long = l ∙ r .values-long; so-far = λ old behind h. now old behind h (r .so-far old behind h) }
       where
         now : (old : List Bits) (behind : List ℕ) → Holds (widthsIn signals) old behind bytes
-            → (vs : List Bits) × (rest : List ℕ) × Holds (widthsIn exprs) vs (map digit (flat old) ++ rest) values × ((x : ℕ) → InCode order n j x → getD vs x [] ≡ getD (Settle signals exprs stmts old) x [])
-            → (vs : List Bits) × (rest : List ℕ) × Holds (widthsIn exprs) vs (map digit (flat old) ++ rest) values′ × ((x : ℕ) → InCode order n (j + 1) x → getD vs x [] ≡ getD (Settle signals exprs stmts old) x [])
+            → (vs : List Bits) × (rest : List ℕ) × Holds (widthsIn exprs) vs (map digit (flat old) ++ rest) values × ((x : ℕ) → Among order from j x → getD vs x [] ≡ getD (Settle signals exprs stmts old) x [])
+            → (vs : List Bits) × (rest : List ℕ) × Holds (widthsIn exprs) vs (map digit (flat old) ++ rest) values′ × ((x : ℕ) → Among order from (j + 1) x → getD vs x [] ≡ getD (Settle signals exprs stmts old) x [])
         now old behind h t = (set (t .0) e v, t .1, f old (t .0) behind (t .1) h (t .2) (t .3), λ x i. go x (ℕ-discrete x e) (code-more he x i))
           where
             v : Bits
@@ -200,73 +197,73 @@ module _ {signals exprs stmts exprTable signalTable : List ℕ} (p : Prepared si
             here : e < length (t .0)
             here = omega (arith, hn, ht, holds-length (t .2), length-widths exprs)
 
-            go : (x : ℕ) → Dec (x ≡ e) → (x ≡ e) ⊎ InCode order n j x → getD (set (t .0) e v) x [] ≡ getD (Settle signals exprs stmts old) x []
+            go : (x : ℕ) → Dec (x ≡ e) → (x ≡ e) ⊎ Among order from j x → getD (set (t .0) e v) x [] ≡ getD (Settle signals exprs stmts old) x []
             go x (yes z) i = ap (λ (y : ℕ). getD (set (t .0) e v) y []) z ∙ getD-set-same (t .0) e v [] here ∙ ap (λ (y : ℕ). getD (Settle signals exprs stmts old) y []) (sym z)
             go x (no z) (inl y) = absurd (z y)
             go x (no z) (inr i) = getD-set-other (t .0) e x v [] z ∙ t .3 x i
 
-    module _ {n k : ℕ} {order : List ℕ} (hn : n ≡ length (recordsIn exprs)) (c : Coded signals exprs stmts n k order) {values₀ values : List ℕ} {j e : ℕ} (r : Running signals exprs stmts n k order bytes values₀ values j) (hj : j < k) (he : e ≡ getD order (n + j) 0) where
+    module _ {n from k : ℕ} {order : List ℕ} (hn : n ≡ length (recordsIn exprs)) (c : Coded signals exprs stmts n from k order) {values₀ values : List ℕ} {j e : ℕ} (r : Running signals exprs stmts from k order bytes values₀ values j) (hj : j < k) (he : e ≡ getD order (from + j) 0) where
       pub code-there : e < n
       code-there = omega (arith, hn, he, c .each j hj .there)
 
-      computable : Computable signals exprs stmts (InCode order n j) (drop (2 * n) order) e
-      computable = subst (Computable signals exprs stmts (InCode order n j) (drop (2 * n) order)) (sym he) (c .each j hj)
+      computable : Computable signals exprs stmts (Among order from j) (drop n order) e
+      computable = subst (Computable signals exprs stmts (Among order from j) (drop n order)) (sym he) (c .each j hj)
 
       -- without a form
-      module _ {at : ℕ} (ha : at ≡ 2 * n + 6 * e) (no : 65536 ≤ getD order at 0) where
-        table-is : getD (drop (2 * n) order) (6 * e) 0 ≡ getD order at 0
-        table-is = getD-drop (2 * n) order (6 * e) 0 ∙ ap (λ (i : ℕ). getD order i 0) (sym ha)
+      module _ {at : ℕ} (ha : at ≡ n + 6 * e) (no : 65536 ≤ getD order at 0) where
+        table-is : getD (drop n order) (6 * e) 0 ≡ getD order at 0
+        table-is = getD-drop n order (6 * e) 0 ∙ ap (λ (i : ℕ). getD order i 0) (sym ha)
 
-        pub running-needs : {values′ values″ : List ℕ} → values′ ≡ values″ → length values″ ≡ length values → Computed signals exprs stmts bytes e values values″ → Running signals exprs stmts n k order bytes values₀ values′ (j + 1)
-        running-needs {values′} {values″} z l w = subst (λ (u : List ℕ). Running signals exprs stmts n k order bytes values₀ u (j + 1)) (sym z) (next hn r hj he code-there l (λ old vs behind rest ho hv g.
+        pub running-needs : {values′ values″ : List ℕ} → values′ ≡ values″ → length values″ ≡ length values → Computed signals exprs stmts bytes e values values″ → Running signals exprs stmts from k order bytes values₀ values′ (j + 1)
+        running-needs {values′} {values″} z l w = subst (λ (u : List ℕ). Running signals exprs stmts from k order bytes values₀ u (j + 1)) (sym z) (next hn r hj he code-there l (λ old vs behind rest ho hv g.
             subst (λ (b : Bits). Holds (widthsIn exprs) (set vs e b) (map digit (flat old) ++ rest) values″)
             (same-computed m old vs (Settle signals exprs stmts old) e (λ y i. g y (computable .by-needs (omega (arith, table-is)) y i)) ∙ settled-agrees old behind ho .right e (omega (arith, exprs-are, hn, code-there)))
             (w .computed-holds old vs behind (map digit (flat old) ++ rest) ho hv)))
 
       -- by its form
-      module _ {at : ℕ} (ha : at ≡ 2 * n + 6 * e) (yes-form : getD order at 0 < 65536) where
-        word : (i : ℕ) → getD (drop (2 * n) order) (6 * e + i) 0 ≡ getD order (at + i) 0
+      module _ {at : ℕ} (ha : at ≡ n + 6 * e) (yes-form : getD order at 0 < 65536) where
+        word : (i : ℕ) → getD (drop n order) (6 * e + i) 0 ≡ getD order (at + i) 0
         word i = form-word n order at e i ha
 
-        table-of : getD (drop (2 * n) order) (6 * e) 0 ≡ getD order at 0
-        table-of = getD-drop (2 * n) order (6 * e) 0 ∙ ap (λ (i : ℕ). getD order i 0) (sym ha)
+        table-of : getD (drop n order) (6 * e) 0 ≡ getD order at 0
+        table-of = getD-drop n order (6 * e) 0 ∙ ap (λ (i : ℕ). getD order i 0) (sym ha)
 
-        has : getD (drop (2 * n) order) (6 * e) 0 < 65536
+        has : getD (drop n order) (6 * e) 0 < 65536
         has = omega (arith, table-of)
 
         own-is : getD order (at + 1) 0 ≡ offset (widthsIn exprs) e
         own-is = sym (word 1) ∙ c .formed .own-position e code-there has
 
-        known : Known signals exprs (InCode order n j) (getD order (at + 2) 0) × Known signals exprs (InCode order n j) (getD order (at + 3) 0) × Known signals exprs (InCode order n j) (getD order (at + 4) 0) × Known signals exprs (InCode order n j) (getD order (at + 5) 0)
+        known : Known signals exprs (Among order from j) (getD order (at + 2) 0) × Known signals exprs (Among order from j) (getD order (at + 3) 0) × Known signals exprs (Among order from j) (getD order (at + 4) 0) × Known signals exprs (Among order from j) (getD order (at + 5) 0)
         known =
             let f = computable .by-form has in
-            (subst (Known signals exprs (InCode order n j)) (word 2) (f .0), subst (Known signals exprs (InCode order n j)) (word 3) (f .1), subst (Known signals exprs (InCode order n j)) (word 4) (f .2), subst (Known signals exprs (InCode order n j)) (word 5) (f .3))
+            (subst (Known signals exprs (Among order from j)) (word 2) (f .0), subst (Known signals exprs (Among order from j)) (word 3) (f .1), subst (Known signals exprs (Among order from j)) (word 4) (f .2), subst (Known signals exprs (Among order from j)) (word 5) (f .3))
 
         -- what a look-up asks
         pub form-inside : at + 5 < length order
-        form-inside = omega (arith, c .room, code-there, ha)
+        form-inside = omega (arith, c .forms-before, c .room, code-there, hj, ha)
 
         pub inputs-inside : bitsIn exprs + bitsIn signals ≤ length values₀ → (getD order (at + 2) 0 < length values) × (getD order (at + 3) 0 < length values) × (getD order (at + 4) 0 < length values) × (getD order (at + 5) 0 < length values)
         inputs-inside h =
             let f = known in
             let l = r .values-long in (
-              omega (arith, l, known-inside signals exprs (InCode order n j) (getD order (at + 2) 0) (f .0)),
-              omega (arith, l, known-inside signals exprs (InCode order n j) (getD order (at + 3) 0) (f .1)),
-              omega (arith, l, known-inside signals exprs (InCode order n j) (getD order (at + 4) 0) (f .2)),
-              omega (arith, l, known-inside signals exprs (InCode order n j) (getD order (at + 5) 0) (f .3)),
+              omega (arith, l, known-inside signals exprs (Among order from j) (getD order (at + 2) 0) (f .0)),
+              omega (arith, l, known-inside signals exprs (Among order from j) (getD order (at + 3) 0) (f .1)),
+              omega (arith, l, known-inside signals exprs (Among order from j) (getD order (at + 4) 0) (f .2)),
+              omega (arith, l, known-inside signals exprs (Among order from j) (getD order (at + 5) 0) (f .3)),
             )
 
         pub own-inside : Room signals exprs bytes values₀ → getD order (at + 1) 0 < length values
         own-inside room = omega (arith, own-is, some-width p {e = e} (omega (arith, hn, code-there)), offset-before (widthsIn exprs) e (length (recordsIn exprs)) (omega (arith, hn, code-there)), room .values-room, r .values-long)
 
-        pub running-form : {values′ : List ℕ} → values′ ≡ lookedUp order at values → Running signals exprs stmts n k order bytes values₀ values′ (j + 1)
+        pub running-form : {values′ : List ℕ} → values′ ≡ lookedUp order at values → Running signals exprs stmts from k order bytes values₀ values′ (j + 1)
         unfolding over
         running-form {values′} z = next hn r hj he code-there (ap length z ∙ length-set values (getD order (at + 1) 0) _) (λ old vs behind rest ho hv g.
             subst (λ (l : List ℕ). Holds (widthsIn exprs) (set vs e (getD (Settle signals exprs stmts old) e [])) (map digit (flat old) ++ rest) l)
             (sym (z ∙ looks old vs behind rest ho hv g))
             (holds-set hv e (getD (Settle signals exprs stmts old) e []) (omega (arith, hn, code-there, length-widths exprs)) (wide-at (widthsIn exprs) (Settle signals exprs stmts old) (settled-wide old) e (omega (arith, hn, code-there, wide-length (widthsIn exprs) (Settle signals exprs stmts old) (settled-wide old), length-widths exprs)))))
           where
-            looks : (old vs : List Bits) (behind rest : List ℕ) → Holds (widthsIn signals) old behind bytes → Holds (widthsIn exprs) vs (map digit (flat old) ++ rest) values → ((x : ℕ) → InCode order n j x → getD vs x [] ≡ getD (Settle signals exprs stmts old) x []) → lookedUp order at values ≡ over values (offset (widthsIn exprs) e) (map digit (getD (Settle signals exprs stmts old) e []))
+            looks : (old vs : List Bits) (behind rest : List ℕ) → Holds (widthsIn signals) old behind bytes → Holds (widthsIn exprs) vs (map digit (flat old) ++ rest) values → ((x : ℕ) → Among order from j x → getD vs x [] ≡ getD (Settle signals exprs stmts old) x []) → lookedUp order at values ≡ over values (offset (widthsIn exprs) e) (map digit (getD (Settle signals exprs stmts old) e []))
             looks old vs behind rest ho hv g =
                 ap₂ (set values) own-is (five looked refl (byte (getD order (at + 2) 0) (known .0)) (byte (getD order (at + 3) 0) (known .1)) (byte (getD order (at + 4) 0) (known .2)) (byte (getD order (at + 5) 0) (known .3)) ∙ looked-bit (getD order at 0) (bit (getD order (at + 2) 0)) (bit (getD order (at + 3) 0)) (bit (getD order (at + 4) 0)) (bit (getD order (at + 5) 0)))
                 ∙ ap (λ (v : Bits). sets values (offset (widthsIn exprs) e) (map digit v)) (sym value)
@@ -274,8 +271,8 @@ module _ {signals exprs stmts exprTable signalTable : List ℕ} (p : Prepared si
                 bit : ℕ → Bool
                 bit = bitAt (Settle signals exprs stmts old) old
 
-                byte : (i : ℕ) → Known signals exprs (InCode order n j) i → getD values i 0 ≡ digit (bitAt (Settle signals exprs stmts old) old i)
-                byte i h = byte-at signals exprs vs old rest values hv (ho .wide) i (known-inside signals exprs (InCode order n j) i h) ∙ ap digit (known-bit signals exprs (InCode order n j) vs (Settle signals exprs stmts old) old (hv .wide) (settled-wide old) g i h)
+                byte : (i : ℕ) → Known signals exprs (Among order from j) i → getD values i 0 ≡ digit (bitAt (Settle signals exprs stmts old) old i)
+                byte i h = byte-at signals exprs vs old rest values hv (ho .wide) i (known-inside signals exprs (Among order from j) i h) ∙ ap digit (known-bit signals exprs (Among order from j) vs (Settle signals exprs stmts old) old (hv .wide) (settled-wide old) g i h)
 
                 value : getD (Settle signals exprs stmts old) e [] ≡ tableBit (getD order at 0) (digit (bit (getD order (at + 2) 0)) + 2 * digit (bit (getD order (at + 3) 0)) + 4 * digit (bit (getD order (at + 4) 0)) + 8 * digit (bit (getD order (at + 5) 0))) ∷ []
                 value =
@@ -283,7 +280,7 @@ module _ {signals exprs stmts exprTable signalTable : List ℕ} (p : Prepared si
                     ∙ five (λ t a b c′ d. tableBit t (digit (bit a) + 2 * digit (bit b) + 4 * digit (bit c′) + 8 * digit (bit d)) ∷ []) table-of (word 2) (word 3) (word 4) (word 5)
 
     -- before the first code word: the signals' bytes are copied behind the values
-    pub running-start : {n k : ℕ} {order values values′ : List ℕ} {base state : ℕ} → base ≡ bitsIn exprs → state ≡ bitsIn signals → bitsIn exprs + bitsIn signals ≤ length values → bitsIn signals ≤ length bytes → Filled (widthsIn exprs) values → length values′ ≡ length values → values′ ≡ over values base (part bytes 0 state) → Running signals exprs stmts n k order bytes values′ values′ 0
+    pub running-start : {from k : ℕ} {order values values′ : List ℕ} {base state : ℕ} → base ≡ bitsIn exprs → state ≡ bitsIn signals → bitsIn exprs + bitsIn signals ≤ length values → bitsIn signals ≤ length bytes → Filled (widthsIn exprs) values → length values′ ≡ length values → values′ ≡ over values base (part bytes 0 state) → Running signals exprs stmts from k order bytes values′ values′ 0
     unfolding over
     running-start {values = values} {values′} {base} {state} hb hs room rb f l z = record { within = omega arith; values-long = refl; so-far = λ old behind ho. (f .values, drop (bitsIn exprs + bitsIn signals) values, holds old behind ho, λ e i. absurd (not-suc-le-zero (i .before))) }
       where
@@ -307,11 +304,11 @@ module _ {signals exprs stmts exprTable signalTable : List ℕ} (p : Prepared si
             front : take (bitsIn exprs) values ≡ map digit (flat (f .values))
             front = ap (take (bitsIn exprs)) (f .holds .begin) ∙ take-at (map digit (flat (f .values))) (f .rest) (bitsIn exprs) (length-map (flat (f .values)) digit ∙ flat-bits exprs (f .values) (f .holds .wide))
 
-    pub running-end : {n k : ℕ} {order values₀ values : List ℕ} {j : ℕ} → Coded signals exprs stmts n k order → Running signals exprs stmts n k order bytes values₀ values j → k ≤ j → SettlesNamed signals exprs stmts bytes values
-    running-end {n} {k} {order} {j = j} c r h = record {
-      settles-named = λ old behind ho.
+    pub running-end : {from k : ℕ} {order values₀ values : List ℕ} {j : ℕ} → Running signals exprs stmts from k order bytes values₀ values j → k ≤ j → SettlesCode signals exprs stmts order from k bytes values
+    running-end {from} {k} {order} {j = j} r h = record {
+      settles-code = λ old behind ho.
           let t = r .so-far old behind ho in
-          (t .0, map digit (flat old) ++ t .1, t .2, λ e i. t .3 e (subst (λ (x : ℕ). InCode order n x e) same (c .all-named e i)));
+          (t .0, map digit (flat old) ++ t .1, t .2, λ e i. t .3 e (subst (λ (x : ℕ). Among order from x e) same i));
     }
       where
         same : k ≡ j
