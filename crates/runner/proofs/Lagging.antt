@@ -1,26 +1,26 @@
 -- Ticks by a plan: inputs, registers and outputs make a tick, late; and the list of them. Assumes nothing.
-use Prim.Native.Nat.{ℕ, zero, suc, _+_, _≤_, _<_}
+use Prim.Native.Nat.{ℕ, zero, suc, _+_, _-_, _*_, _/_, _≤_, _<_, min}
 use mathlib.Core.Path.{_≡_, refl, sym, _∙_, ap, ap₂, subst}
-use mathlib.Core.Bool.{Bool, true, false, _||_}
+use mathlib.Core.Bool.{Bool, true, false, not, _||_, false≢true}
 use mathlib.Core.Logic.{_⊎_}
 use mathlib.Core.List.{List, [], _∷_, _++_, map, append-assoc}
 use mathlib.Core.Option.{Option, none, some}
 use native.Mathlib.Omega.{arith}
 use lib.Dec.{eqb}
 use borrow.Author.Tests.{eqb-true}
-use lib.ListN.{length, getD, take, drop, length-map}
+use lib.ListN.{length, getD, take, drop, length-map, length-append}
 use lib.Seq.{take-at, drop-at}
 use Rattle.bits.specs.Bits.{Bits, digit, pick}
 use Rattle.settle.specs.Table.{length-tab}
 use Rattle.recorder.specs.Record.{Signal, Model, assign}
-use Rattle.recorder.specs.Lists.{Lists, lists}
+use Rattle.recorder.specs.Lists.{Lists, lists, over}
 use Rattle.recorder.specs.Read.{modelOf}
 use Rattle.recorder.specs.Words.{rawOf}
 use Rattle.simulation.specs.Wellformed.{largest, malformed, firstFault}
 use Rattle.simulation.specs.Tick.{Firing, given, assigns, settle, commit, setInputs, tick, looped}
 use Rattle.simulation.specs.Run.{isOne, firing, inputWidth, total, tickBits, flat}
 use Rattle.simulation.specs.Shown.{shownBytes}
-use Rattle.simulation.specs.Index.{recordsIn, widthsIn, stmtsIn}
+use Rattle.simulation.specs.Index.{recordsIn, widthsIn, offset, stmtsIn}
 use Rattle.simulation.specs.Sound.{Sound}
 use Rattle.simulation.proofs.Flat.{Wide}
 use Rattle.simulation.proofs.Sound.{sound}
@@ -30,15 +30,17 @@ use Rattle.evaluation.specs.Bytes.{Holds}
 use Rattle.evaluation.specs.Ready.{Prepared, modelIn}
 use Rattle.evaluation.specs.Ticks.{Filled, signalsIn, Inputs, Settled, Ticks, GoodTicks}
 use Rattle.evaluation.specs.Late.{Among, SameFree, Output, Late, Loaded, StoresListed, LoadsListed, TicksLate}
-use Rattle.evaluation.proofs.Held.{holds-length, map-append}
+use Rattle.evaluation.proofs.Held.{holds-length, map-append, flat-total}
 use Rattle.evaluation.proofs.Whole.{is-sound}
 use Rattle.evaluation.proofs.Calling.{holds-same, holds-state as state-of, holds-behind as behind-of, holds-ticked}
 use Rattle.evaluation.proofs.Late.{free-sym, settle-free, settle-long, settled-so, loaded-late, shown-late, tick-free, late-itself, late-free}
 use Rattle.coding.specs.Coded.{SettlesCode}
 use Rattle.runner.specs.declared.code.Code.{Code}
-use Rattle.runner.specs.Plan.{registersAt, controlsAt, outputsAt, firstAt, secondAt, Planned}
-use Rattle.runner.specs.Parts.{afterTick, tickCauses, RunsTick, LoadsAfter, ShowsAfter, LateAfter, RunsLate, isMade, finished, Finishes}
+use Rattle.runner.specs.Calls.{firedBy, outputWidth, answerWords}
+use Rattle.runner.specs.Plan.{registersAt, controlsAt, outputsAt, firstAt, secondAt, Planned, Planning}
+use Rattle.runner.specs.Parts.{afterTick, tickCauses, RunsTick, LoadsAfter, ShowsAfter, LateAfter, RunsLate, isMade, finished, Finishes, RunsTicks}
 use Rattle.runner.proofs.Ticking.{good-ticks}
+use Rattle.runner.proofs.Running.{Running, running-start, running-end, running-step}
 
 -- WHAT IS FILLED STAYS SO
 
@@ -50,6 +52,29 @@ stores-fill f g s = let v = s .stores-listed (f .values) (g .values) (f .rest) (
 
 pub after-fills : {signals exprs stmts : List ℕ} {fires : Firing} {bytes bytes′ : List ℕ} → Filled (widthsIn signals) bytes → LoadsAfter signals exprs stmts fires bytes bytes′ → Filled (widthsIn signals) bytes′
 after-fills f s = let v = s .loads-after (f .values) (f .rest) (f .holds) in record { values = v .0; rest = f .rest; holds = v .1 }
+
+-- a plan asks only for room in the values
+pub planned-kept : {signals exprs stmts : List ℕ} {n s : ℕ} {c : Code} {order values values′ : List ℕ} → Planned signals exprs stmts n s c order values → length values′ ≡ length values → Planned signals exprs stmts n s c order values′
+planned-kept p l = record {
+  room = p .room;
+  base-is = p .base-is;
+  state-is = p .state-is;
+  values-room = let h = p .values-room in omega (arith, h, l);
+  registers = p .registers;
+  controls = p .controls;
+  outputs = p .outputs;
+  registers-few = p .registers-few;
+  controls-few = p .controls-few;
+  outputs-few = p .outputs-few;
+  first = p .first;
+  second = p .second;
+  loaded-coded = p .loaded-coded;
+  controls-coded = p .controls-coded;
+  outputs-coded = p .outputs-coded;
+}
+
+pub planning-kept : {signals exprs stmts : List ℕ} {n s : ℕ} {c : Code} {order values values′ : List ℕ} → Planning signals exprs stmts n s c order values → length values′ ≡ length values → Planning signals exprs stmts n s c order values′
+planning-kept p l = record { planned = λ u. planned-kept (p .planned u) l }
 
 -- THE PARTS OF A TICK
 
@@ -114,11 +139,13 @@ module _ {signals exprs stmts exprTable signalTable : List ℕ} (p : Prepared si
   }
 
   -- behind the last tick
-  pub finishes-late : {bytes bytes′ values′ : List ℕ} → Settled signals exprs stmts bytes bytes′ values′ → Finishes signals exprs stmts true bytes bytes′
-  finishes-late s = record { finishes = s .signals-hold }
+  pub finishes-late : {late : Bool} {bytes bytes′ values′ : List ℕ} → not late ≡ false → Settled signals exprs stmts bytes bytes′ values′ → Finishes signals exprs stmts late bytes bytes′
+  finishes-late {late = true} z s = record { finishes = s .signals-hold }
+  finishes-late {late = false} z s = absurd (false≢true (sym z))
 
-pub finishes-none : {signals exprs stmts bytes : List ℕ} → Finishes signals exprs stmts false bytes bytes
-finishes-none = record { finishes = λ old behind h. h }
+pub finishes-none : {signals exprs stmts bytes : List ℕ} {late : Bool} → not late ≡ true → Finishes signals exprs stmts late bytes bytes
+finishes-none {late = false} z = record { finishes = λ old behind h. h }
+finishes-none {late = true} z = absurd (false≢true z)
 
 module _ {signals exprs stmts ticks : List ℕ} {fired : Option (ℕ × ℕ)} {bytes : List ℕ} where
   pub late-refused : (r : ℕ × ℕ) → RunsLate signals exprs stmts ticks fired (some r) bytes bytes
@@ -171,6 +198,12 @@ shown-same (s ∷ ss) (p ∷ a) (q ∷ b) x y u v g = go (eqb (s .label) 1) refl
         ap₂ _∷_ (taken p a x (u .0) ∙ ap (map digit) (g 0 (record { there = omega arith; labelled = eqb-true (s .label) 1 z })) ∙ sym (taken q b y (v .0))) (rest ih)
     go false z ih = rest ih
 
+-- after one tick
+pub record Next (l : Lists) (ticks : List ℕ) (fired : Option (ℕ × ℕ)) (meant : List ℕ) (a : Option (ℕ × ℕ)) (late : Bool) (bytes : List ℕ) : Type 0 where
+  pub meant′ : List ℕ
+  pub ran : RunsTick (l .signals) (l .exprs) (l .stmts) ticks fired a meant meant′
+  pub lags : Lags l late meant′ bytes
+
 module _ (l : Lists) (h : malformed largest l ≡ none) (u : looped (modelOf (rawOf l)) ≡ none) where
   abbrev M : Model
   M = modelOf (rawOf l)
@@ -200,13 +233,8 @@ module _ (l : Lists) (h : malformed largest l ≡ none) (u : looped (modelOf (ra
   lags-end {late} {meant} {bytes} {bytes′} g f = holds-same (subst (λ (t : List Bits). Holds (widthsIn (l .signals)) t (g .behind) bytes′) (g .settles-to) (f .finishes (g .held) (g .behind) (g .holds-held))) (g .holds-state)
 
   -- one tick
-  module _ {late : Bool} {meant bytes : List ℕ} (g : Lags l late meant bytes) {count inputs : ℕ} (hi : inputs ≡ total inputWidth (signalsIn (l .signals))) {ticks : List ℕ} {fired : Option (ℕ × ℕ)} where
-    pub record Next (a : Option (ℕ × ℕ)) (late′ : Bool) (bytes″ : List ℕ) : Type 0 where
-      pub meant′ : List ℕ
-      pub ran : RunsTick (l .signals) (l .exprs) (l .stmts) ticks fired a meant meant′
-      pub lags : Lags l late′ meant′ bytes″
-
-    next : {bytes′ : List ℕ} (a : Option (ℕ × ℕ)) → a ≡ tickCauses count inputs ticks fired → RunsLate (l .signals) (l .exprs) (l .stmts) ticks fired a bytes bytes′ → {late′ : Bool} → late′ ≡ (late || isMade a) → Next a late′ bytes′
+  module _ {late : Bool} {meant bytes : List ℕ} (g : Lags l late meant bytes) (count : ℕ) {inputs : ℕ} (hi : inputs ≡ total inputWidth (signalsIn (l .signals))) {ticks : List ℕ} {fired : Option (ℕ × ℕ)} where
+    next : {bytes′ : List ℕ} (a : Option (ℕ × ℕ)) → a ≡ tickCauses count inputs ticks fired → RunsLate (l .signals) (l .exprs) (l .stmts) ticks fired a bytes bytes′ → {late′ : Bool} → late′ ≡ (late || isMade a) → Next l ticks fired meant a late′ bytes′
     unfolding modelOf
     next {bytes′} (some r) ha w {late′} e = record {
       meant′ = meant;
@@ -251,5 +279,44 @@ module _ (l : Lists) (h : malformed largest l ≡ none) (u : looped (modelOf (ra
             subst (λ (x : List Bits). Holds (widthsIn (l .signals)) (tick M (map isOne ticks) (firing fired) x) behind (map digit (flat T) ++ g .behind)) (sym (state-of largest l fine (g .holds-state)) ∙ state-of largest l fine ho)
             (subst (λ (b : List ℕ). Holds (widthsIn (l .signals)) T b (map digit (flat T) ++ g .behind)) (sym (behind-of largest l fine (g .holds-state)) ∙ behind-of largest l fine ho) held)
 
-    pub lags-next : {bytes′ : List ℕ} {a : Option (ℕ × ℕ)} → a ≡ tickCauses count inputs ticks fired → RunsLate (l .signals) (l .exprs) (l .stmts) ticks fired a bytes bytes′ → {late′ : Bool} → late′ ≡ (late || isMade a) → Next a late′ bytes′
+    pub lags-next : {bytes′ : List ℕ} {a : Option (ℕ × ℕ)} → a ≡ tickCauses count inputs ticks fired → RunsLate (l .signals) (l .exprs) (l .stmts) ticks fired a bytes bytes′ → {late′ : Bool} → late′ ≡ (late || isMade a) → Next l ticks fired meant a late′ bytes′
     lags-next {bytes′} {a} ha w e = next a ha w e
+
+  -- as many bytes
+  pub lags-long : {late : Bool} {meant bytes : List ℕ} → Lags l late meant bytes → length bytes ≡ length meant
+  lags-long g = count (g .holds-held) ∙ sym (count (g .holds-state))
+    where
+      count : {old : List Bits} {behind bytes : List ℕ} → Holds (widthsIn (l .signals)) old behind bytes → length bytes ≡ offset (widthsIn (l .signals)) (length (widthsIn (l .signals))) + length behind
+      count {old} {behind} ho = ap length (ho .begin) ∙ length-append (map digit (flat old)) behind ∙ ap (λ (i : ℕ). i + length behind) (length-map (flat old) digit ∙ flat-total (widthsIn (l .signals)) old (ho .wide))
+
+-- ALL TICKS
+
+-- i ticks are made, late
+pub record Along (l : Lists) (heads bits bytes₀ bytes answers₀ answers shown₀ shown : List ℕ) (at pos to i : ℕ) (late : Bool) : Type 0 where
+  pub meant : List ℕ
+  pub running : Running l heads bits bytes₀ meant answers₀ answers shown₀ shown at pos to i
+  pub lags : Lags l late meant bytes
+
+pub along-start : {l : Lists} (heads bits : List ℕ) {bytes₀ : List ℕ} (answers₀ shown₀ : List ℕ) → Filled (widthsIn (l .signals)) bytes₀ → Along l heads bits bytes₀ bytes₀ answers₀ answers₀ shown₀ shown₀ 0 0 0 0 false
+along-start heads bits {bytes₀} answers₀ shown₀ f = record { meant = bytes₀; running = running-start heads bits answers₀ shown₀ f; lags = lags-start f }
+
+module _ {l : Lists} {heads bits bytes₀ bytes answers₀ answers shown₀ shown : List ℕ} {at pos to i : ℕ} {late : Bool} (g : Along l heads bits bytes₀ bytes answers₀ answers shown₀ shown at pos to i late)
+    (h : malformed largest l ≡ none) (u : looped (modelOf (rawOf l)) ≡ none) where
+  pub along-long : length bytes ≡ length bytes₀
+  along-long = lags-long l h u (g .lags) ∙ g .running .bytes-long
+
+  pub along-end : length heads / 3 ≤ i → {bytes′ : List ℕ} → Finishes (l .signals) (l .exprs) (l .stmts) late bytes bytes′ → RunsTicks l heads bits bytes₀ bytes′ answers₀ answers shown₀ shown
+  along-end q {bytes′} f = subst (λ (b : List ℕ). RunsTicks l heads bits bytes₀ b answers₀ answers shown₀ shown) (sym (lags-end l h u (g .lags) f)) (running-end (g .running) q)
+
+  pub along-next : (q : i < length heads / 3) {count inputs : ℕ} (hc : count ≡ length (recordsIn (l .signals))) (hi : inputs ≡ total inputWidth (signalsIn (l .signals)))
+      {end : ℕ} (he : end ≡ min (pos + getD heads at 0) (length bits)) {ticks : List ℕ} (ht : ticks ≡ take (end - pos) (drop pos bits)) {fired : Option (ℕ × ℕ)} (hf : fired ≡ firedBy (getD heads (at + 1) 0) (getD heads (at + 2) 0))
+      {a : Option (ℕ × ℕ)} {bytes′ answers′ shown′ : List ℕ} (ha : a ≡ tickCauses count inputs ticks fired) (hr : RunsLate (l .signals) (l .exprs) (l .stmts) ticks fired a bytes bytes′)
+      (wa : answers′ ≡ over answers (2 * i) (answerWords a)) (hs : shown′ ≡ over shown to (flat (shownBytes (signalsIn (l .signals)) bytes′))) {late′ : Bool} (e : late′ ≡ (late || isMade a))
+      → length bytes′ ≡ length bytes → length answers′ ≡ length answers → length shown′ ≡ length shown → Along l heads bits bytes₀ bytes′ answers₀ answers′ shown₀ shown′ (at + 3) end (to + total outputWidth (signalsIn (l .signals))) (i + 1) late′
+  along-next q {count} {inputs} hc hi he ht hf {a} {bytes′} {answers′} {shown′} ha hr wa hs e lb la ls =
+      let x = lags-next l h u (g .lags) count hi ha hr e in
+      record {
+        meant = x .meant′;
+        running = running-step (g .running) q h u hc hi he ht hf ha (x .ran) wa (hs ∙ ap (λ (o : List (List ℕ)). over shown to (flat o)) (lags-shown l h u (x .lags))) (sym (lags-long l h u (x .lags)) ∙ lb ∙ lags-long l h u (g .lags)) la ls;
+        lags = x .lags;
+      }
