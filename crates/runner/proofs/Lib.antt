@@ -5,3 +5,4 @@ pub mod Ticking
 pub mod Call
 pub mod Running
 pub mod WholeList
+pub mod Planning
