@@ -136,42 +136,52 @@ module _ (n s : ℕ) (o₁ o₂ o₃ o₄ : List ℕ) (k₂ : take (7 * n) o₂ 
       second-place : 7 * n + s + s + s + n ≡ secondAt n s
       second-place = omega arith
 
-      -- the order is kept all along
-      pub order-kept : (o₀ : List ℕ) → take n o₁ ≡ take n o₀ → take n o₆ ≡ take n o₀
-      order-kept o₀ k = less n (omega arith) ∙ take-less {n = n} {m = 7 * n} o₄ o₁ (omega arith) formed-listed ∙ k
+      first-kept : (k e : ℕ) → k ≤ n → Among o₅ (7 * n + s + s + s) k e → Among o₆ (firstAt n s) k e
+      first-kept k e h a = subst (λ (p : ℕ). Among o₆ p k e) first-place (among-kept (7 * n + s + s + s + n) o₅ o₆ k₆ (omega (arith, h)) a)
 
-      module _ (c : Code) (hr : c .registers ≤ s) (hc : c .controls ≤ s) (ho : c .outputs ≤ s) (hf : c .first ≤ n) where
-        first-kept : (e : ℕ) → Among o₅ (7 * n + s + s + s) (c .first) e → Among o₆ (firstAt n s) (c .first) e
-        first-kept e a = subst (λ (p : ℕ). Among o₆ p (c .first) e) first-place (among-kept (7 * n + s + s + s + n) o₅ o₆ k₆ (omega (arith, hf)) a)
+      controls-back : (k x : ℕ) → k ≤ s → Among o₆ (controlsAt n s) k x → Among o₅ (7 * n + s) k x
+      controls-back k x h a = among-kept (7 * n + s + s + s + n) o₆ o₅ (sym k₆) (omega (arith, h)) a
 
-        controls-back : (x : ℕ) → Among o₆ (controlsAt n s) (c .controls) x → Among o₅ (7 * n + s) (c .controls) x
-        controls-back x a = among-kept (7 * n + s + s + s + n) o₆ o₅ (sym k₆) (omega (arith, hc)) a
+      pub planned-all : {signals exprs stmts values : List ℕ} {base state registers controls outputs first second used : ℕ}
+        → n ≡ length (recordsIn exprs) → registers ≤ s → controls ≤ s → outputs ≤ s → first ≤ n
+        → 9 * n + 3 * s ≤ length o₆ → length o₆ ≡ length o₅ → base ≡ bitsIn exprs → state ≡ bitsIn signals → base + state ≤ length values
+        → Registers stmts o₂ (7 * n) registers → Controls stmts o₃ (7 * n + s) controls → Outputs signals o₄ (7 * n + s + s) outputs
+        → Coded signals exprs stmts n (7 * n + s + s + s) first o₅ → ((e : ℕ) → Loaded stmts e → Among o₅ (7 * n + s + s + s) first e) → ((x d : ℕ) → Among o₅ (7 * n + s) controls x → given assigns (stmtsIn stmts) x ≡ some d → Among o₅ (7 * n + s + s + s) first d)
+        → Coded signals exprs stmts n (7 * n + s + s + s + n) second o₆ → ((x d : ℕ) → Among o₆ (7 * n + s + s) outputs x → given assigns (stmtsIn stmts) x ≡ some d → Among o₆ (7 * n + s + s + s + n) second d)
+        → Planning signals exprs stmts n s (record { usable = true; base = base; state = state; registers = registers; controls = controls; outputs = outputs; first = first; second = second; used = used }) o₆ values
+      planned-all {signals} {exprs} {stmts} {values} {base} {state} {registers} {controls} {outputs} {first} {second} {used} hn hr hc ho hf room same hb hs hv rs cs os coded loaded driven coded₂ shown = record {
+        planned = λ u. record {
+          room = room;
+          base-is = hb;
+          state-is = hs;
+          values-room = omega (arith, hb, hs, hv);
+          registers = registers-kept (7 * n + s) o₂ o₆ registers-still (omega (arith, hr)) rs;
+          controls = record { all-asked = λ number x q a. among-kept (7 * n + s + s) o₃ o₆ controls-still (omega (arith, hc)) (cs .all-asked number x q a) };
+          outputs = record { all-outputs = λ x h. subst (λ (p : ℕ). Among o₆ p outputs x) outputs-place (among-kept (7 * n + s + s + s) o₄ o₆ outputs-still (omega (arith, ho)) (os .all-outputs x h)) };
+          registers-few = hr;
+          controls-few = hc;
+          outputs-few = ho;
+          first = subst (λ (p : ℕ). Coded signals exprs stmts n p first o₆) first-place (coded-kept (7 * n + s + s + s + n) o₅ o₆ k₆ hn (omega (arith, hf)) same coded);
+          second = subst (λ (p : ℕ). Coded signals exprs stmts n p second o₆) second-place coded₂;
+          loaded-coded = λ e l. first-kept first e hf (loaded e l);
+          controls-coded = λ x d a q. first-kept first d hf (driven x d (controls-back controls x hc a) q);
+          outputs-coded = λ x d a q. subst (λ (p : ℕ). Among o₆ p second d) second-place (shown x d (subst (λ (p : ℕ). Among o₆ p outputs x) (sym outputs-place) a) q);
+        };
+      }
 
-        outputs-back : (x : ℕ) → Among o₆ (outputsAt n s) (c .outputs) x → Among o₆ (7 * n + s + s) (c .outputs) x
-        outputs-back x a = subst (λ (p : ℕ). Among o₆ p (c .outputs) x) (sym outputs-place) a
+-- THE ORDER is kept by every step
+module _ (n s : ℕ) (o₀ o o′ : List ℕ) (k : take n o ≡ take n o₀) where
+  pub order-by-registers : take (7 * n) o′ ≡ take (7 * n) o → take n o′ ≡ take n o₀
+  order-by-registers z = take-less {n = n} {m = 7 * n} o′ o (omega arith) z ∙ k
 
-        pub planned-all : {signals exprs stmts values : List ℕ} → n ≡ length (recordsIn exprs) → 9 * n + 3 * s ≤ length o₆ → length o₆ ≡ length o₅ → c .base ≡ bitsIn exprs → c .state ≡ bitsIn signals → c .base + c .state ≤ length values
-          → Registers stmts o₂ (7 * n) (c .registers) → Controls stmts o₃ (7 * n + s) (c .controls) → Outputs signals o₄ (7 * n + s + s) (c .outputs)
-          → Coded signals exprs stmts n (7 * n + s + s + s) (c .first) o₅ → ((e : ℕ) → Loaded stmts e → Among o₅ (7 * n + s + s + s) (c .first) e) → ((x d : ℕ) → Among o₅ (7 * n + s) (c .controls) x → given assigns (stmtsIn stmts) x ≡ some d → Among o₅ (7 * n + s + s + s) (c .first) d)
-          → Coded signals exprs stmts n (7 * n + s + s + s + n) (c .second) o₆ → ((x d : ℕ) → Among o₆ (7 * n + s + s) (c .outputs) x → given assigns (stmtsIn stmts) x ≡ some d → Among o₆ (7 * n + s + s + s + n) (c .second) d)
-          → Planning signals exprs stmts n s c o₆ values
-        planned-all {signals} {exprs} {stmts} {values} hn room same hb hs hv registers controls outputs first loaded driven second shown = record { planned = λ u. all }
-          where
-            all : Planned signals exprs stmts n s c o₆ values
-            all = record {
-              room = room;
-              base-is = hb;
-              state-is = hs;
-              values-room = omega (arith, hb, hs, hv);
-              registers = registers-kept (7 * n + s) o₂ o₆ registers-still (omega (arith, hr)) registers;
-              controls = record { all-asked = λ number x q a. among-kept (7 * n + s + s) o₃ o₆ controls-still (omega (arith, hc)) (controls .all-asked number x q a) };
-              outputs = record { all-outputs = λ x h. subst (λ (p : ℕ). Among o₆ p (c .outputs) x) outputs-place (among-kept (7 * n + s + s + s) o₄ o₆ outputs-still (omega (arith, ho)) (outputs .all-outputs x h)) };
-              registers-few = hr;
-              controls-few = hc;
-              outputs-few = ho;
-              first = subst (λ (p : ℕ). Coded signals exprs stmts n p (c .first) o₆) first-place (coded-kept (7 * n + s + s + s + n) o₅ o₆ k₆ hn (omega (arith, hf)) same first);
-              second = subst (λ (p : ℕ). Coded signals exprs stmts n p (c .second) o₆) second-place second;
-              loaded-coded = λ e l. first-kept e (loaded e l);
-              controls-coded = λ x d a q. first-kept d (driven x d (controls-back x a) q);
-              outputs-coded = λ x d a q. subst (λ (p : ℕ). Among o₆ p (c .second) d) second-place (shown x d (outputs-back x a) q);
-            }
+  pub order-by-controls : take (7 * n + s) o′ ≡ take (7 * n + s) o → take n o′ ≡ take n o₀
+  order-by-controls z = take-less {n = n} {m = 7 * n + s} o′ o (omega arith) z ∙ k
+
+  pub order-by-outputs : take (7 * n + s + s) o′ ≡ take (7 * n + s + s) o → take n o′ ≡ take n o₀
+  order-by-outputs z = take-less {n = n} {m = 7 * n + s + s} o′ o (omega arith) z ∙ k
+
+  pub order-by-first : take (7 * n + s + s + s) o′ ≡ take (7 * n + s + s + s) o → take n o′ ≡ take n o₀
+  order-by-first z = take-less {n = n} {m = 7 * n + s + s + s} o′ o (omega arith) z ∙ k
+
+  pub order-by-second : take (7 * n + s + s + s + n) o′ ≡ take (7 * n + s + s + s + n) o → take n o′ ≡ take n o₀
+  order-by-second z = take-less {n = n} {m = 7 * n + s + s + s + n} o′ o (omega arith) z ∙ k
