@@ -8,3 +8,4 @@ pub mod WholeList
 pub mod Lagging
 pub mod Along
 pub mod Listing
+pub mod Planning
