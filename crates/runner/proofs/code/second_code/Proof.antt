@@ -32,7 +32,7 @@ zero-bytes-requires-2 c κs = tt
 
 -- src/code.rt:386:9
 emit-all-requires : tie.Need-emit-all-requires
-emit-all-requires c κs = let s = c .before .before .before .before .before .before .before .before .before .before .before .before .before .before .before .before .before .before .before .before .before .before .before .before .before .before .before .before .before .before .before in (s .pre .0, tabled (no-fault (s .pre .0)) (s .pre .1) (s .pre .2), s .pre .3, omega (arith, s .pre .4, c .before .before .before .before .before .zero-bytes2 .kept .0), s .pre .5, s .pre .6, omega (arith, s .pre .7, c .before .before .before .before .before .before .before .before .before .want-needed .kept .1 .1 .1 .1 .1 .0, c .before .before .before .before .before .before .before .before .before .before .before .before .before .before .want-drivers .kept .1 .1 .1 .1 .1 .1 .1 .0, c .before .before .before .before .before .before .before .before .before .before .before .before .before .before .before .before .before .before .before .zero-bytes .kept .0), emitting-start (s .args .marks .now) (s .pre .8) (s .pre .9) (s .pre .10) (c .before .before .before .before .before .before .before .before .before .want-needed .ensures) (c .before .before .before .before .before .zero-bytes2 .ensures))
+emit-all-requires c κs = let s = c .before .before .before .before .before .before .before .before .before .before .before .before .before .before .before .before .before .before .before .before .before .before .before .before .before .before .before .before .before .before .before in (s .pre .0, tabled (no-fault (s .pre .0)) (s .pre .1) (s .pre .2), s .pre .3, omega (arith, s .pre .4, c .before .before .before .before .before .zero-bytes2 .kept .0), s .pre .5, s .pre .6, omega (arith, s .pre .7, c .before .before .before .before .before .before .before .before .before .want-needed .kept .1 .1 .1 .1 .1 .1 .1 .0, c .before .before .before .before .before .before .before .before .before .before .before .before .before .before .want-drivers .kept .1 .1 .1 .1 .1 .1 .1 .0, c .before .before .before .before .before .before .before .before .before .before .before .before .before .before .before .before .before .before .before .zero-bytes .kept .0), emitting-start (s .args .marks .now) (s .pre .8) (s .pre .9) (s .pre .10) (c .before .before .before .before .before .before .before .before .before .want-needed .ensures) (c .before .before .before .before .before .zero-bytes2 .ensures))
 
 -- src/code.rt:403:9
 same-length : tie.Need-same-length
@@ -40,7 +40,7 @@ same-length c = c .before .before .before .before .before .before .before .emit-
 
 -- src/code.rt:403:9
 same-length-2 : tie.Need-same-length-2
-same-length-2 c = c .before .before .before .before .before .before .before .emit-all .kept .1 .1 .1 .1 .1 .1 .1 .1 .1 .1 .1 .1 .0 ∙ c .before .before .before .before .before .before .before .before .before .before .before .before .before .before .before .before .before .want-needed .kept .1 .1 .1 .1 .1 .0 ∙ c .before .before .before .before .before .before .before .before .before .before .before .before .before .before .before .before .before .before .before .before .before .before .want-drivers .kept .1 .1 .1 .1 .1 .1 .1 .0 ∙ c .before .before .before .before .before .before .before .before .before .before .before .before .before .before .before .before .before .before .before .before .before .before .before .before .before .before .before .zero-bytes .kept .0
+same-length-2 c = c .before .before .before .before .before .before .before .emit-all .kept .1 .1 .1 .1 .1 .1 .1 .1 .1 .1 .1 .1 .0 ∙ c .before .before .before .before .before .before .before .before .before .before .before .before .before .before .before .before .before .want-needed .kept .1 .1 .1 .1 .1 .1 .1 .0 ∙ c .before .before .before .before .before .before .before .before .before .before .before .before .before .before .before .before .before .before .before .before .before .before .want-drivers .kept .1 .1 .1 .1 .1 .1 .1 .0 ∙ c .before .before .before .before .before .before .before .before .before .before .before .before .before .before .before .before .before .before .before .before .before .before .before .before .before .before .before .zero-bytes .kept .0
 
 -- src/code.rt:403:9
 same-length-3 : tie.Need-same-length-3
@@ -64,7 +64,7 @@ same-length-4 c = c .before .before .before .before .before .before .before .bef
 
 -- src/code.rt:406:9
 same-length-5 : tie.Need-same-length-5
-same-length-5 c = c .before .before .before .before .before .before .before .before .before .before .before .emit-all .kept .1 .1 .1 .1 .1 .1 .1 .1 .1 .1 .1 .1 .0 ∙ c .before .before .before .before .before .before .before .before .before .before .before .before .before .before .before .before .before .before .before .before .before .want-needed .kept .1 .1 .1 .1 .1 .0 ∙ c .before .before .before .before .before .before .before .before .before .before .before .before .before .before .before .before .before .before .before .before .before .before .before .before .before .before .want-drivers .kept .1 .1 .1 .1 .1 .1 .1 .0 ∙ c .before .before .before .before .before .before .before .before .before .before .before .before .before .before .before .before .before .before .before .before .before .before .before .before .before .before .before .before .before .before .before .zero-bytes .kept .0
+same-length-5 c = c .before .before .before .before .before .before .before .before .before .before .before .emit-all .kept .1 .1 .1 .1 .1 .1 .1 .1 .1 .1 .1 .1 .0 ∙ c .before .before .before .before .before .before .before .before .before .before .before .before .before .before .before .before .before .before .before .before .before .want-needed .kept .1 .1 .1 .1 .1 .1 .1 .0 ∙ c .before .before .before .before .before .before .before .before .before .before .before .before .before .before .before .before .before .before .before .before .before .before .before .before .before .before .want-drivers .kept .1 .1 .1 .1 .1 .1 .1 .0 ∙ c .before .before .before .before .before .before .before .before .before .before .before .before .before .before .before .before .before .before .before .before .before .before .before .before .before .before .before .before .before .before .before .zero-bytes .kept .0
 
 -- src/code.rt:406:9
 same-length-6 : tie.Need-same-length-6
@@ -80,7 +80,7 @@ same-length-7 c = c .before .before .before .before .before .before .before .bef
 
 -- src/code.rt:359:1
 same-length-8 : tie.Need-same-length-8
-same-length-8 c = c .before .before .before .before .before .before .before .before .before .before .before .emit-all .kept .1 .1 .1 .1 .1 .1 .1 .1 .1 .1 .1 .1 .0 ∙ c .before .before .before .before .before .before .before .before .before .before .before .before .before .before .before .before .before .before .before .before .before .want-needed .kept .1 .1 .1 .1 .1 .0 ∙ c .before .before .before .before .before .before .before .before .before .before .before .before .before .before .before .before .before .before .before .before .before .before .before .before .before .before .want-drivers .kept .1 .1 .1 .1 .1 .1 .1 .0 ∙ c .before .before .before .before .before .before .before .before .before .before .before .before .before .before .before .before .before .before .before .before .before .before .before .before .before .before .before .before .before .before .before .zero-bytes .kept .0
+same-length-8 c = c .before .before .before .before .before .before .before .before .before .before .before .emit-all .kept .1 .1 .1 .1 .1 .1 .1 .1 .1 .1 .1 .1 .0 ∙ c .before .before .before .before .before .before .before .before .before .before .before .before .before .before .before .before .before .before .before .before .before .want-needed .kept .1 .1 .1 .1 .1 .1 .1 .0 ∙ c .before .before .before .before .before .before .before .before .before .before .before .before .before .before .before .before .before .before .before .before .before .before .before .before .before .before .want-drivers .kept .1 .1 .1 .1 .1 .1 .1 .0 ∙ c .before .before .before .before .before .before .before .before .before .before .before .before .before .before .before .before .before .before .before .before .before .before .before .before .before .before .before .before .before .before .before .zero-bytes .kept .0
 
 -- src/code.rt:359:1
 same-length-9 : tie.Need-same-length-9
