@@ -56,7 +56,7 @@ impl Buffers {
             lists: [signals, exprs, stmts].map(|list| vec![0; list.words.len()]),
             // Starts and offsets of expressions, offsets and drivers of signals; the
             // order, the code and the forms of expressions.
-            tables: [e + 1, e + 1, s + 1, s + 1, 8 * e].map(|length| vec![0; length.max(WORK)]),
+            tables: [e + 1, e + 1, s + 1, s + 1, 9 * e + 3 * s].map(|length| vec![0; length.max(WORK)]),
             bytes: vec![0; signal_bits],
             // The signals' bits stand behind the expressions'.
             works: [expr_bits + signal_bits, e, s].map(|length| vec![0; length]),

@@ -38,6 +38,7 @@ use Rattle.simulation.proofs.Kept.{Gives}
 use Rattle.evaluation.specs.Bytes.{Holds}
 use Rattle.evaluation.specs.Ready.{modelIn, Prepared, Room}
 use Rattle.evaluation.specs.Ticks.{StoresOne, Commits}
+use Rattle.evaluation.specs.Late.{isRegister, Asks}
 use Rattle.evaluation.specs.Loads.{stmtIn, Stated, Begins, Control, controlAt, enableAt, resetValue, marked, byMarks, MarkOf, NotesOne, Noted, StoresMarked, StoresLoad, Names}
 use Rattle.evaluation.proofs.Held.{holds-length, holds-bit}
 use Rattle.evaluation.proofs.Evaluating.{offset-before}
@@ -373,7 +374,7 @@ module _ {signals stmts : List ℕ} (s : Stated signals stmts) where
   fitting : {k : ℕ} → k < length (recordsIn stmts) → stmtFits (widthsIn signals) (s .expr-widths) (stmtIn stmts k) ≡ true
   fitting {k} q = all-at (λ (n : ℕ). stmtFits (widthsIn signals) (s .expr-widths)) 0 (stmtsIn stmts) (assign 0 0) (s .fit) k (omega (arith, read-length readStmt (recordsIn stmts) (s .readable)))
 
-  target-known : {k : ℕ} → k < length (recordsIn stmts) → target (stmtIn stmts k) < length (recordsIn signals)
+  pub target-known : {k : ℕ} → k < length (recordsIn stmts) → target (stmtIn stmts k) < length (recordsIn signals)
   target-known {k} q = omega (arith, length-widths signals, target-there (widthsIn signals) (s .expr-widths) (stmtIn stmts k) (fitting q))
 
   -- what the code reads
@@ -451,7 +452,7 @@ module _ {signals stmts : List ℕ} (s : Stated signals stmts) where
 
 -- no two statements on one signal
 
-count-some : (ss : List Stmt) (i j : ℕ) (d : Stmt) → j < length ss → target (getD ss j d) ≡ i → 1 ≤ countOf (on i) ss
+pub count-some : (ss : List Stmt) (i j : ℕ) (d : Stmt) → j < length ss → target (getD ss j d) ≡ i → 1 ≤ countOf (on i) ss
 count-some [] i j d h e = absurd (not-suc-le-zero h)
 count-some (x ∷ ss) i zero d h e = subst (λ (b : Bool). 1 ≤ pick b (suc (countOf (on i) ss)) (countOf (on i) ss)) (sym (eq-eqb (target x) i e)) (omega arith)
 count-some (x ∷ ss) i (suc j) d h e = go (eqb (target x) i) (count-some ss i j d (omega arith) e)
@@ -460,7 +461,7 @@ count-some (x ∷ ss) i (suc j) d h e = go (eqb (target x) i) (count-some ss i j
     go true k = omega arith
     go false k = k
 
-alone : (ss : List Stmt) (i j k : ℕ) (d : Stmt) → countOf (on i) ss ≤ 1 → j < k → k < length ss → target (getD ss j d) ≡ i → target (getD ss k d) ≡ i → ⊥
+pub alone : (ss : List Stmt) (i j k : ℕ) (d : Stmt) → countOf (on i) ss ≤ 1 → j < k → k < length ss → target (getD ss j d) ≡ i → target (getD ss k d) ≡ i → ⊥
 alone [] i j k d c q h a b = not-suc-le-zero h
 alone (x ∷ ss) i j zero d c q h a b = not-suc-le-zero q
 alone (x ∷ ss) i zero (suc k) d c q h a b =
@@ -665,6 +666,38 @@ module _ (l : List ℕ) (word e : ℕ) where
 
 pub names-word : {signals stmts : List ℕ} → Stated signals stmts → {word k : ℕ} → k < length (recordsIn stmts) → word ≡ startOf stmts k → (e : ℕ) → Names (stmtIn stmts k) e → (getD stmts (word + 3) 0 ≡ e) ⊎ ((getD stmts (word + 1) 0 ≡ 1) × (getD stmts (word + 6) 0 ≡ 0 → ⊥) × (getD stmts (word + 9) 0 ≡ e))
 names-word {stmts = stmts} s {word} {k} q b e h = names-by stmts word e (stmtIn stmts k) (spelled s q b) h
+
+-- WHAT A STATEMENT'S WORDS SAY: its signal, that it is a register, the signals that it asks for
+
+kind-word : (x : Stmt) → isRegister x ≡ true → getD (stmtWords x) 1 0 ≡ 1
+kind-word (assign t e) h = absurd (false≢true h)
+kind-word (reg t n c d r e) h = refl
+
+module _ (l : List ℕ) (word s : ℕ) where
+  abbrev AskedBy : Type 0
+  AskedBy = (getD l (word + 1) 0 ≡ 1) × (((getD l (word + 6) 0 ≡ 0 → ⊥) × (getD l (word + 6 + 1) 0 ≡ s)) ⊎ ((getD l (enableAt l word) 0 ≡ 0 → ⊥) × (getD l (enableAt l word + 1) 0 ≡ s)))
+
+  asked-by : (x : Stmt) → Spelled l word x → Asks x s → AskedBy
+  asked-by (assign t n) p h = absurd h
+  asked-by (reg t n c d none e) p (inl h) = absurd (Option·none-ne-some s h)
+  asked-by (reg t n c d (some r) e) p (inl h) =
+      let g = reset-words l word t n c d r e p in
+      (kind-is p, inl ((λ z. absurd (omega (arith, g .first, z))), g .signal ∙ Option·some-injective (r .signal) s h))
+  asked-by (reg t n c d r none) p (inr h) = absurd (Option·none-ne-some s h)
+  asked-by (reg t n c d r (some e)) p (inr h) =
+      let g = enable-words l word t n c d r e p in
+      let i = enable-from l word t n c d r (some e) p in
+      (kind-is p, inr ((λ z. absurd (omega (arith, g .first, ap (λ (j : ℕ). getD l j 0) (sym i) ∙ z))), ap (λ (j : ℕ). getD l (j + 1) 0) i ∙ g .signal ∙ Option·some-injective (e .signal) s h))
+
+module _ {signals stmts : List ℕ} (s : Stated signals stmts) {word k : ℕ} (q : k < length (recordsIn stmts)) (b : word ≡ startOf stmts k) where
+  pub target-of : getD stmts (word + 2) 0 ≡ target (stmtIn stmts k)
+  target-of = target-is (spelled s q b)
+
+  pub register-word : isRegister (stmtIn stmts k) ≡ true → getD stmts (word + 1) 0 ≡ 1
+  register-word h = kind-is (spelled s q b) ∙ kind-word (stmtIn stmts k) h
+
+  pub asks-word : (x : ℕ) → Asks (stmtIn stmts k) x → (getD stmts (word + 1) 0 ≡ 1) × (((getD stmts (word + 6) 0 ≡ 0 → ⊥) × (getD stmts (word + 6 + 1) 0 ≡ x)) ⊎ ((getD stmts (enableAt stmts word) 0 ≡ 0 → ⊥) × (getD stmts (enableAt stmts word + 1) 0 ≡ x)))
+  asks-word x h = asked-by stmts word x (stmtIn stmts k) (spelled s q b) h
 
 -- THE COMMIT
 

@@ -12,3 +12,4 @@ pub mod Storing
 pub mod Calling
 pub mod Committing
 pub mod Settling
+pub mod Late

@@ -1,6 +1,7 @@
 -- The form of an expression, by its kind, shows its value. Assumes nothing.
-use Prim.Native.Nat.{ℕ, _+_, _*_, _%_, _≤_, _<_}
+use Prim.Native.Nat.{ℕ, zero, suc, _+_, _*_, _%_, _≤_, _<_}
 use mathlib.Core.Path.{_≡_, refl, sym, _∙_, ap, ap₂, subst}
+use mathlib.Core.Logic.{_⊎_, inl, inr}
 use mathlib.Core.Bool.{Bool, true, false}
 use mathlib.Core.List.{List, [], _∷_}
 use mathlib.Core.Option.{Option, none, some}
@@ -27,13 +28,13 @@ use Rattle.evaluation.specs.Bytes.{gateOf}
 use Rattle.evaluation.specs.Consistent.{assigned, Consistent}
 use Rattle.evaluation.specs.Ready.{exprIn, Ready, Room, modelIn}
 use Rattle.evaluation.proofs.Held.{wide-length, wide-at, flat-room, flat-total}
-use Rattle.evaluation.proofs.ByKind.{Gate, Mux, Equal, Read, is-read}
-use Rattle.evaluation.proofs.Evaluating.{gate-ready, not-ready, mux-ready, const-ready, equal-ready, kind-is, count-is}
+use Rattle.evaluation.proofs.ByKind.{Gate, Mux, Const, Equal, Read, is-read}
+use Rattle.evaluation.proofs.Evaluating.{gate-ready, not-ready, mux-ready, const-ready, equal-ready, kind-is, count-is, own-width}
 use Rattle.evaluation.proofs.Whole.{ready, expr-fits, driver-there, driver-wide}
 use Rattle.fusing.specs.declared.join.Lut.{Lut}
-use Rattle.fusing.specs.Form.{bitAt, Form, row, formBit, formAt, Formed}
-use Rattle.fusing.specs.Join.{formOf, gateBit, Alone, Joins}
-use Rattle.fusing.specs.Finding.{Known, Entry, spotOf, Spotted, OneBit, OneSpot, Own, Fused, Fuses, Finds}
+use Rattle.fusing.specs.Form.{bitAt, Form, row, formBit, formAt, Means, Formed}
+use Rattle.fusing.specs.Join.{formOf, gateBit, Alone, Joins, bitsFrom, Matches}
+use Rattle.fusing.specs.Finding.{Known, Entry, spotOf, Spotted, OneBit, OneSpot, Own, Fused, Fuses, Compared, Equates, Finds}
 use Rattle.fusing.proofs.Joining.{row-under}
 
 -- WORDS AND TABLES
@@ -147,7 +148,28 @@ module _ (forms : List ℕ) (kind a b c : ℕ) where
       };
     }
 
+-- COMPARISONS WITH A CONSTANT
+
+pub is-compared : (exprs starts exprTable : List ℕ) (a b : ℕ) (z : Lut) (i begin at kind o own w v : ℕ) → i ≡ b → Entry starts i begin → (begin ≡ 4294967295 → ⊥) → begin < 4294967296 → at ≡ begin → kind ≡ getD exprs (at + 1) 0 → kind ≡ 0 → o ≡ a → Entry exprTable o own → own < 4294967292 → w ≡ getD exprs (at + 2) 0 → v ≡ getD exprs (at + 3) 0 → Matches w v own z → Compared exprs starts exprTable a b z
+is-compared exprs starts exprTable a b z i begin at kind o own w v hi n d f ht hk h0 ho t s hw hv g = record {
+  begin = at;
+  begins = subst (λ (m : ℕ). Entry starts m at) hi (subst (λ (m : ℕ). Entry starts i m) (sym ht) n);
+  there = omega arith;
+  constant = sym hk ∙ h0;
+  own = own;
+  owned = subst (λ (m : ℕ). Entry exprTable m own) ho t;
+  small = omega arith;
+  matches = subst (λ (m : ℕ). Matches m (getD exprs (at + 3) 0) own z) hw (subst (λ (m : ℕ). Matches w m own z) hv g);
+}
+
 -- THE BIT AT A POSITION
+
+bits-from : (x : ℕ → Bool) (v : Bits) (p : ℕ) → ((l : ℕ) → l < length v → x (p + l) ≡ getD v l false) → v ≡ bitsFrom x p (length v)
+bits-from x [] p h = refl
+bits-from x (b ∷ v) p h =
+    let first : b ≡ x p = sym (ap x (sym (add-zero p)) ∙ h 0 (omega arith)) in
+    let others : v ≡ bitsFrom x (suc p) (length v) = bits-from x v (suc p) (λ l q. let e : suc p + l ≡ p + suc l = omega arith in ap x e ∙ h (suc l) (omega arith)) in
+    ap₂ (λ (c : Bool) (cs : Bits). c ∷ cs) first others
 
 flat-at : (ws : List ℕ) (vs : List Bits) → Wide ws vs → (i l : ℕ) → i < length ws → l < getD ws i 0 → getD (flat vs) (offset ws i + l) false ≡ getD (getD vs i []) l false
 flat-at ws vs h i l q k =
@@ -277,11 +299,11 @@ module _ {signals exprs stmts starts exprTable signalTable driverTable : List �
           fused-means forms kind a i i z (r .first .before-it) (r .second .before-it) (r .second .before-it) g
           (λ σ vs x y w hx hy hw. r .value σ vs ∙ ap₂ (λ (u v : Bits). gateOf kind (lowest u) (lowest v) ∷ []) hx hy ∙ ap (λ (v : Bool). v ∷ []) (gate-alike kind x y w (λ h. omega arith) (λ h. omega arith)))
 
-      pub finds-equal : (kind : ℕ) → kind ≡ getD exprs (at + 1) 0 → kind ≡ 8 → (a i : ℕ) → a ≡ getD exprs (at + 3) 0 → i ≡ getD exprs (at + 4) 0 → Fuses forms kind a i i z → Finds signals exprs stmts forms e z
-      finds-equal kind kd k8 a i ha hi′ g =
-          let r : Equal ew e a i (exprIn exprs e) = subst (λ (n : ℕ). Equal ew e n i (exprIn exprs e)) (sym ha) (subst (λ (n : ℕ). Equal ew e (word 3) n (exprIn exprs e)) (sym hi′) (equal-ready rd (sym kd ∙ k8) .0)) in
-          fused-means forms kind a i i z (r .first) (r .second .before-it) (r .second .before-it) g
-          (λ σ vs x y w hx hy hw. r .value σ vs ∙ ap₂ (λ (u v : Bits). sameBits u v ∷ []) hx hy ∙ ap (λ (v : Bool). v ∷ []) (same-alike x y) ∙ ap (λ (n : ℕ). gateBit n x y w ∷ []) (sym k8))
+      -- a comparison by the operands' forms
+      forms-equal : (a i : ℕ) → Equal (widthsIn exprs) e a i (exprIn exprs e) → Fused forms 8 a i i z → Finds signals exprs stmts forms e z
+      forms-equal a i r u =
+          fused-means forms 8 a i i z (r .first) (r .second .before-it) (r .second .before-it) (record { fuses = λ s. u })
+          (λ σ vs x y w hx hy hw. r .value σ vs ∙ ap₂ (λ (u v : Bits). sameBits u v ∷ []) hx hy ∙ ap (λ (v : Bool). v ∷ []) (same-alike x y))
 
       pub finds-mux : (kind : ℕ) → kind ≡ getD exprs (at + 1) 0 → kind ≡ 7 → (a i j : ℕ) → a ≡ getD exprs (at + 3) 0 → i ≡ getD exprs (at + 4) 0 → j ≡ getD exprs (at + 5) 0 → Fuses forms kind a i j z → Finds signals exprs stmts forms e z
       finds-mux kind kd k7 a i j ha hi′ hj g =
@@ -332,3 +354,51 @@ module _ {signals exprs stmts starts exprTable signalTable driverTable : List �
                   ∙ ap (λ (y : Bool). y ∷ []) (spot-bit (u .one-bit) old vs wo wv choice refl ∙ ap (bitAt vs old) (sym spot-is) ∙ sym (u .alone .alone (bitAt vs old)));
             };
       }
+
+-- A COMPARISON
+
+module _ {signals exprs stmts starts exprTable signalTable driverTable : List ℕ} (k : Known signals exprs stmts starts exprTable signalTable driverTable) {e : ℕ} (q : e < length (recordsIn exprs)) where
+  -- with a constant
+  module _ {a i : ℕ} {z : Lut} (r : Equal (widthsIn exprs) e a i (exprIn exprs e)) (u : Compared exprs starts exprTable a i z) where
+    constant-there : i < length (recordsIn exprs)
+    constant-there = omega (arith, r .second .before-it)
+
+    other-there : a < length (widthsIn exprs)
+    other-there = omega (arith, r .first, length-widths exprs)
+
+    starts-at : u .begin ≡ startOf exprs i
+    starts-at = entry-start (u .begins) (k .started) constant-there (u .there)
+
+    constant : Const (getD exprs (u .begin + 2) 0) (getD exprs (u .begin + 3) 0) (exprIn exprs i)
+    constant = const-ready (rd k constant-there starts-at) (u .constant) .0
+
+    wide : getD (widthsIn exprs) a 0 ≡ getD exprs (u .begin + 2) 0
+    wide = sym (r .second .as-wide) ∙ own-width (rd k constant-there starts-at) ∙ constant .is-wide
+
+    stands : u .own ≡ offset (widthsIn exprs) a
+    stands = entry-offset (u .owned) (k .prepared .expr-offsets) (omega (arith, other-there)) (u .small)
+
+    other-bits : (old vs : List Bits) → Wide (widthsIn exprs) vs → getD vs a [] ≡ bitsFrom (bitAt vs old) (u .own) (getD exprs (u .begin + 2) 0)
+    other-bits old vs wv =
+        let long : length (getD vs a []) ≡ getD (widthsIn exprs) a 0 = wide-at (widthsIn exprs) vs wv a (omega (arith, wide-length (widthsIn exprs) vs wv, other-there)) in
+        bits-from (bitAt vs old) (getD vs a []) (u .own) (λ l h. ap (λ (n : ℕ). bitAt vs old (n + l)) stands ∙ at-value (widthsIn exprs) vs old wv a l other-there (omega arith))
+        ∙ ap (bitsFrom (bitAt vs old) (u .own)) (long ∙ wide)
+
+    constant-equal : z .table < 65536 → Means signals exprs stmts e (formOf z)
+    constant-equal s = record {
+      means = λ old vs wo wv con.
+          sym (own-value k q old vs wv con)
+          ∙ r .value (assigned (modelIn signals exprs stmts) old vs) vs
+          ∙ ap₂ (λ (x y : Bits). sameBits x y ∷ []) (other-bits old vs wv) (sym (own-value k constant-there old vs wv con) ∙ constant .value (assigned (modelIn signals exprs stmts) old vs) vs)
+          ∙ ap (λ (y : Bool). y ∷ []) (sym (u .matches .matches s (bitAt vs old)));
+    }
+
+  pub finds-equal : {at : ℕ} → at ≡ startOf exprs e → (forms : List ℕ) (z : Lut) (kind : ℕ) → kind ≡ getD exprs (at + 1) 0 → kind ≡ 8 → (a i : ℕ) → a ≡ getD exprs (at + 3) 0 → i ≡ getD exprs (at + 4) 0 → Equates exprs starts exprTable forms a i z → Finds signals exprs stmts forms e z
+  finds-equal {at} b forms z kind kd k8 a i ha hi g = record { finds = λ s f. go s f (g .equates s) }
+    where
+      r : Equal (widthsIn exprs) e a i (exprIn exprs e)
+      r = subst (λ (n : ℕ). Equal (widthsIn exprs) e n i (exprIn exprs e)) (sym ha) (subst (λ (n : ℕ). Equal (widthsIn exprs) e (getD exprs (at + 3) 0) n (exprIn exprs e)) (sym hi) (equal-ready (rd k q b) (sym kd ∙ k8) .0))
+
+      go : z .table < 65536 → Formed signals exprs stmts forms e → Fused forms 8 a i i z ⊎ Compared exprs starts exprTable a i z → Means signals exprs stmts e (formOf z)
+      go s f (inl u) = forms-equal k q b forms z a i r u .finds s f
+      go s f (inr u) = constant-equal r u s

@@ -1,18 +1,20 @@
 -- Laws of tables over four positions. Assumes nothing.
 use Prim.Native.Nat.{ℕ, zero, suc, _+_, _-_, _*_, _/_, _%_, _^_, _≤_, _<_}
 use mathlib.Core.Path.{_≡_, refl, sym, _∙_, ap, ap₂, subst}
-use mathlib.Core.Bool.{Bool, true, false, not, _||_}
+use mathlib.Core.Bool.{Bool, true, false, not, _&&_, _||_}
+use mathlib.Core.List.{[], _∷_}
 use native.Mathlib.Omega.{arith}
 use native.Mathlib.Nat.{pow-succ', zero-add, add-zero}
 use lib.Dec.{eqb}
 use lib.Pow.{pow-mono}
 use borrow.Author.Tests.{eqb-true, eq-eqb, ne-eqb}
-use Rattle.bits.specs.Bits.{pick, digit, tableBit}
+use Rattle.bits.specs.Bits.{pick, Bits, digit, binary, same, sameBits, tableBit}
 use Rattle.bits.proofs.TableBits.{bit-first, bit-next, bit-none, bit-ones}
+use Rattle.settle.specs.Tests.{and-left, and-right}
 use Rattle.fusing.specs.declared.join.Lut.{Lut}
 use Rattle.fusing.specs.declared.join.Spots.{Spots}
 use Rattle.fusing.specs.Form.{Form, row, formBit}
-use Rattle.fusing.specs.Join.{formOf, gateBit, lookIn, among, rowOf, rowBit, Tabled, flatTable, Covers, Alone, Joins}
+use Rattle.fusing.specs.Join.{formOf, gateBit, lookIn, among, rowOf, rowBit, Tabled, flatTable, Covers, Alone, Joins, bitsFrom, Matches}
 
 -- BITS AS NUMBERS
 
@@ -225,3 +227,98 @@ shown x v a b c d z ha hb hc hd hz = hz ∙ ap (tableBit (v .table)) (cc)
 
 pub row-is : (kind : ℕ) (s : Spots) (p q r : Lut) (i : ℕ) (x y z w : Bool) → x ≡ formBit (lookIn s i) (formOf p) → y ≡ formBit (lookIn s i) (formOf q) → z ≡ formBit (lookIn s i) (formOf r) → w ≡ gateBit kind x y z → w ≡ rowBit kind s p q r i
 row-is kind s p q r i x y z w hx hy hz hw = hw ∙ ap₂ (λ (a b : Bool). gateBit kind a b z) hx hy ∙ ap (gateBit kind (formBit (lookIn s i) (formOf p)) (formBit (lookIn s i) (formOf q))) hz
+
+-- A COMPARISON WITH A NUMBER
+
+-- a test of bits that holds for all of them
+abbrev both : (Bool → Bool) → Bool
+both f = f true && f false
+
+abbrev both2 : (Bool → Bool → Bool) → Bool
+both2 f = both (λ a. both (f a))
+
+abbrev both4 : (Bool → Bool → Bool → Bool → Bool) → Bool
+both4 f = both2 (λ a b. both2 (f a b))
+
+for-each : (f : Bool → Bool) → both f ≡ true → (b : Bool) → f b ≡ true
+for-each f h true = and-left (f true) (f false) h
+for-each f h false = and-right (f true) (f false) h
+
+for-each2 : (f : Bool → Bool → Bool) → both2 f ≡ true → (a b : Bool) → f a b ≡ true
+for-each2 f h a b = for-each (f a) (for-each (λ (x : Bool). both (f x)) h a) b
+
+for-each4 : (f : Bool → Bool → Bool → Bool → Bool) → both4 f ≡ true → (a b c d : Bool) → f a b c d ≡ true
+for-each4 f h a b c d = for-each2 (f a b) (for-each2 (λ (x y : Bool). both2 (f x y)) h a b) c d
+
+for-each8 : (f : Bool → Bool → Bool → Bool → Bool → Bool → Bool → Bool → Bool) → both4 (λ p q r s. both4 (f p q r s)) ≡ true → (p q r s a b c d : Bool) → f p q r s a b c d ≡ true
+for-each8 f h p q r s a b c d = for-each4 (f p q r s) (for-each4 (λ (p q r s : Bool). both4 (f p q r s)) h p q r s) a b c d
+
+agree : (x y : Bool) → same x y ≡ true → x ≡ y
+agree true true h = refl
+agree true false h = sym h
+agree false true h = h
+agree false false h = refl
+
+-- row a b c d of the table t moved up by a number of bits
+abbrev moved : ℕ → ℕ → Bool → Bool → Bool → Bool → Bool
+moved t n a b c d = tableBit (t * 2 ^ n % 2 ^ 32) (digit a + 2 * digit b + 4 * digit c + 8 * digit d)
+
+two-rows : (p q a b c d : Bool) → moved 4369 (digit p + 2 * digit q) a b c d ≡ sameBits (a ∷ b ∷ []) (p ∷ q ∷ [])
+two-rows p q a b c d = agree _ _ (for-each8 (λ (p q r s a b c d : Bool). same (moved 4369 (digit p + 2 * digit q) a b c d) (sameBits (a ∷ b ∷ []) (p ∷ q ∷ []))) refl p q true true a b c d)
+
+three-rows : (p q r a b c d : Bool) → moved 257 (digit p + 2 * digit q + 4 * digit r) a b c d ≡ sameBits (a ∷ b ∷ c ∷ []) (p ∷ q ∷ r ∷ [])
+three-rows p q r a b c d = agree _ _ (for-each8 (λ (p q r s a b c d : Bool). same (moved 257 (digit p + 2 * digit q + 4 * digit r) a b c d) (sameBits (a ∷ b ∷ c ∷ []) (p ∷ q ∷ r ∷ []))) refl p q r true a b c d)
+
+four-rows : (p q r s a b c d : Bool) → moved 1 (digit p + 2 * digit q + 4 * digit r + 8 * digit s) a b c d ≡ sameBits (a ∷ b ∷ c ∷ d ∷ []) (p ∷ q ∷ r ∷ s ∷ [])
+four-rows p q r s a b c d = agree _ _ (for-each8 (λ (p q r s a b c d : Bool). same (moved 1 (digit p + 2 * digit q + 4 * digit r + 8 * digit s) a b c d) (sameBits (a ∷ b ∷ c ∷ d ∷ []) (p ∷ q ∷ r ∷ s ∷ []))) refl p q r s a b c d)
+
+module _ (w v p : ℕ) (z : Lut) where
+  abbrev bit : ℕ → Bool
+  bit n = eqb (n % 2) 1
+
+  pub matches-none : z .table ≡ 65536 → Matches w v p z
+  matches-none e = record { matches = λ s x. absurd (omega arith) }
+
+  module _ (ha : z .a ≡ p) (hb : z .b ≡ p + 1) where
+    at-first : (x : ℕ → Bool) → x (z .a) ≡ x p
+    at-first x = ap x ha
+
+    at-second : (x : ℕ → Bool) → x (z .b) ≡ x (suc p)
+    at-second x = let e : z .b ≡ suc p = omega arith in ap x e
+
+    pub matches-two : w ≡ 2 → z .table ≡ 4369 * 2 ^ (v % 4) % 2 ^ 32 → Matches w v p z
+    matches-two hw ht = record {
+      matches = λ s x.
+          let n : v % 4 ≡ digit (bit v) + 2 * digit (bit (v / 2)) = omega (arith, low-bit v, low-bit (v / 2)) in
+          ap (λ (t : ℕ). tableBit t (row x (formOf z))) (ht ∙ ap (λ (k : ℕ). 4369 * 2 ^ k % 2 ^ 32) n)
+          ∙ two-rows (bit v) (bit (v / 2)) (x (z .a)) (x (z .b)) (x (z .c)) (x (z .d))
+          ∙ ap₂ (λ (a b : Bool). sameBits (a ∷ b ∷ []) (binary 2 v)) (at-first x) (at-second x)
+          ∙ ap (λ (k : ℕ). sameBits (bitsFrom x p k) (binary k v)) (sym hw);
+    }
+
+    module _ (hc : z .c ≡ p + 2) where
+      at-third : (x : ℕ → Bool) → x (z .c) ≡ x (suc (suc p))
+      at-third x = let e : z .c ≡ suc (suc p) = omega arith in ap x e
+
+      pub matches-three : w ≡ 3 → z .table ≡ 257 * 2 ^ (v % 8) % 2 ^ 32 → Matches w v p z
+      matches-three hw ht = record {
+        matches = λ s x.
+            let n : v % 8 ≡ digit (bit v) + 2 * digit (bit (v / 2)) + 4 * digit (bit (v / 2 / 2)) = omega (arith, low-bit v, low-bit (v / 2), low-bit (v / 2 / 2)) in
+            ap (λ (t : ℕ). tableBit t (row x (formOf z))) (ht ∙ ap (λ (k : ℕ). 257 * 2 ^ k % 2 ^ 32) n)
+            ∙ three-rows (bit v) (bit (v / 2)) (bit (v / 2 / 2)) (x (z .a)) (x (z .b)) (x (z .c)) (x (z .d))
+            ∙ ap₂ (λ (a b : Bool). sameBits (a ∷ b ∷ x (z .c) ∷ []) (binary 3 v)) (at-first x) (at-second x)
+            ∙ ap (λ (c : Bool). sameBits (x p ∷ x (suc p) ∷ c ∷ []) (binary 3 v)) (at-third x)
+            ∙ ap (λ (k : ℕ). sameBits (bitsFrom x p k) (binary k v)) (sym hw);
+      }
+
+      pub matches-four : z .d ≡ p + 3 → w ≡ 4 → z .table ≡ 1 * 2 ^ (v % 16) % 2 ^ 32 → Matches w v p z
+      matches-four hd hw ht = record {
+        matches = λ s x.
+            let n : v % 16 ≡ digit (bit v) + 2 * digit (bit (v / 2)) + 4 * digit (bit (v / 2 / 2)) + 8 * digit (bit (v / 2 / 2 / 2)) = omega (arith, low-bit v, low-bit (v / 2), low-bit (v / 2 / 2), low-bit (v / 2 / 2 / 2)) in
+            let e : z .d ≡ suc (suc (suc p)) = omega arith in
+            ap (λ (t : ℕ). tableBit t (row x (formOf z))) (ht ∙ ap (λ (k : ℕ). 1 * 2 ^ k % 2 ^ 32) n)
+            ∙ four-rows (bit v) (bit (v / 2)) (bit (v / 2 / 2)) (bit (v / 2 / 2 / 2)) (x (z .a)) (x (z .b)) (x (z .c)) (x (z .d))
+            ∙ ap₂ (λ (a b : Bool). sameBits (a ∷ b ∷ x (z .c) ∷ x (z .d) ∷ []) (binary 4 v)) (at-first x) (at-second x)
+            ∙ ap₂ (λ (c d : Bool). sameBits (x p ∷ x (suc p) ∷ c ∷ d ∷ []) (binary 4 v)) (at-third x) (ap x e)
+            ∙ ap (λ (k : ℕ). sameBits (bitsFrom x p k) (binary k v)) (sym hw);
+      }

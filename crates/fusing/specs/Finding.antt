@@ -1,6 +1,7 @@
 -- How the forms are found, from the words of a model and the tables that say where its records and values stand.
 use Prim.Native.Nat.{ℕ, _+_, _*_, _%_, _≤_, _<_}
 use mathlib.Core.Path.{_≡_}
+use mathlib.Core.Logic.{_⊎_}
 use mathlib.Core.Bool.{Bool}
 use mathlib.Core.List.{List, _∷_, []}
 use mathlib.Core.Option.{Option, none, some}
@@ -12,7 +13,7 @@ use Rattle.simulation.specs.Index.{recordsIn, offset, clipped, stmtsIn, Indexed
 use Rattle.evaluation.specs.Ready.{Prepared}
 use Rattle.fusing.specs.declared.join.Lut.{Lut}
 use Rattle.fusing.specs.Form.{formBit, formAt, Means, Formed}
-use Rattle.fusing.specs.Join.{formOf, gateBit, Alone}
+use Rattle.fusing.specs.Join.{formOf, gateBit, Alone, Matches}
 
 -- WHAT IS ASSUMED
 
@@ -73,6 +74,21 @@ pub record Fused (forms : List ℕ) (kind a b c : ℕ) (z : Lut) : Type 0 where
 
 pub record Fuses (forms : List ℕ) (kind a b c : ℕ) (z : Lut) : Type 0 where
   pub fuses : z .table < 65536 → Fused forms kind a b c z
+
+-- operand a has the value of b, a constant whose record begins at a word
+pub record Compared (exprs starts exprTable : List ℕ) (a b : ℕ) (z : Lut) : Type 0 where
+  pub begin : ℕ
+  pub begins : Entry starts b begin
+  pub there : begin < 4294967295
+  pub constant : getD exprs (begin + 1) 0 ≡ 0
+  pub own : ℕ
+  pub owned : Entry exprTable a own
+  pub small : own < 4294967295
+  pub matches : Matches (getD exprs (begin + 2) 0) (getD exprs (begin + 3) 0) own z
+
+-- a comparison, by the operands' forms or with a constant
+pub record Equates (exprs starts exprTable forms : List ℕ) (a b : ℕ) (z : Lut) : Type 0 where
+  pub equates : z .table < 65536 → Fused forms 8 a b b z ⊎ Compared exprs starts exprTable a b z
 
 -- ALL OF THEM
 

@@ -1,9 +1,10 @@
 -- The table of a gate whose operands are tables: row i gives each of four positions a bit of i, and has the gate of what the operands show there.
-use Prim.Native.Nat.{ℕ, _+_, _-_, _*_, _/_, _%_, _^_, _<_}
+use Prim.Native.Nat.{ℕ, zero, suc, _+_, _-_, _*_, _/_, _%_, _^_, _<_}
 use mathlib.Core.Path.{_≡_}
 use mathlib.Core.Bool.{Bool, false, _||_}
+use mathlib.Core.List.{[], _∷_}
 use lib.Dec.{eqb}
-use Rattle.bits.specs.Bits.{pick, digit, same, tableBit}
+use Rattle.bits.specs.Bits.{pick, Bits, digit, binary, same, sameBits, tableBit}
 use Rattle.evaluation.specs.Bytes.{gateOf}
 use Rattle.fusing.specs.declared.join.Lut.{Lut}
 use Rattle.fusing.specs.declared.join.Spots.{Spots}
@@ -52,3 +53,12 @@ pub record Alone (p : ℕ) (v : Lut) : Type 0 where
 
 pub record Joins (kind : ℕ) (p q r z : Lut) : Type 0 where
   pub joins : z .table < 65536 → (x : ℕ → Bool) → formBit x (formOf z) ≡ gateBit kind (formBit x (formOf p)) (formBit x (formOf q)) (formBit x (formOf r))
+
+-- the bits at w positions from p on
+abbrev pub bitsFrom : (ℕ → Bool) → ℕ → ℕ → Bits
+bitsFrom x p zero = []
+bitsFrom x p (suc w) = x p ∷ bitsFrom x (suc p) w
+
+-- they are the lowest of v
+pub record Matches (w v p : ℕ) (z : Lut) : Type 0 where
+  pub matches : z .table < 65536 → (x : ℕ → Bool) → formBit x (formOf z) ≡ sameBits (bitsFrom x p w) (binary w v)

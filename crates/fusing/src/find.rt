@@ -12,8 +12,8 @@ ghost use Prim.Native.Nat.{ℕ, _+_, _*_, _<_};
 ghost use lib.ListN.{length, getD};
 ghost use Rattle.simulation.specs.Index.{recordsIn, widthsIn, offset, clipped};
 ghost use Rattle.fusing.specs.Form.{formAt, Formed};
-ghost use Rattle.fusing.specs.Join.{formOf, Alone};
-ghost use Rattle.fusing.specs.Finding.{Entry, Spotted, OneBit, OneSpot, Fuses, Known, Finds};
+ghost use Rattle.fusing.specs.Join.{formOf, Alone, Matches};
+ghost use Rattle.fusing.specs.Finding.{Entry, Spotted, OneBit, OneSpot, Fuses, Compared, Equates, Known, Finds};
 
 // A word of a list, 0 behind it.
 fn word(list: &[u32], at: usize, j: usize) -> u32
@@ -168,6 +168,75 @@ fn fused(forms: &[u32], kind: u32, a: u32, b: u32, c: u32) -> Lut
     joined(kind, x, y, w)
 }
 
+// Whether the w bits from position p on are the lowest of v.
+fn matching(w: u32, v: u32, p: u32) -> Lut
+    requires { ⌜ p < 4294967292 ⌝ }
+    ensures { λ r. ⌜ Matches w v p r ⌝ }
+{
+    match w {
+        2 => Lut {
+            table: 4369 << (v % 4),
+            a: p,
+            b: p + 1,
+            c: p,
+            d: p,
+        },
+        3 => Lut {
+            table: 257 << (v % 8),
+            a: p,
+            b: p + 1,
+            c: p + 2,
+            d: p,
+        },
+        4 => Lut {
+            table: 1 << (v % 16),
+            a: p,
+            b: p + 1,
+            c: p + 2,
+            d: p + 3,
+        },
+        _ => no_table(),
+    }
+}
+
+// Whether a has the value of b, a constant of up to four bits.
+fn compared(exprs: &[u32], starts: &[u32], expr_table: &[u32], a: u32, b: u32) -> Lut
+    ensures { λ r. ⌜ (r .table < 65536 → Compared (now (exprs .entry)) (now (starts .entry)) (now («expr_table» .entry)) a b r) ⌝ }
+{
+    let begin = entry(starts, wide(b));
+    if begin == 4294967295 {
+        return no_table();
+    }
+    let at = wide(begin);
+    if word(exprs, at, 1) != 0 {
+        return no_table();
+    }
+    let own = entry(expr_table, wide(a));
+    if own >= 4294967292 {
+        return no_table();
+    }
+    let w = word(exprs, at, 2);
+    let v = word(exprs, at, 3);
+    matching(w, v, own)
+}
+
+fn equal_form(
+    exprs: &[u32],
+    starts: &[u32],
+    expr_table: &[u32],
+    forms: &[u32],
+    a: u32,
+    b: u32,
+) -> Lut
+    ensures { λ r. ⌜ Equates (now (exprs .entry)) (now (starts .entry)) (now («expr_table» .entry)) (now (forms .entry)) a b r ⌝ }
+{
+    let z = fused(forms, 8, a, b, b);
+    if z.table < 65536 {
+        return z;
+    }
+    compared(exprs, starts, expr_table, a, b)
+}
+
 // The form of expression e, whose operands have theirs. `base` is the position behind all values.
 pub fn form_of(
     exprs: &[u32],
@@ -211,7 +280,7 @@ pub fn form_of(
         8 => {
             let a = word(exprs, at, 3);
             let b = word(exprs, at, 4);
-            fused(forms, kind, a, b, b)
+            equal_form(exprs, starts, expr_table, forms, a, b)
         }
         7 => {
             let a = word(exprs, at, 3);

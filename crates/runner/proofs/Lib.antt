@@ -5,4 +5,7 @@ pub mod Ticking
 pub mod Call
 pub mod Running
 pub mod WholeList
+pub mod Lagging
+pub mod Along
+pub mod Listing
 pub mod Planning

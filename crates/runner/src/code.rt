@@ -12,6 +12,7 @@ use fusing::fill_forms;
 use simulation::Driver;
 use simulation::index;
 use simulation::index::field;
+use simulation::index::plus;
 use simulation::index::size;
 use simulation::index::wide;
 use simulation::zero::zero_bytes;
@@ -48,7 +49,7 @@ pub struct Code {
     pub used: usize,
 }
 
-// WHAT IS WANTED: 2 at the first position of an expression
+// WHAT IS WANTED: 2 at a position of an expression
 
 fn want(values: &mut [u8], p: usize)
     requires { ⌜ Unplaced (now values) ⌝ }
@@ -66,10 +67,18 @@ fn want_expr(exprs: &[u32], expr_table: &[u32], e: u32, values: &mut [u8])
     want(values, index::offset(exprs, expr_table, wide(e)));
 }
 
+// Some position of expression e is wanted.
 fn wanted(exprs: &[u32], expr_table: &[u32], values: &[u8], e: usize) -> bool {
-    let p = index::offset(exprs, expr_table, e);
-    if p < values.len() {
-        return values[p] == 2;
+    let end = index::offset(exprs, expr_table, plus(e, 1));
+    let mut p = index::offset(exprs, expr_table, e);
+    while p < end {
+        if p >= values.len() {
+            return false;
+        }
+        if values[p] == 2 {
+            return true;
+        }
+        p += 1;
     }
     false
 }
@@ -118,6 +127,24 @@ fn want_loads(
     }
 }
 
+// What is assigned to signal s.
+fn want_driver(
+    exprs: &[u32],
+    expr_table: &[u32],
+    stmts: &[u32],
+    driver_table: &[u32],
+    s: usize,
+    values: &mut [u8],
+)
+    requires { ⌜ Unplaced (now values) ⌝ }
+    ensures { λ _. ⌜ Unplaced (now (values .exit)) ⌝ }
+{
+    match index::driver(stmts, driver_table, s) {
+        Driver::By(d) => want_expr(exprs, expr_table, d, values),
+        Driver::None => {}
+    }
+}
+
 // What is assigned to k signals of a list.
 fn want_drivers(
     exprs: &[u32],
@@ -134,22 +161,34 @@ fn want_drivers(
 {
     let mut j: usize = 0;
     while j < k {
-        match index::driver(stmts, driver_table, wide(order[from + j])) {
-            Driver::By(d) => want_expr(exprs, expr_table, d, values),
-            Driver::None => {}
-        }
+        let s = wide(order[from + j]);
+        want_driver(exprs, expr_table, stmts, driver_table, s, values);
         j += 1;
     }
 }
 
-// The operands of expression e.
-fn want_operands(exprs: &[u32], starts: &[u32], expr_table: &[u32], e: usize, values: &mut [u8])
+// The operands of expression e; of a read what is assigned to its signal.
+fn want_operands(
+    exprs: &[u32],
+    stmts: &[u32],
+    starts: &[u32],
+    expr_table: &[u32],
+    driver_table: &[u32],
+    e: usize,
+    values: &mut [u8],
+)
     requires { ⌜ Unplaced (now values) ⌝ }
     ensures { λ _. ⌜ Unplaced (now (values .exit)) ⌝ }
 {
     let at = index::start(exprs, starts, e);
     let size = size(exprs, at);
-    if field(exprs, at, size, 0) < 2 {
+    let kind = field(exprs, at, size, 0);
+    if kind == 0 {
+        return;
+    }
+    if kind == 1 {
+        let s = wide(field(exprs, at, size, 2));
+        want_driver(exprs, expr_table, stmts, driver_table, s, values);
         return;
     }
     let mut i: usize = 3;
@@ -173,8 +212,10 @@ fn want_form(order: &[u32], at: usize, values: &mut [u8])
 // What expression e is computed from, if it is wanted.
 fn want_inputs(
     exprs: &[u32],
+    stmts: &[u32],
     starts: &[u32],
     expr_table: &[u32],
+    driver_table: &[u32],
     order: &[u32],
     n: usize,
     e: usize,
@@ -194,14 +235,16 @@ fn want_inputs(
         want_form(order, at, values);
         return;
     }
-    want_operands(exprs, starts, expr_table, e, values);
+    want_operands(exprs, stmts, starts, expr_table, driver_table, e, values);
 }
 
 // Against the order: what wants others is met before them.
 fn want_needed(
     exprs: &[u32],
+    stmts: &[u32],
     starts: &[u32],
     expr_table: &[u32],
+    driver_table: &[u32],
     order: &[u32],
     n: usize,
     values: &mut [u8],
@@ -212,7 +255,17 @@ fn want_needed(
     let mut i = n;
     while i > 0 {
         i -= 1;
-        want_inputs(exprs, starts, expr_table, order, n, wide(order[i]), values);
+        want_inputs(
+            exprs,
+            stmts,
+            starts,
+            expr_table,
+            driver_table,
+            order,
+            n,
+            wide(order[i]),
+            values,
+        );
     }
 }
 
@@ -507,7 +560,16 @@ fn first_code(
     zero_bytes(values);
     want_loads(exprs, expr_table, stmts, order, loads, registers, values);
     want_drivers(exprs, expr_table, stmts, driver_table, order, asked, controls, values);
-    want_needed(exprs, starts, expr_table, order, n, values);
+    want_needed(
+        exprs,
+        stmts,
+        starts,
+        expr_table,
+        driver_table,
+        order,
+        n,
+        values,
+    );
     zero_bytes(marks);
     let k = emit_all(
         signals,
@@ -563,7 +625,16 @@ fn second_code(
 {
     zero_bytes(values);
     want_drivers(exprs, expr_table, stmts, driver_table, order, shown, outputs, values);
-    want_needed(exprs, starts, expr_table, order, n, values);
+    want_needed(
+        exprs,
+        stmts,
+        starts,
+        expr_table,
+        driver_table,
+        order,
+        n,
+        values,
+    );
     zero_bytes(marks);
     let k = emit_all(
         signals,

@@ -13,7 +13,7 @@ ghost use Rattle.simulation.specs.Index.{recordsIn, widthsIn, Starts, Driven};
 ghost use Rattle.simulation.specs.Tick.{looped};
 ghost use Rattle.evaluation.specs.Ready.{Prepared, Room, modelIn};
 ghost use Rattle.evaluation.specs.Settling.{InMarks, RightOn, SettlesOne, SettlesPass};
-ghost use Rattle.evaluation.specs.Ticks.{Filled, Ordered, Settles, Settled};
+ghost use Rattle.evaluation.specs.Ticks.{Filled, Ordered, Settles, SettlesNamed, Settled};
 
 // Along an order of all n expressions.
 fn settle_ordered(
@@ -166,8 +166,8 @@ fn settle_marked(
     }
 }
 
-// The values of the n expressions, and in each assigned one of the `count` signals its expression's.
-pub fn settle(
+// Along the order, or in passes.
+fn settle_plain(
     signals: &[u32],
     exprs: &[u32],
     stmts: &[u32],
@@ -177,13 +177,12 @@ pub fn settle(
     driver_table: &[u32],
     order: &[u32],
     n: usize,
-    count: usize,
-    bytes: &mut [u8],
+    bytes: &[u8],
     values: &mut [u8],
     marks: &mut [u8],
 )
-    requires { ⌜ Prepared (now signals) (now exprs) (now stmts) (now «expr_table») (now «signal_table») × Starts (now exprs) (now starts) × Driven (now stmts) (now «driver_table») × Room (now signals) (now exprs) (now bytes) (now values) × (n ≡ length (recordsIn (now exprs))) × (count ≡ length (recordsIn (now signals))) × (n ≤ length (now marks)) × Ordered (modelIn (now signals) (now exprs) (now stmts)) n (now order) × (looped (modelIn (now signals) (now exprs) (now stmts)) ≡ none) × Filled (widthsIn (now exprs)) (now values) ⌝ }
-    ensures { λ _. ⌜ Settled (now (signals .entry)) (now (exprs .entry)) (now (stmts .entry)) (now (bytes .entry)) (now (bytes .exit)) (now (values .exit)) ⌝ }
+    requires { ⌜ Prepared (now signals) (now exprs) (now stmts) (now «expr_table») (now «signal_table») × Starts (now exprs) (now starts) × Driven (now stmts) (now «driver_table») × Room (now signals) (now exprs) (now bytes) (now values) × (n ≡ length (recordsIn (now exprs))) × (n ≤ length (now marks)) × Ordered (modelIn (now signals) (now exprs) (now stmts)) n (now order) × (looped (modelIn (now signals) (now exprs) (now stmts)) ≡ none) × Filled (widthsIn (now exprs)) (now values) ⌝ }
+    ensures { λ _. ⌜ SettlesNamed (now (signals .entry)) (now (exprs .entry)) (now (stmts .entry)) (now (bytes .entry)) (now (values .exit)) ⌝ }
 {
     if n <= order.len() {
         settle_ordered(
@@ -214,6 +213,41 @@ pub fn settle(
             marks,
         );
     }
+}
+
+// The values of the n expressions, and in each assigned one of the `count` signals its expression's.
+pub fn settle(
+    signals: &[u32],
+    exprs: &[u32],
+    stmts: &[u32],
+    starts: &[u32],
+    expr_table: &[u32],
+    signal_table: &[u32],
+    driver_table: &[u32],
+    order: &[u32],
+    n: usize,
+    count: usize,
+    bytes: &mut [u8],
+    values: &mut [u8],
+    marks: &mut [u8],
+)
+    requires { ⌜ Prepared (now signals) (now exprs) (now stmts) (now «expr_table») (now «signal_table») × Starts (now exprs) (now starts) × Driven (now stmts) (now «driver_table») × Room (now signals) (now exprs) (now bytes) (now values) × (n ≡ length (recordsIn (now exprs))) × (count ≡ length (recordsIn (now signals))) × (n ≤ length (now marks)) × Ordered (modelIn (now signals) (now exprs) (now stmts)) n (now order) × (looped (modelIn (now signals) (now exprs) (now stmts)) ≡ none) × Filled (widthsIn (now exprs)) (now values) ⌝ }
+    ensures { λ _. ⌜ Settled (now (signals .entry)) (now (exprs .entry)) (now (stmts .entry)) (now (bytes .entry)) (now (bytes .exit)) (now (values .exit)) ⌝ }
+{
+    settle_plain(
+        signals,
+        exprs,
+        stmts,
+        starts,
+        expr_table,
+        signal_table,
+        driver_table,
+        order,
+        n,
+        bytes,
+        values,
+        marks,
+    );
     store_assigned(
         signals,
         exprs,

@@ -16,10 +16,6 @@ use Rattle.simulation.proofs.index.wide.Reads as wide-reads
 mul-at : tie.Need-mul-at
 mul-at c = search needs
 
--- src/code.rt:210:22
-mul-at-2 : tie.Need-mul-at-2
-mul-at-2 c = search needs
-
 -- src/code.rt:210:14
 add-at : tie.Need-add-at
 add-at c = search needs
@@ -38,7 +34,7 @@ ready-requires c κs = search needs
 
 -- src/code.rt:212:9
 returns : tie.Need-returns
-returns c = λ signals k ht g z. computable-needs g (c .before .before .before .before .before .before .before .before .before .before .pre .1) refl (c .before .if1 .taken) (c .ready .ensures) z
+returns c = λ signals from k ht g z. computable-needs g (c .before .before .before .before .before .before .before .before .before .before .pre .1) refl (c .before .if1 .taken) (c .ready .ensures) z
 
 -- src/code.rt:214:35
 add-wide : tie.Need-add-wide
@@ -62,7 +58,7 @@ placed-requires c κs = search needs
 
 -- src/code.rt:215:9
 returns-2 : tie.Need-returns-2
-returns-2 c = λ signals k ht g z. absurd (false≢true z)
+returns-2 c = λ signals from k ht g z. absurd (false≢true z)
 
 -- src/code.rt:217:35
 add-wide-2 : tie.Need-add-wide-2
@@ -86,7 +82,7 @@ placed-requires-2 c κs = search needs
 
 -- src/code.rt:218:9
 returns-3 : tie.Need-returns-3
-returns-3 c = λ signals k ht g z. absurd (false≢true z)
+returns-3 c = λ signals from k ht g z. absurd (false≢true z)
 
 -- src/code.rt:220:35
 add-wide-3 : tie.Need-add-wide-3
@@ -110,7 +106,7 @@ placed-requires-3 c κs = search needs
 
 -- src/code.rt:221:9
 returns-4 : tie.Need-returns-4
-returns-4 c = λ signals k ht g z. absurd (false≢true z)
+returns-4 c = λ signals from k ht g z. absurd (false≢true z)
 
 -- src/code.rt:223:31
 add-wide-4 : tie.Need-add-wide-4
@@ -134,14 +130,13 @@ placed-requires-4 c κs = search needs
 
 -- src/code.rt:194:1
 returns-5 : tie.Need-returns-5
-returns-5 c = λ signals k ht g z. computable-form g (c .before .before .before .before .before .before .before .before .before .before .before .before .before .before .before .before .before .before .before .before .before .before .before .before .pre .1) refl (c .before .before .before .before .before .before .before .before .before .before .before .before .before .before .before .before .before .before .before .before .before .before .before .before .pre .4) ht (c .before .before .before .before .before .before .before .before .before .before .before .before .before .before .before .if1 .left) (subst (Placed _ _ _) (c .before .before .before .before .before .before .before .before .before .before .before .before .before .wide .ensures) (c .before .before .before .before .before .before .before .before .before .before .before .before .placed .ensures (indeed (c .before .before .before .before .before .before .before .before .before .before .before .if2 .left)))) (subst (Placed _ _ _) (c .before .before .before .before .before .before .before .before .before .wide2 .ensures) (c .before .before .before .before .before .before .before .before .placed2 .ensures (indeed (c .before .before .before .before .before .before .before .if3 .left)))) (subst (Placed _ _ _) (c .before .before .before .before .before .wide3 .ensures) (c .before .before .before .before .placed3 .ensures (indeed (c .before .before .before .if4 .left)))) (subst (Placed _ _ _) (c .before .wide4 .ensures) (c .placed4 .ensures z))
+returns-5 c = λ signals from k ht g z. computable-form g (c .before .before .before .before .before .before .before .before .before .before .before .before .before .before .before .before .before .before .before .before .before .before .before .before .pre .1) refl (c .before .before .before .before .before .before .before .before .before .before .before .before .before .before .before .before .before .before .before .before .before .before .before .before .pre .4) ht (c .before .before .before .before .before .before .before .before .before .before .before .before .before .before .before .if1 .left) (subst (Placed _ _ _) (c .before .before .before .before .before .before .before .before .before .before .before .before .before .wide .ensures) (c .before .before .before .before .before .before .before .before .before .before .before .before .placed .ensures (indeed (c .before .before .before .before .before .before .before .before .before .before .before .if2 .left)))) (subst (Placed _ _ _) (c .before .before .before .before .before .before .before .before .before .wide2 .ensures) (c .before .before .before .before .before .before .before .before .placed2 .ensures (indeed (c .before .before .before .before .before .before .before .if3 .left)))) (subst (Placed _ _ _) (c .before .before .before .before .before .wide3 .ensures) (c .before .before .before .before .placed3 .ensures (indeed (c .before .before .before .if4 .left)))) (subst (Placed _ _ _) (c .before .wide4 .ensures) (c .placed4 .ensures z))
 
 pub computable-spec : {M : Type 1} → statement M
 computable-spec =
     tie.close
     (tie.spec
     mul-at
-    mul-at-2
     add-at
     mul-if1
     shared-slice-read-if1

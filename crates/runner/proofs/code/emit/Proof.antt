@@ -42,11 +42,11 @@ returns-2 c = emits-none (c .before .before .before .before .before .before .bef
 
 -- src/code.rt:294:9
 computable-requires : tie.Need-computable-requires
-computable-requires c κs = let s = c .before .before .before .before .before .before .before .before .before .before .before .before .before .before .before .before .before .before .before in (s .pre .1, omega (arith, s .pre .2, c .before .before .before .before .before .before .if1 .left), s .pre .2, s .pre .7 .room, s .pre .4)
+computable-requires c κs = let s = c .before .before .before .before .before .before .before .before .before .before .before .before .before .before .before .before .before .before .before in (s .pre .1, omega (arith, s .pre .2, c .before .before .before .before .before .before .if1 .left), s .pre .2, omega (arith, s .pre .7 .forms-before, s .pre .7 .room), s .pre .4)
 
 -- src/code.rt:307:16
 add-result : tie.Need-add-result
-add-result c = omega (arith, c .before .before .before .before .before .before .before .before .before .before .before .before .before .before .before .before .before .before .before .before .before .pre .7 .room, c .before .before .before .before .before .before .before .before .before .before .before .before .before .before .before .before .before .before .before .before .before .good .1 .1 .1 .1 .1 .1 .1 .1 .1 .1 .1 .1 .0 .1)
+add-result c = omega (arith, c .before .before .before .before .before .before .before .before .before .before .before .before .before .before .before .before .before .before .before .before .before .pre .7 .forms-before, c .before .before .before .before .before .before .before .before .before .before .before .before .before .before .before .before .before .before .before .before .before .pre .9, c .before .before .before .before .before .before .before .before .before .before .before .before .before .before .before .before .before .before .before .before .before .pre .7 .room, c .before .before .before .before .before .before .before .before .before .before .before .before .before .before .before .before .before .before .before .before .before .good .1 .1 .1 .1 .1 .1 .1 .1 .1 .1 .1 .1 .1 .0 .1)
 
 -- src/code.rt:307:9
 same-length-2 : tie.Need-same-length-2
@@ -66,11 +66,11 @@ returns-3 c = emits-stuck _ _ _
 
 -- src/code.rt:309:5
 put-requires : tie.Need-put-requires
-put-requires c κs = let s = c .before .before .before .before .before .before .before .before .before .before .before .before .before .before .before .before .before .before .before .before .before .before .before .before in (s .pre .0, s .pre .2, s .pre .3, omega (arith, s .pre .4, s .pre .6), s .pre .7, omega (arith, s .pre .8, s .pre .9), emits-computable (c .before .before .before .before .before .before .before .before .before .before .before .before .wide .ensures) (c .before .before .before .before .computable .ensures _ _ (s .pre .5) (s .pre .7) (indeed (c .before .before .before .if3 .left))))
+put-requires c κs = let s = c .before .before .before .before .before .before .before .before .before .before .before .before .before .before .before .before .before .before .before .before .before .before .before .before in (s .pre .0, s .pre .2, s .pre .3, omega (arith, s .pre .4, s .pre .6), s .pre .7, omega (arith, s .pre .8, s .pre .9), emits-computable (c .before .before .before .before .before .before .before .before .before .before .before .before .wide .ensures) (c .before .before .before .before .computable .ensures _ _ _ (s .pre .5) (s .pre .7) (indeed (c .before .before .before .if3 .left))))
 
 -- src/code.rt:322:5
 add-result-2 : tie.Need-add-result-2
-add-result-2 c = omega (arith, c .before .before .before .before .before .before .before .before .before .before .before .before .before .before .before .before .before .before .before .before .before .before .before .before .before .before .before .before .before .before .before .pre .7 .room, c .before .before .before .before .before .before .before .before .before .before .before .before .before .before .before .before .before .before .before .before .before .before .before .before .before .before .before .before .before .before .before .pre .8, c .before .before .before .before .before .before .before .before .before .before .before .before .before .before .before .before .before .before .before .before .before .before .before .before .before .before .before .before .before .before .before .pre .9, c .before .before .before .before .before .before .before .before .before .before .before .before .before .before .before .before .before .before .before .before .before .before .before .before .before .before .before .before .before .before .before .good .1 .1 .1 .1 .1 .1 .1 .1 .1 .1 .1 .1 .0 .1)
+add-result-2 c = omega (arith, c .before .before .before .before .before .before .before .before .before .before .before .before .before .before .before .before .before .before .before .before .before .before .before .before .before .before .before .before .before .before .before .pre .7 .forms-before, c .before .before .before .before .before .before .before .before .before .before .before .before .before .before .before .before .before .before .before .before .before .before .before .before .before .before .before .before .before .before .before .pre .7 .room, c .before .before .before .before .before .before .before .before .before .before .before .before .before .before .before .before .before .before .before .before .before .before .before .before .before .before .before .before .before .before .before .pre .8, c .before .before .before .before .before .before .before .before .before .before .before .before .before .before .before .before .before .before .before .before .before .before .before .before .before .before .before .before .before .before .before .pre .9, c .before .before .before .before .before .before .before .before .before .before .before .before .before .before .before .before .before .before .before .before .before .before .before .before .before .before .before .before .before .before .before .good .1 .1 .1 .1 .1 .1 .1 .1 .1 .1 .1 .1 .1 .0 .1)
 
 -- src/code.rt:266:1
 same-length-5 : tie.Need-same-length-5

@@ -9,10 +9,10 @@ use Rattle.runner.proofs.code.emit_all.Lts as lts
 use Rattle.runner.proofs.code.emit.Reads as emit-reads
 
 abbrev Inv-loop : tie.InvT-loop
-Inv-loop signals exprs stmts starts expr-table signal-table driver-table n base top order₀ values₀ marks₀ k₀ i₀ order values marks k i = EmittingAll signals exprs stmts n order₀ values₀ marks₀ order values marks k i
+Inv-loop signals exprs stmts starts expr-table signal-table driver-table n from base top order₀ values₀ marks₀ k₀ i₀ order values marks k i = EmittingAll signals exprs stmts n from order₀ values₀ marks₀ order values marks k i
 
 abbrev μ-loop : tie.MeasureT-loop
-μ-loop signals exprs stmts starts expr-table signal-table driver-table n base top order₀ values₀ marks₀ k₀ i₀ order values marks k i = n - i
+μ-loop signals exprs stmts starts expr-table signal-table driver-table n from base top order₀ values₀ marks₀ k₀ i₀ order values marks k i = n - i
 
 -- src/code.rt:345:5
 loop-holds : tie.Need-loop-holds Inv-loop μ-loop
@@ -24,15 +24,15 @@ emit-requires c κs = let s = c .before .before .before .before .before .before 
 
 -- src/code.rt:364:13
 same-length : tie.Need-same-length Inv-loop μ-loop
-same-length c = c .before .before .before .before .before .before .before .emit .kept .1 .1 .1 .1 .1 .1 .1 .1 .1 .1 .1 .1 .0 ∙ c .before .before .before .before .before .before .before .before .before .before .before .before .loop .inv .order-long
+same-length c = c .before .before .before .before .before .before .before .emit .kept .1 .1 .1 .1 .1 .1 .1 .1 .1 .1 .1 .1 .1 .0 ∙ c .before .before .before .before .before .before .before .before .before .before .before .before .loop .inv .order-long
 
 -- src/code.rt:364:13
 same-length-2 : tie.Need-same-length-2 Inv-loop μ-loop
-same-length-2 c = c .before .before .before .before .before .before .before .emit .kept .1 .1 .1 .1 .1 .1 .1 .1 .1 .1 .1 .1 .1 .0 ∙ c .before .before .before .before .before .before .before .before .before .before .before .before .loop .inv .values-long
+same-length-2 c = c .before .before .before .before .before .before .before .emit .kept .1 .1 .1 .1 .1 .1 .1 .1 .1 .1 .1 .1 .1 .1 .0 ∙ c .before .before .before .before .before .before .before .before .before .before .before .before .loop .inv .values-long
 
 -- src/code.rt:364:13
 same-length-3 : tie.Need-same-length-3 Inv-loop μ-loop
-same-length-3 c = c .before .before .before .before .before .before .before .emit .kept .1 .1 .1 .1 .1 .1 .1 .1 .1 .1 .1 .1 .1 .1 .0 ∙ c .before .before .before .before .before .before .before .before .before .before .before .before .loop .inv .marks-long
+same-length-3 c = c .before .before .before .before .before .before .before .emit .kept .1 .1 .1 .1 .1 .1 .1 .1 .1 .1 .1 .1 .1 .1 .1 .0 ∙ c .before .before .before .before .before .before .before .before .before .before .before .before .loop .inv .marks-long
 
 -- src/code.rt:364:13
 returns : tie.Need-returns Inv-loop μ-loop
@@ -48,7 +48,7 @@ loop-less c = omega (arith, c .before .before .before .before .before .before .b
 
 -- src/code.rt:345:5
 loop-again : tie.Need-loop-again Inv-loop μ-loop
-loop-again c = all-next (c .before .before .before .before .before .before .before .before .before .before .before .before .loop .inv) (c .before .before .before .before .before .before .before .emit .ensures) (c .before .before .before .before .before .before .before .before .before .before .before .loop-test .taken) (c .if1 .left) (c .before .before .before .before .before .before .before .emit .kept .1 .1 .1 .1 .1 .1 .1 .1 .1 .1 .1 .1 .0) (c .before .before .before .before .before .before .before .emit .kept .1 .1 .1 .1 .1 .1 .1 .1 .1 .1 .1 .1 .1 .0) (c .before .before .before .before .before .before .before .emit .kept .1 .1 .1 .1 .1 .1 .1 .1 .1 .1 .1 .1 .1 .1 .0)
+loop-again c = all-next (c .before .before .before .before .before .before .before .before .before .before .before .before .loop .inv) (c .before .before .before .before .before .before .before .emit .ensures) (c .before .before .before .before .before .before .before .before .before .before .before .loop-test .taken) (c .if1 .left) (c .before .before .before .before .before .before .before .emit .kept .1 .1 .1 .1 .1 .1 .1 .1 .1 .1 .1 .1 .1 .0) (c .before .before .before .before .before .before .before .emit .kept .1 .1 .1 .1 .1 .1 .1 .1 .1 .1 .1 .1 .1 .1 .0) (c .before .before .before .before .before .before .before .emit .kept .1 .1 .1 .1 .1 .1 .1 .1 .1 .1 .1 .1 .1 .1 .1 .0)
 
 -- src/code.rt:325:1
 same-length-4 : tie.Need-same-length-4 Inv-loop μ-loop

@@ -64,7 +64,7 @@ same-length-3 c = search needs
 
 -- src/code.rt:239:1
 returns : tie.Need-returns
-returns c = (put-emitted (c .before .before .before .before .before .before .before .before .before .before .before .before .before .before .before .pre .4) (c .before .before .before .before .before .before .before .before .before .before .before .before .before .before .before .pre .5) (c .before .before .before .before .before .before .before .before .before .before .before .before .before .before .before .pre .6) (c .before .before .before .before .before .before .wide .ensures) (c .before .before .before .before .before .offset .ensures) (c .before .before .before .before .offset2 .ensures) (c .before .before .place .ensures), order-kept (c .before .before .before .before .before .before .before .before .before .before .before .before .before .before .before .pre .4) (c .before .before .before .before .before .before .before .before .before .before .before .before .before .before .before .pre .5) (c .before .before .before .before .before .before .before .before .before .before .before .before .before .before .before .pre .6))
+returns c = (put-emitted (c .before .before .before .before .before .before .before .before .before .before .before .before .before .before .before .pre .4) (c .before .before .before .before .before .before .before .before .before .before .before .before .before .before .before .pre .1) (c .before .before .before .before .before .before .before .before .before .before .before .before .before .before .before .pre .5) (c .before .before .before .before .before .before .before .before .before .before .before .before .before .before .before .pre .6) (c .before .before .before .before .before .before .wide .ensures) (c .before .before .before .before .before .offset .ensures) (c .before .before .before .before .offset2 .ensures) (c .before .before .place .ensures), order-kept (c .before .before .before .before .before .before .before .before .before .before .before .before .before .before .before .pre .4) (c .before .before .before .before .before .before .before .before .before .before .before .before .before .before .before .pre .1) (c .before .before .before .before .before .before .before .before .before .before .before .before .before .before .before .pre .5) (c .before .before .before .before .before .before .before .before .before .before .before .before .before .before .before .pre .6))
 
 pub put-spec : {M : Type 1} → statement M
 put-spec =

@@ -1,7 +1,6 @@
 use Rattle.runner.proofs.Tick.{read-signals, room-kept, inputs-fill, settled-values, made, values-fill}
 use mathlib.Core.Path.{refl, _∙_}
 use native.Mathlib.Omega.{arith}
-use Rattle.coding.proofs.Emitting.{coding-kept}
 use borrow.Author.Needs.{needs}
 use Rattle.runner.proofs.ticks.tick.Statement.{statement}
 use Rattle.runner.proofs.ticks.tick.Tie as tie
@@ -17,19 +16,19 @@ set-inputs-requires c κs = let s = c .before .before .before .before .before .b
 
 -- src/ticks.rt:43:5
 settle-requires : tie.Need-settle-requires
-settle-requires c κs = let s = c .before .before .before .before .before .before .before .before .before .before .before .before .before .before .before .before .before .before .before .before in (s .pre .0, s .pre .1, s .pre .2, room-kept (s .pre .3) (c .before .before .before .before .before .set-inputs .kept .1 .1 .0) refl, s .pre .4, s .pre .5, s .pre .6, s .pre .8, s .pre .9, s .pre .10, coding-kept (s .pre .13) refl)
+settle-requires c κs = (c .before .before .before .before .before .before .before .before .before .before .before .before .before .before .before .before .before .before .before .before .pre .0, c .before .before .before .before .before .before .before .before .before .before .before .before .before .before .before .before .before .before .before .before .pre .1, c .before .before .before .before .before .before .before .before .before .before .before .before .before .before .before .before .before .before .before .before .pre .2, room-kept (c .before .before .before .before .before .before .before .before .before .before .before .before .before .before .before .before .before .before .before .before .pre .3) (c .before .before .before .before .before .set-inputs .kept .1 .1 .0) refl, c .before .before .before .before .before .before .before .before .before .before .before .before .before .before .before .before .before .before .before .before .pre .4, c .before .before .before .before .before .before .before .before .before .before .before .before .before .before .before .before .before .before .before .before .pre .5, c .before .before .before .before .before .before .before .before .before .before .before .before .before .before .before .before .before .before .before .before .pre .6, c .before .before .before .before .before .before .before .before .before .before .before .before .before .before .before .before .before .before .before .before .pre .8, c .before .before .before .before .before .before .before .before .before .before .before .before .before .before .before .before .before .before .before .before .pre .9, c .before .before .before .before .before .before .before .before .before .before .before .before .before .before .before .before .before .before .before .before .pre .10)
 
 -- src/ticks.rt:59:5
 commit-requires : tie.Need-commit-requires
-commit-requires c κs = let s = c .before .before .before .before .before .before .before .before .before .before .before .before .before .before .before .before .before .before .before .before .before .before .before .before .before .before .before .before .before .before in (s .pre .0, room-kept (s .pre .3) (c .before .before .before .before .before .before .before .before .before .settle .kept .1 .1 .1 .1 .1 .1 .1 .1 .1 .1 .1 .0 ∙ c .before .before .before .before .before .before .before .before .before .before .before .before .before .before .before .set-inputs .kept .1 .1 .0) (c .before .before .before .before .before .before .before .before .before .settle .kept .1 .1 .1 .1 .1 .1 .1 .1 .1 .1 .1 .1 .0), omega (arith, s .pre .5, s .pre .7))
+commit-requires c κs = (c .before .before .before .before .before .before .before .before .before .before .before .before .before .before .before .before .before .before .before .before .before .before .before .before .before .before .before .before .before .before .pre .0, room-kept (c .before .before .before .before .before .before .before .before .before .before .before .before .before .before .before .before .before .before .before .before .before .before .before .before .before .before .before .before .before .before .pre .3) (c .before .before .before .before .before .before .before .before .before .settle .kept .1 .1 .1 .1 .1 .1 .1 .1 .1 .1 .0 ∙ c .before .before .before .before .before .before .before .before .before .before .before .before .before .before .before .set-inputs .kept .1 .1 .0) (c .before .before .before .before .before .before .before .before .before .settle .kept .1 .1 .1 .1 .1 .1 .1 .1 .1 .1 .1 .0), omega (arith, c .before .before .before .before .before .before .before .before .before .before .before .before .before .before .before .before .before .before .before .before .before .before .before .before .before .before .before .before .before .before .pre .5, c .before .before .before .before .before .before .before .before .before .before .before .before .before .before .before .before .before .before .before .before .before .before .before .before .before .before .before .before .before .before .pre .7))
 
 -- src/ticks.rt:70:5
 settle-requires-2 : tie.Need-settle-requires-2
-settle-requires-2 c κs = let s = c .before .before .before .before .before .before .before .before .before .before .before .before .before .before .before .before .before .before .before .before .before .before .before .before .before .before .before .before .before .before .before .before .before .before .before .before .before .before in (s .pre .0, s .pre .1, s .pre .2, room-kept (s .pre .3) (c .before .before .before .before .before .before .before .commit .kept .1 .1 .1 .1 .1 .1 .1 .1 .0 ∙ c .before .before .before .before .before .before .before .before .before .before .before .before .before .before .before .before .before .settle .kept .1 .1 .1 .1 .1 .1 .1 .1 .1 .1 .1 .0 ∙ c .before .before .before .before .before .before .before .before .before .before .before .before .before .before .before .before .before .before .before .before .before .before .before .set-inputs .kept .1 .1 .0) (c .before .before .before .before .before .before .before .before .before .before .before .before .before .before .before .before .before .settle .kept .1 .1 .1 .1 .1 .1 .1 .1 .1 .1 .1 .1 .0), s .pre .4, s .pre .5, omega (arith, s .pre .6, c .before .before .before .before .before .before .before .before .before .before .before .before .before .before .before .before .before .settle .kept .1 .1 .1 .1 .1 .1 .1 .1 .1 .1 .1 .1 .1 .0), s .pre .8, s .pre .9, settled-values (inputs-fill (s .pre .12) (c .before .before .before .before .before .before .before .before .before .before .before .before .before .before .before .before .before .before .before .before .before .before .before .set-inputs .ensures)) (c .before .before .before .before .before .before .before .before .before .before .before .before .before .before .before .before .before .settle .ensures), coding-kept (s .pre .13) (c .before .before .before .before .before .before .before .before .before .before .before .before .before .before .before .before .before .settle .kept .1 .1 .1 .1 .1 .1 .1 .1 .1 .1 .1 .1 .0))
+settle-requires-2 c κs = (c .before .before .before .before .before .before .before .before .before .before .before .before .before .before .before .before .before .before .before .before .before .before .before .before .before .before .before .before .before .before .before .before .before .before .before .before .before .before .pre .0, c .before .before .before .before .before .before .before .before .before .before .before .before .before .before .before .before .before .before .before .before .before .before .before .before .before .before .before .before .before .before .before .before .before .before .before .before .before .before .pre .1, c .before .before .before .before .before .before .before .before .before .before .before .before .before .before .before .before .before .before .before .before .before .before .before .before .before .before .before .before .before .before .before .before .before .before .before .before .before .before .pre .2, room-kept (c .before .before .before .before .before .before .before .before .before .before .before .before .before .before .before .before .before .before .before .before .before .before .before .before .before .before .before .before .before .before .before .before .before .before .before .before .before .before .pre .3) (c .before .before .before .before .before .before .before .commit .kept .1 .1 .1 .1 .1 .1 .1 .1 .0 ∙ c .before .before .before .before .before .before .before .before .before .before .before .before .before .before .before .before .before .settle .kept .1 .1 .1 .1 .1 .1 .1 .1 .1 .1 .0 ∙ c .before .before .before .before .before .before .before .before .before .before .before .before .before .before .before .before .before .before .before .before .before .before .before .set-inputs .kept .1 .1 .0) (c .before .before .before .before .before .before .before .before .before .before .before .before .before .before .before .before .before .settle .kept .1 .1 .1 .1 .1 .1 .1 .1 .1 .1 .1 .0), c .before .before .before .before .before .before .before .before .before .before .before .before .before .before .before .before .before .before .before .before .before .before .before .before .before .before .before .before .before .before .before .before .before .before .before .before .before .before .pre .4, c .before .before .before .before .before .before .before .before .before .before .before .before .before .before .before .before .before .before .before .before .before .before .before .before .before .before .before .before .before .before .before .before .before .before .before .before .before .before .pre .5, omega (arith, c .before .before .before .before .before .before .before .before .before .before .before .before .before .before .before .before .before .before .before .before .before .before .before .before .before .before .before .before .before .before .before .before .before .before .before .before .before .before .pre .6, c .before .before .before .before .before .before .before .before .before .before .before .before .before .before .before .before .before .settle .kept .1 .1 .1 .1 .1 .1 .1 .1 .1 .1 .1 .1 .0), c .before .before .before .before .before .before .before .before .before .before .before .before .before .before .before .before .before .before .before .before .before .before .before .before .before .before .before .before .before .before .before .before .before .before .before .before .before .before .pre .8, c .before .before .before .before .before .before .before .before .before .before .before .before .before .before .before .before .before .before .before .before .before .before .before .before .before .before .before .before .before .before .before .before .before .before .before .before .before .before .pre .9, settled-values (inputs-fill (c .before .before .before .before .before .before .before .before .before .before .before .before .before .before .before .before .before .before .before .before .before .before .before .before .before .before .before .before .before .before .before .before .before .before .before .before .before .before .pre .12) (c .before .before .before .before .before .before .before .before .before .before .before .before .before .before .before .before .before .before .before .before .before .before .before .set-inputs .ensures)) (c .before .before .before .before .before .before .before .before .before .before .before .before .before .before .before .before .before .settle .ensures))
 
 -- src/ticks.rt:19:1
 same-length : tie.Need-same-length
-same-length c = c .before .before .before .before .before .before .settle2 .kept .1 .1 .1 .1 .1 .1 .1 .1 .1 .1 .1 .0 ∙ c .before .before .before .before .before .before .before .before .before .before .before .before .before .before .commit .kept .1 .1 .1 .1 .1 .1 .1 .1 .0 ∙ c .before .before .before .before .before .before .before .before .before .before .before .before .before .before .before .before .before .before .before .before .before .before .before .before .settle .kept .1 .1 .1 .1 .1 .1 .1 .1 .1 .1 .1 .0 ∙ c .before .before .before .before .before .before .before .before .before .before .before .before .before .before .before .before .before .before .before .before .before .before .before .before .before .before .before .before .before .before .set-inputs .kept .1 .1 .0
+same-length c = c .before .before .before .before .before .before .settle2 .kept .1 .1 .1 .1 .1 .1 .1 .1 .1 .1 .0 ∙ c .before .before .before .before .before .before .before .before .before .before .before .before .before .before .commit .kept .1 .1 .1 .1 .1 .1 .1 .1 .0 ∙ c .before .before .before .before .before .before .before .before .before .before .before .before .before .before .before .before .before .before .before .before .before .before .before .before .settle .kept .1 .1 .1 .1 .1 .1 .1 .1 .1 .1 .0 ∙ c .before .before .before .before .before .before .before .before .before .before .before .before .before .before .before .before .before .before .before .before .before .before .before .before .before .before .before .before .before .before .set-inputs .kept .1 .1 .0
 
 -- src/ticks.rt:19:1
 same-length-2 : tie.Need-same-length-2
@@ -45,7 +44,7 @@ same-length-4 c = search needs
 
 -- src/ticks.rt:19:1
 returns : tie.Need-returns
-returns c = let s = c .before .before .before .before .before .before .before .before .before .before .before .before .before .before .before .before .before .before .before .before .before .before .before .before .before .before .before .before .before .before .before .before .before .before .before .before .before .before .before .before .before .before .before .before .before in (made (c .before .before .before .before .before .before .before .before .before .before .before .before .before .before .before .before .before .before .before .before .before .before .before .before .before .before .before .before .before .before .set-inputs .ensures) (c .before .before .before .before .before .before .before .before .before .before .before .before .before .before .before .before .before .before .before .before .before .before .before .before .settle .ensures) (c .before .before .before .before .before .before .before .before .before .before .before .before .before .before .commit .ensures) (c .before .before .before .before .before .before .settle2 .ensures), values-fill (c .before .before .before .before .before .before .before .before .before .before .before .before .before .before .before .before .before .before .before .before .before .before .before .before .before .before .before .before .before .before .set-inputs .ensures) (c .before .before .before .before .before .before .before .before .before .before .before .before .before .before .before .before .before .before .before .before .before .before .before .before .settle .ensures) (c .before .before .before .before .before .before .before .before .before .before .before .before .before .before .commit .ensures) (c .before .before .before .before .before .before .settle2 .ensures) (s .pre .12))
+returns c = (made (c .before .before .before .before .before .before .before .before .before .before .before .before .before .before .before .before .before .before .before .before .before .before .before .before .before .before .before .before .before .before .set-inputs .ensures) (c .before .before .before .before .before .before .before .before .before .before .before .before .before .before .before .before .before .before .before .before .before .before .before .before .settle .ensures) (c .before .before .before .before .before .before .before .before .before .before .before .before .before .before .commit .ensures) (c .before .before .before .before .before .before .settle2 .ensures), values-fill (c .before .before .before .before .before .before .before .before .before .before .before .before .before .before .before .before .before .before .before .before .before .before .before .before .before .before .before .before .before .before .set-inputs .ensures) (c .before .before .before .before .before .before .before .before .before .before .before .before .before .before .before .before .before .before .before .before .before .before .before .before .settle .ensures) (c .before .before .before .before .before .before .before .before .before .before .before .before .before .before .commit .ensures) (c .before .before .before .before .before .before .settle2 .ensures) (c .before .before .before .before .before .before .before .before .before .before .before .before .before .before .before .before .before .before .before .before .before .before .before .before .before .before .before .before .before .before .before .before .before .before .before .before .before .before .before .before .before .before .before .before .before .pre .12))
 
 pub tick-spec : {M : Type 1} → statement M
 tick-spec =
