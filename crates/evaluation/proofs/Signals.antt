@@ -1,7 +1,7 @@
 -- The next signal of a list that is walked through: its record, its width, where its bytes stand. Assumes nothing.
 use Prim.Native.Nat.{ℕ, _+_, _≤_, _<_}
 use mathlib.Core.Path.{_≡_, sym, _∙_, ap}
-use mathlib.Core.List.{List, [], _∷_}
+use mathlib.Core.List.{List, [], _∷_, map}
 use native.Mathlib.Omega.{arith}
 use native.Mathlib.Numerals.{add-one}
 use lib.ListN.{length, getD, drop}
@@ -10,23 +10,27 @@ use Rattle.recorder.specs.Record.{Signal, sized, signalWords}
 use Rattle.recorder.specs.Read.{readSignal}
 use Rattle.recorder.proofs.Roundtrip.{signal-said}
 use Rattle.simulation.specs.Run.{total}
-use Rattle.simulation.specs.Index.{sizeAt, recordsIn, widthsIn, offset}
-use Rattle.simulation.proofs.Offsets.{offset-next}
+use Rattle.simulation.specs.Index.{sizeAt, recordsIn, widthsIn, offset, startOf}
+use Rattle.simulation.proofs.Offsets.{offset-next, offset-le}
 use Rattle.simulation.proofs.Found.{read-count, read-at}
 use Rattle.simulation.proofs.Steps.{Walked, walked-there, walked-within, width-of}
 use Rattle.evaluation.specs.Ticks.{signalsIn, ReadSignals}
+use Rattle.evaluation.specs.Late.{no-signal, signalAt, PortsBefore}
 use Rattle.evaluation.proofs.Evaluating.{offset-before}
 use Rattle.evaluation.proofs.Whole.{record-inside, record-word}
-
-abbrev pub no-signal : Signal
-no-signal = record { label = 0; width = 0; owner = 0 }
-
-abbrev pub signalAt : List ℕ → ℕ → Signal
-signalAt signals k = getD (signalsIn signals) k no-signal
 
 module _ {signals : List ℕ} (h : ReadSignals signals) where
   pub signals-long : length (signalsIn signals) ≡ length (recordsIn signals)
   signals-long = read-count readSignal (recordsIn signals) (h .readable)
+
+  -- behind a word behind which no port begins
+  pub no-port : {at count word : ℕ} → PortsBefore signals word → Walked signals at count → word ≤ at → (k : ℕ) → count ≤ k → k < length (recordsIn signals) → (signalAt signals k .label ≡ 0 → ⊥) × (signalAt signals k .label ≡ 1 → ⊥)
+  unfolding startOf
+  no-port {at} {count} p g w k a b = p .none-behind k b (omega (arith, w, g .begins, offset-le (map (λ (r : List ℕ). length r + 1) (recordsIn signals)) count k a))
+
+  -- the end is such a word
+  pub ports-all : PortsBefore signals (length signals)
+  ports-all = record { inside = omega arith; none-behind = λ k q h. absurd (omega (arith, h, record-inside signals k q)) }
 
   module _ {at k : ℕ} (g : Walked signals at k) {size : ℕ} (e : size ≡ sizeAt signals at) (d : size ≡ 0 → ⊥) where
     pub signal-there : k < length (recordsIn signals)

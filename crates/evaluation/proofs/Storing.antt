@@ -29,7 +29,8 @@ use Rattle.evaluation.proofs.InBytes.{bytes-back}
 use Rattle.evaluation.proofs.Held.{map-take, map-drop, holds-length, holds-width, holds-part, holds-set}
 use Rattle.evaluation.proofs.Evaluating.{offset-before}
 use Rattle.evaluation.proofs.Whole.{signals-wide, driver-there, driver-wide}
-use Rattle.evaluation.proofs.Signals.{no-signal, signalAt, signals-long, signal-there, label-is, total-left, width-is, own-width, next-byte, signal-end}
+use Rattle.evaluation.specs.Late.{no-signal, signalAt}
+use Rattle.evaluation.proofs.Signals.{signals-long, signal-there, label-is, total-left, width-is, own-width, next-byte, signal-end}
 
 -- ONE VALUE
 
@@ -152,13 +153,19 @@ module _ (d : Signal) where
   from-other zero (s ∷ ss) bs (v ∷ t) q r e = sym (rw (ne-eqb (s .label) 0 e))
   from-other (suc k) (s ∷ ss) bs (v ∷ t) q r e = ap (λ (l : List Bits). v ∷ l) (from-other k ss bs t (omega arith) (omega arith) e)
 
-from-end : (k : ℕ) (ss : List Signal) (bs : Bits) (t : List Bits) → length ss ≤ k → length t ≡ length ss → inputsFrom k ss bs t ≡ t
-from-end zero [] bs [] q e = refl
-from-end (suc k) [] bs [] q e = refl
-from-end k [] bs (v ∷ t) q e = absurd (omega arith)
-from-end zero (s ∷ ss) bs t q e = absurd (omega arith)
-from-end (suc k) (s ∷ ss) bs [] q e = absurd (omega arith)
-from-end (suc k) (s ∷ ss) bs (v ∷ t) q e = ap (λ (l : List Bits). v ∷ l) (from-end k ss bs t (omega arith) (omega arith))
+-- no input is left
+from-none : (d : Signal) (ss : List Signal) (bs : Bits) (t : List Bits) → length t ≡ length ss → ((i : ℕ) → i < length ss → getD ss i d .label ≡ 0 → ⊥) → setInputs ss bs t ≡ t
+from-none d [] bs [] e n = refl
+from-none d [] bs (v ∷ t) e n = absurd (omega arith)
+from-none d (s ∷ ss) bs [] e n = absurd (omega arith)
+from-none d (s ∷ ss) bs (v ∷ t) e n = ap (λ (b : Bool). pick b (take (s .width) bs ∷ setInputs ss (drop (s .width) bs) t) (v ∷ setInputs ss bs t)) (ne-eqb (s .label) 0 (n 0 (omega arith))) ∙ ap (λ (l : List Bits). v ∷ l) (from-none d ss bs t (omega arith) (λ i q. n (suc i) (omega arith)))
+
+from-rest : (d : Signal) (k : ℕ) (ss : List Signal) (bs : Bits) (t : List Bits) → length t ≡ length ss → ((i : ℕ) → k ≤ i → i < length ss → getD ss i d .label ≡ 0 → ⊥) → inputsFrom k ss bs t ≡ t
+from-rest d zero ss bs t e n = from-none d ss bs t e (λ i q. n i (omega arith) q)
+from-rest d (suc k) [] bs [] e n = refl
+from-rest d (suc k) [] bs (v ∷ t) e n = absurd (omega arith)
+from-rest d (suc k) (s ∷ ss) bs [] e n = absurd (omega arith)
+from-rest d (suc k) (s ∷ ss) bs (v ∷ t) e n = ap (λ (l : List Bits). v ∷ l) (from-rest d k ss bs t (omega arith) (λ i a b. n (suc i) (omega arith) (omega arith)))
 
 -- the state that the bytes hold becomes that with all inputs
 abbrev Becomes : (signals ticks bytes : List ℕ) → ℕ → ℕ → List Bits → List ℕ → Type 0
@@ -185,13 +192,14 @@ module _ {signals ticks : List ℕ} (h : ReadSignals signals) (ticked : GoodTick
   }
 
   module _ {bytes₀ bytes : List ℕ} {at to pos : ℕ} (g : Taking signals ticks bytes₀ bytes at to pos) where
-    pub taking-end : g .count ≡ length (recordsIn signals) → Inputs signals ticks bytes₀ bytes
-    taking-end e = record { inputs = λ old behind ho. done (setInputs (signalsIn signals) (map isOne ticks) old) behind (g .so-far old behind ho) }
+    -- no input is left
+    pub taking-end : ((i : ℕ) → g .count ≤ i → i < length (recordsIn signals) → signalAt signals i .label ≡ 0 → ⊥) → Inputs signals ticks bytes₀ bytes
+    taking-end n = record { inputs = λ old behind ho. done (setInputs (signalsIn signals) (map isOne ticks) old) behind (g .so-far old behind ho) }
       where
         done : (goal : List Bits) (behind : List ℕ) → Becomes signals ticks bytes (g .count) pos goal behind → Holds (widthsIn signals) goal behind bytes
         done goal behind b =
             subst (λ (l : List Bits). Holds (widthsIn signals) l behind bytes)
-            (sym (from-end (g .count) (signalsIn signals) (drop pos (map isOne ticks)) (b .0) (omega (arith, signals-long h)) (holds-length (b .1) ∙ length-widths signals ∙ sym (signals-long h))) ∙ b .2)
+            (sym (from-rest no-signal (g .count) (signalsIn signals) (drop pos (map isOne ticks)) (b .0) (holds-length (b .1) ∙ length-widths signals ∙ sym (signals-long h)) (λ i a q. n i a (omega (arith, q, signals-long h)))) ∙ b .2)
             (b .1)
 
     -- the next signal

@@ -16,6 +16,7 @@ use Rattle.simulation.specs.Index.{recordsIn, widthsIn, startOf, stmtsIn}
 use Rattle.simulation.proofs.Stores.{store}
 use Rattle.evaluation.specs.Bytes.{Holds}
 use Rattle.evaluation.specs.Ready.{modelIn}
+use Rattle.evaluation.specs.Ticks.{signalsIn}
 use Rattle.evaluation.specs.Loads.{stmtIn, Begins, marked, byMarks}
 
 -- x is one of k words of a list, from an index on
@@ -31,15 +32,26 @@ pub record SameFree (m : Model) (a b : List Bits) : Type 0 where
   pub as-many : length a ≡ length b
   pub free : (s : ℕ) → given assigns (m .stmts) s ≡ none → getD a s [] ≡ getD b s []
 
+abbrev pub no-signal : Signal
+no-signal = record { label = 0; width = 0; owner = 0 }
+
+abbrev pub signalAt : List ℕ → ℕ → Signal
+signalAt signals k = getD (signalsIn signals) k no-signal
+
 -- signal s is an output
 pub record Output (signals : List Signal) (s : ℕ) : Type 0 where
   pub there : s < length signals
-  pub labelled : getD signals s (record { label = 0; width = 0; owner = 0 }) .label ≡ 1
+  pub labelled : getD signals s no-signal .label ≡ 1
 
 -- a state that settles to another, and has its outputs already
 pub record Late (m : Model) (state late : List Bits) : Type 0 where
   pub settles-to : settle m late ≡ state
   pub outputs : (s : ℕ) → Output (m .signals) s → getD late s [] ≡ getD state s []
+
+-- PORTS: no input and no output begins at a word or behind it
+pub record PortsBefore (signals : List ℕ) (word : ℕ) : Type 0 where
+  pub inside : word ≤ length signals
+  pub none-behind : (k : ℕ) → k < length (recordsIn signals) → word ≤ startOf signals k → (signalAt signals k .label ≡ 0 → ⊥) × (signalAt signals k .label ≡ 1 → ⊥)
 
 -- REGISTERS
 

@@ -74,7 +74,7 @@ planned-kept p l = record {
 }
 
 pub planning-kept : {signals exprs stmts : List ℕ} {n s : ℕ} {c : Code} {order values values′ : List ℕ} → Planning signals exprs stmts n s c order values → length values′ ≡ length values → Planning signals exprs stmts n s c order values′
-planning-kept p l = record { planned = λ u. planned-kept (p .planned u) l }
+planning-kept p l = record { ports = p .ports; planned = λ u. planned-kept (p .planned u) l }
 
 -- THE PARTS OF A TICK
 

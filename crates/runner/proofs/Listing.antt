@@ -30,10 +30,10 @@ use Rattle.evaluation.specs.Bytes.{Holds}
 use Rattle.evaluation.specs.Ready.{Prepared, Room}
 use Rattle.evaluation.specs.Ticks.{ReadSignals, StoresOne}
 use Rattle.evaluation.specs.Loads.{stmtIn, Stated, Begins, Control, enableAt, marked, byMarks, MarkOf, NotesOne, Noted, StoresLoad}
-use Rattle.evaluation.specs.Late.{Among, isRegister, Asks, Registers, StoresDriven, StoresListed, LoadsMarked, LoadsListed}
+use Rattle.evaluation.specs.Late.{Among, isRegister, Asks, Registers, StoresDriven, StoresListed, LoadsMarked, LoadsListed, signalAt}
 use Rattle.evaluation.proofs.Held.{holds-length}
 use Rattle.evaluation.proofs.Whole.{read-length, driver-there, driver-wide}
-use Rattle.evaluation.proofs.Signals.{signalAt, signals-long, label-is}
+use Rattle.evaluation.proofs.Signals.{signals-long, label-is}
 use Rattle.evaluation.proofs.Committing.{stated, fields-inside, target-known, target-of, register-word, asks-word, count-some, alone}
 use Rattle.runner.specs.Plan.{Listing, Controls, Outputs}
 

@@ -15,7 +15,7 @@ use Rattle.simulation.specs.Index.{recordsIn, startOf, stmtsIn}
 use Rattle.ordering.specs.Marks.{marked}
 use Rattle.ordering.specs.Words.{driverMarked, markOf}
 use Rattle.evaluation.specs.Loads.{stmtIn, Begins, Names, marked as loadedBy}
-use Rattle.evaluation.specs.Late.{Among, Loaded, Registers, isRegister}
+use Rattle.evaluation.specs.Late.{Among, PortsBefore, Loaded, Registers, isRegister}
 use Rattle.fusing.specs.Form.{Formed}
 use Rattle.coding.specs.Coded.{bitsIn, Coded}
 use Rattle.coding.specs.Emitting.{MarksLoaded, MarksDrivers}
@@ -79,16 +79,8 @@ module _ {stmts order : List ℕ} {from : ℕ} {marks : List ℕ} {j : ℕ} (g :
 -- THE PLAN
 
 -- none is made
-pub unplanned : {signals exprs stmts order values : List ℕ} {n s : ℕ} {c : Code} → c .usable ≡ false → Planning signals exprs stmts n s c order values
-unplanned z = record { planned = λ h. absurd (false≢true (sym z ∙ h)) }
-
--- values of the same length
-pub planning-kept : {signals exprs stmts order values values′ : List ℕ} {n s : ℕ} {c : Code} → Planning signals exprs stmts n s c order values → length values′ ≡ length values → Planning signals exprs stmts n s c order values′
-planning-kept p l = record {
-  planned = λ h.
-      let w = p .planned h in
-      record { room = w .room; base-is = w .base-is; state-is = w .state-is; values-room = (let r = w .values-room in omega (arith, r, l)); registers = w .registers; controls = w .controls; outputs = w .outputs; registers-few = w .registers-few; controls-few = w .controls-few; outputs-few = w .outputs-few; first = w .first; second = w .second; loaded-coded = w .loaded-coded; controls-coded = w .controls-coded; outputs-coded = w .outputs-coded };
-}
+pub unplanned : {signals exprs stmts order values : List ℕ} {n s : ℕ} {c : Code} → c .usable ≡ false → {word : ℕ} → c .ports ≡ word → PortsBefore signals word → Planning signals exprs stmts n s c order values
+unplanned {signals} z e b = record { ports = subst (PortsBefore signals) (sym e) b; planned = λ h. absurd (false≢true (sym z ∙ h)) }
 
 -- a table that is lent whole
 pub planning-whole : {signals exprs stmts : List ℕ} (order : List ℕ) {values : List ℕ} {n s used : ℕ} {c : Code} → used ≡ length order → Planning signals exprs stmts n s c order values → Planning signals exprs stmts n s c (take used order) values
@@ -142,14 +134,15 @@ module _ (n s : ℕ) (o₁ o₂ o₃ o₄ : List ℕ) (k₂ : take (7 * n) o₂ 
       controls-back : (k x : ℕ) → k ≤ s → Among o₆ (controlsAt n s) k x → Among o₅ (7 * n + s) k x
       controls-back k x h a = among-kept (7 * n + s + s + s + n) o₆ o₅ (sym k₆) (omega (arith, h)) a
 
-      pub planned-all : {signals exprs stmts values : List ℕ} {base state registers controls outputs first second used : ℕ}
-        → n ≡ length (recordsIn exprs) → registers ≤ s → controls ≤ s → outputs ≤ s → first ≤ n
+      pub planned-all : {signals exprs stmts values : List ℕ} {ports base state registers controls outputs first second used : ℕ}
+        → PortsBefore signals ports → n ≡ length (recordsIn exprs) → registers ≤ s → controls ≤ s → outputs ≤ s → first ≤ n
         → 9 * n + 3 * s ≤ length o₆ → length o₆ ≡ length o₅ → base ≡ bitsIn exprs → state ≡ bitsIn signals → base + state ≤ length values
         → Registers stmts o₂ (7 * n) registers → Controls stmts o₃ (7 * n + s) controls → Outputs signals o₄ (7 * n + s + s) outputs
         → Coded signals exprs stmts n (7 * n + s + s + s) first o₅ → ((e : ℕ) → Loaded stmts e → Among o₅ (7 * n + s + s + s) first e) → ((x d : ℕ) → Among o₅ (7 * n + s) controls x → given assigns (stmtsIn stmts) x ≡ some d → Among o₅ (7 * n + s + s + s) first d)
         → Coded signals exprs stmts n (7 * n + s + s + s + n) second o₆ → ((x d : ℕ) → Among o₆ (7 * n + s + s) outputs x → given assigns (stmtsIn stmts) x ≡ some d → Among o₆ (7 * n + s + s + s + n) second d)
-        → Planning signals exprs stmts n s (record { usable = true; base = base; state = state; registers = registers; controls = controls; outputs = outputs; first = first; second = second; used = used }) o₆ values
-      planned-all {signals} {exprs} {stmts} {values} {base} {state} {registers} {controls} {outputs} {first} {second} {used} hn hr hc ho hf room same hb hs hv rs cs os coded loaded driven coded₂ shown = record {
+        → Planning signals exprs stmts n s (record { usable = true; ports = ports; base = base; state = state; registers = registers; controls = controls; outputs = outputs; first = first; second = second; used = used }) o₆ values
+      planned-all {signals} {exprs} {stmts} {values} {ports} {base} {state} {registers} {controls} {outputs} {first} {second} {used} hp hn hr hc ho hf room same hb hs hv rs cs os coded loaded driven coded₂ shown = record {
+        ports = hp;
         planned = λ u. record {
           room = room;
           base-is = hb;

@@ -2,13 +2,14 @@
 use Prim.Native.Nat.{ℕ, zero, suc, _+_, _-_, _*_, _/_, _≤_, _<_, min}
 use mathlib.Core.Path.{_≡_, refl, sym, _∙_, ap, ap₂}
 use mathlib.Core.Bool.{Bool}
-use mathlib.Core.List.{List, [], _∷_, _++_}
+use mathlib.Core.List.{List, [], _∷_, _++_, map}
 use mathlib.Core.Option.{some}
 use native.Mathlib.Omega.{arith}
+use native.Mathlib.Decide.{ℕ-discrete}
 use native.Mathlib.Numerals.{add-one}
 use native.Mathlib.Nat.{le-trans, le-of-eq, le-of-lt, zero-mul, mul-comm, le-div-iff-mul-le, div-lt-iff-lt-mul}
-use lib.ListN.{length, getD, take, drop, set, drop-of-length-le}
-use lib.Seq.{drop-drop}
+use lib.ListN.{length, getD, take, drop, set, length-drop, drop-of-length-le}
+use lib.Seq.{drop-drop, getD-drop}
 use borrow.Author.Tests.{eq-eqb, ne-eqb}
 use Rattle.bits.specs.Bits.{pick}
 use Rattle.recorder.specs.Record.{Signal}
@@ -16,12 +17,14 @@ use Rattle.recorder.specs.Lists.{over}
 use Rattle.recorder.proofs.Room.{over-over}
 use Rattle.simulation.specs.Run.{total, flat}
 use Rattle.simulation.specs.Shown.{shownBytes}
-use Rattle.simulation.specs.Index.{sizeAt, recordsIn, widthsIn, offset}
+use Rattle.simulation.specs.Index.{sizeAt, recordsIn, widthsIn, offset, startOf}
+use Rattle.simulation.proofs.Offsets.{offset-le}
 use Rattle.simulation.proofs.Steps.{Walked, walked-start, walked-next}
 use Rattle.evaluation.specs.Bytes.{part}
 use Rattle.evaluation.specs.Ticks.{signalsIn, ReadSignals}
 use Rattle.evaluation.proofs.InBytes.{part-length}
-use Rattle.evaluation.proofs.Signals.{signalAt, signals-long, label-is, signals-left, total-left, width-is, next-byte, signal-end}
+use Rattle.evaluation.specs.Late.{no-signal, signalAt, PortsBefore}
+use Rattle.evaluation.proofs.Signals.{signals-long, label-is, signals-left, total-left, width-is, next-byte, signal-end}
 use Rattle.runner.specs.Calls.{firedBy, outputWidth}
 
 pub over-nothing : (l : List ℕ) (i : ℕ) → over l i [] ≡ l
@@ -95,6 +98,16 @@ module _ {signals : List ℕ} (h : ReadSignals signals) where
 
 -- THE OUTPUTS' BYTES
 
+-- signals without outputs
+
+quiet-total : (ss : List Signal) → ((i : ℕ) → i < length ss → getD ss i no-signal .label ≡ 1 → ⊥) → total outputWidth ss ≡ 0
+quiet-total [] n = refl
+quiet-total (s ∷ ss) n = let r = quiet-total ss (λ i q. n (suc i) (omega arith)) in omega (arith, output-not s (n 0 (omega arith)), r)
+
+quiet-shown : (ss : List Signal) (b : List ℕ) → ((i : ℕ) → i < length ss → getD ss i no-signal .label ≡ 1 → ⊥) → shownBytes ss b ≡ []
+quiet-shown [] b n = refl
+quiet-shown (s ∷ ss) b n = ap (λ (c : Bool). pick c (take (s .width) b ∷ shownBytes ss (drop (s .width) b)) (shownBytes ss (drop (s .width) b))) (ne-eqb (s .label) 1 (n 0 (omega arith))) ∙ quiet-shown ss (drop (s .width) b) (λ i q. n (suc i) (omega arith))
+
 -- the next signal's record stands at a word, its bytes at an index; the outputs that are left go to another
 pub record Showing (signals bytes shown₀ shown : List ℕ) (from at pos to : ℕ) : Type 0 where
   pub count : ℕ
@@ -108,12 +121,16 @@ pub showing-start : (signals bytes shown₀ : List ℕ) (from : ℕ) → Showing
 showing-start signals bytes shown₀ from = record { count = 0; walked = walked-start signals; byte-is = refl; room-left = refl; as-long = refl; so-far = refl }
 
 module _ {signals bytes : List ℕ} (h : ReadSignals signals) {shown₀ shown : List ℕ} {from at pos to : ℕ} (g : Showing signals bytes shown₀ shown from at pos to) where
-  module _ (e : g .count ≡ length (recordsIn signals)) where
+  -- no output is left
+  module _ (n : (i : ℕ) → g .count ≤ i → i < length (recordsIn signals) → signalAt signals i .label ≡ 1 → ⊥) where
+    quiet : (i : ℕ) → i < length (drop (g .count) (signalsIn signals)) → getD (drop (g .count) (signalsIn signals)) i no-signal .label ≡ 1 → ⊥
+    quiet i q l = n (g .count + i) (omega arith) (omega (arith, q, length-drop (g .count) (signalsIn signals), signals-long h)) (ap (λ (s : Signal). s .label) (sym (getD-drop (g .count) (signalsIn signals) i no-signal)) ∙ l)
+
     pub showing-end : to ≡ from + total outputWidth (signalsIn signals)
-    showing-end = omega (arith, g .room-left, ap (total outputWidth) (none-left h (g .count) e))
+    showing-end = omega (arith, g .room-left, quiet-total (drop (g .count) (signalsIn signals)) quiet)
 
     pub showing-all : shown ≡ over shown₀ from (flat (shownBytes (signalsIn signals) bytes))
-    showing-all = sym (over-nothing shown to) ∙ ap (λ (ss : List Signal). over shown to (flat (shownBytes ss (drop pos bytes)))) (sym (none-left h (g .count) e)) ∙ g .so-far
+    showing-all = sym (over-nothing shown to) ∙ ap (λ (o : List (List ℕ)). over shown to (flat o)) (sym (quiet-shown (drop (g .count) (signalsIn signals)) (drop pos bytes) quiet)) ∙ g .so-far
 
   module _ {size : ℕ} (e : size ≡ sizeAt signals at) (d : size ≡ 0 → ⊥) {w : ℕ} (hw : w ≡ getD signals (at + 2) 0) where
     abbrev y : Signal
@@ -191,3 +208,40 @@ module _ (a b : ℕ) (d : a ≡ 0 → ⊥) where
 pub fired-edge : (f s : ℕ) → (f ≡ 0 → ⊥) → some (s, f - 1) ≡ firedBy f s
 fired-edge zero s d = absurd (d refl)
 fired-edge (suc f) s d = ap (λ (k : ℕ). some (s, k)) (omega arith)
+
+-- WHERE THE PORTS END
+
+-- the first signals have no port that begins at a word or behind it
+pub record Ending (signals : List ℕ) (at end : ℕ) : Type 0 where
+  pub count : ℕ
+  pub walked : Walked signals at count
+  pub before : end ≤ at
+  pub none-yet : (k : ℕ) → k < count → end ≤ startOf signals k → (signalAt signals k .label ≡ 0 → ⊥) × (signalAt signals k .label ≡ 1 → ⊥)
+
+pub ending-start : (signals : List ℕ) → Ending signals 0 0
+ending-start signals = record { count = 0; walked = walked-start signals; before = omega arith; none-yet = λ k q. absurd (omega arith) }
+
+module _ {signals : List ℕ} (h : ReadSignals signals) {at end : ℕ} (g : Ending signals at end) where
+  pub ending-end : g .count ≡ length (recordsIn signals) → PortsBefore signals end
+  ending-end e = record { inside = let i = g .walked .inside in omega (arith, i, g .before); none-behind = λ k q w. g .none-yet k (omega (arith, q, e)) w }
+
+  module _ {size : ℕ} (e : size ≡ sizeAt signals at) (d : size ≡ 0 → ⊥) where
+    -- a port
+    pub ending-port : Ending signals (at + size) (at + size)
+    unfolding startOf
+    ending-port = record {
+      count = g .count + 1;
+      walked = walked-next (g .walked) size e d;
+      before = omega arith;
+      none-yet = λ k q w. absurd (omega (arith, w, d, g .walked .begins, offset-le (map (λ (r : List ℕ). length r + 1) (recordsIn signals)) k (g .count) (omega (arith, q))));
+    }
+
+    -- none
+    pub ending-other : (getD signals (at + 1) 0 ≤ 1 → ⊥) → Ending signals (at + size) end
+    ending-other l = record { count = g .count + 1; walked = walked-next (g .walked) size e d; before = let b = g .before in omega (arith, b); none-yet = λ k q w. go k q w (ℕ-discrete k (g .count)) }
+      where
+        go : (k : ℕ) → k < g .count + 1 → end ≤ startOf signals k → Dec (k ≡ g .count) → (signalAt signals k .label ≡ 0 → ⊥) × (signalAt signals k .label ≡ 1 → ⊥)
+        go k q w (no z) = g .none-yet k (omega (arith, q, z)) w
+        go k q w (yes z) =
+            let t : getD signals (at + 1) 0 ≡ signalAt signals k .label = label-is h (g .walked) e d ∙ ap (λ (i : ℕ). signalAt signals i .label) (sym z) in
+            (λ y. l (omega (arith, t, y)), λ y. l (omega (arith, t, y)))

@@ -10,7 +10,7 @@ use Rattle.simulation.specs.Index.{recordsIn, stmtsIn}
 use Rattle.ordering.specs.Marks.{marked}
 use Rattle.evaluation.specs.Loads.{stmtIn}
 use Rattle.evaluation.specs.Ticks.{signalsIn}
-use Rattle.evaluation.specs.Late.{Among, Output, Asks, Loaded, Registers}
+use Rattle.evaluation.specs.Late.{Among, Output, PortsBefore, Asks, Loaded, Registers}
 use Rattle.coding.specs.Coded.{bitsIn, Coded}
 use Rattle.runner.specs.declared.code.Code.{Code}
 
@@ -64,6 +64,7 @@ module _ (signals exprs stmts : List ℕ) where
     pub controls-coded : (x d : ℕ) → Among order (controlsAt n s) (c .controls) x → given assigns (stmtsIn stmts) x ≡ some d → Among order (firstAt n s) (c .first) d
     pub outputs-coded : (x d : ℕ) → Among order (outputsAt n s) (c .outputs) x → given assigns (stmtsIn stmts) x ≡ some d → Among order (secondAt n s) (c .second) d
 
-  -- if there is one
+  -- if there is one; where the ports end is known always
   pub record Planning (n s : ℕ) (c : Code) (order values : List ℕ) : Type 0 where
+    pub ports : PortsBefore signals (c .ports)
     pub planned : c .usable ≡ true → Planned n s c order values

@@ -7,6 +7,7 @@ use crate::lists::list_registers;
 use crate::marks::driver_marked;
 use crate::marks::is_marked;
 use crate::marks::ready;
+use crate::show::ports_end;
 use crate::tables::offset;
 use fusing::fill_forms;
 use simulation::Driver;
@@ -29,16 +30,17 @@ ghost use Rattle.ordering.specs.Marks.{marked};
 ghost use Rattle.evaluation.specs.Ready.{Prepared, modelIn};
 ghost use Rattle.evaluation.specs.Ticks.{Ordered};
 ghost use Rattle.evaluation.specs.Loads.{stmtIn, Stated, Begins, Names};
-ghost use Rattle.evaluation.specs.Late.{Among, Loaded, Registers};
+ghost use Rattle.evaluation.specs.Late.{Among, PortsBefore, Loaded, Registers};
 ghost use Rattle.fusing.specs.Form.{Formed};
 ghost use Rattle.coding.specs.Coded.{bitsIn, Computable, Coded};
 ghost use Rattle.coding.specs.Emitting.{Unplaced, Placed, Places, MarksLoaded, MarksDrivers, Emitting, Emits, EmitsAll};
 ghost use Rattle.runner.specs.Plan.{Planning};
 
-// Whether there is code; the bits of all expressions, and of all signals; how many registers, signals that they ask for and outputs are
+// Whether there is code; a word before which all ports begin; the bits of all expressions, and of all signals; how many registers, signals that they ask for and outputs are
 // listed; how many words the two pieces of code have; how much of the order is lent.
 pub struct Code {
     pub usable: bool,
+    pub ports: usize,
     pub base: usize,
     pub state: usize,
     pub registers: usize,
@@ -662,11 +664,12 @@ fn second_code(
 }
 
 // No code; so much of the order is lent.
-fn none(used: usize) -> Code
-    ensures { λ r. ⌜ (r .usable ≡ false) × (r .used ≡ used) ⌝ }
+fn none(used: usize, ports: usize) -> Code
+    ensures { λ r. ⌜ (r .usable ≡ false) × (r .used ≡ used) × (r .ports ≡ ports) ⌝ }
 {
     Code {
         usable: false,
+        ports: ports,
         base: 0,
         state: 0,
         registers: 0,
@@ -695,8 +698,9 @@ fn encode_in(
     values: &mut [u8],
     marks: &mut [u8],
     asked: &mut [u8],
+    ports: usize,
 ) -> Code
-    requires { ⌜ Prepared (now signals) (now exprs) (now stmts) (now «expr_table») (now «signal_table») × Starts (now exprs) (now starts) × Driven (now stmts) (now «driver_table») × (n ≡ length (recordsIn (now exprs))) × (count ≡ length (recordsIn (now signals))) × (n ≤ length (now marks)) × (count ≤ length (now asked)) × (base ≡ bitsIn (now exprs)) × (state ≡ bitsIn (now signals)) × (base + state ≤ length (now values)) × (9 * n + 3 * count ≤ length (now order)) ⌝ }
+    requires { ⌜ Prepared (now signals) (now exprs) (now stmts) (now «expr_table») (now «signal_table») × Starts (now exprs) (now starts) × Driven (now stmts) (now «driver_table») × (n ≡ length (recordsIn (now exprs))) × (count ≡ length (recordsIn (now signals))) × (n ≤ length (now marks)) × (count ≤ length (now asked)) × (base ≡ bitsIn (now exprs)) × (state ≡ bitsIn (now signals)) × (base + state ≤ length (now values)) × (9 * n + 3 * count ≤ length (now order)) × PortsBefore (now signals) ports ⌝ }
     ensures planned { λ r. ⌜ Planning (now (signals .entry)) (now (exprs .entry)) (now (stmts .entry)) n count r (now (order .exit)) (now (values .exit)) ⌝ }
     ensures kept { λ _. ⌜ take n (now (order .exit)) ≡ take n (now (order .entry)) ⌝ }
     ensures used { λ r. ⌜ r .used ≡ length (now (order .entry)) ⌝ }
@@ -717,17 +721,17 @@ fn encode_in(
     let loads = 7 * n;
     let registers = list_registers(signals, stmts, order, loads, count);
     if registers > count {
-        return none(all);
+        return none(all, ports);
     }
     let controls_at = loads + count;
     let controls = list_controls(signals, stmts, order, loads, registers, controls_at, count, asked);
     if controls > count {
-        return none(all);
+        return none(all, ports);
     }
     let outputs_at = controls_at + count;
     let outputs = list_outputs(signals, order, outputs_at, count);
     if outputs > count {
-        return none(all);
+        return none(all, ports);
     }
     let first_at = outputs_at + count;
     let top = base + state;
@@ -752,7 +756,7 @@ fn encode_in(
         marks,
     );
     if first > n {
-        return none(all);
+        return none(all, ports);
     }
     let second = second_code(
         signals,
@@ -773,10 +777,11 @@ fn encode_in(
         marks,
     );
     if second > n {
-        return none(all);
+        return none(all, ports);
     }
     Code {
         usable: true,
+        ports: ports,
         base: base,
         state: state,
         registers: registers,
@@ -810,19 +815,20 @@ pub fn encode(
     ensures ordered { λ r. ⌜ Ordered (modelIn (now (signals .entry)) (now (exprs .entry)) (now (stmts .entry))) n (take (r .used) (now (order .exit))) ⌝ }
     ensures inside { λ r. ⌜ r .used ≤ length (now (order .exit)) ⌝ }
 {
+    let ports = ports_end(signals);
     if ordered != n {
-        return none(ordered);
+        return none(ordered, ports);
     }
     if order.len() / 9 < n {
-        return none(ordered);
+        return none(ordered, ports);
     }
     if (order.len() - 9 * n) / 3 < count {
-        return none(ordered);
+        return none(ordered, ports);
     }
     let base = offset(exprs, expr_table, n);
     let state = offset(signals, signal_table, count);
     if values.len() - base < state {
-        return none(ordered);
+        return none(ordered, ports);
     }
     encode_in(
         signals,
@@ -840,5 +846,6 @@ pub fn encode(
         values,
         marks,
         asked,
+        ports,
     )
 }

@@ -15,7 +15,7 @@ ghost use Rattle.simulation.specs.Run.{firedOf, firing};
 ghost use Rattle.simulation.specs.Tick.{looped};
 ghost use Rattle.evaluation.specs.Ready.{Prepared, Room, modelIn};
 ghost use Rattle.evaluation.specs.Ticks.{Filled, GoodTicks};
-ghost use Rattle.evaluation.specs.Late.{TicksLate};
+ghost use Rattle.evaluation.specs.Late.{PortsBefore, TicksLate};
 ghost use Rattle.runner.specs.Plan.{Planned};
 ghost use Rattle.runner.specs.Parts.{LoadsAfter, ShowsAfter};
 
@@ -160,11 +160,11 @@ pub fn tick_late(
     values: &mut [u8],
     marks: &mut [u8],
 )
-    requires { ⌜ Prepared (now signals) (now exprs) (now stmts) (now «expr_table») (now «signal_table») × Starts (now exprs) (now starts) × Driven (now stmts) (now «driver_table») × Room (now signals) (now exprs) (now bytes) (now values) × (n ≡ length (recordsIn (now exprs))) × (count ≡ length (recordsIn (now signals))) × (count ≤ length (now marks)) × (looped (modelIn (now signals) (now exprs) (now stmts)) ≡ none) × Filled (widthsIn (now exprs)) (now values) × Filled (widthsIn (now signals)) (now bytes) × GoodTicks (now signals) (now ticks) × Planned (now signals) (now exprs) (now stmts) n count code (now order) (now values) ⌝ }
+    requires { ⌜ Prepared (now signals) (now exprs) (now stmts) (now «expr_table») (now «signal_table») × Starts (now exprs) (now starts) × Driven (now stmts) (now «driver_table») × Room (now signals) (now exprs) (now bytes) (now values) × (n ≡ length (recordsIn (now exprs))) × (count ≡ length (recordsIn (now signals))) × (count ≤ length (now marks)) × (looped (modelIn (now signals) (now exprs) (now stmts)) ≡ none) × Filled (widthsIn (now exprs)) (now values) × Filled (widthsIn (now signals)) (now bytes) × GoodTicks (now signals) (now ticks) × Planned (now signals) (now exprs) (now stmts) n count code (now order) (now values) × PortsBefore (now signals) (code .ports) ⌝ }
     ensures ticked { λ _. ⌜ TicksLate (now (signals .entry)) (now (exprs .entry)) (now (stmts .entry)) (now (ticks .entry)) (firing (firedOf fired)) (now (bytes .entry)) (now (bytes .exit)) ⌝ }
     ensures filled { λ _. ⌜ Filled (widthsIn (now (exprs .entry))) (now (values .exit)) ⌝ }
 {
-    set_inputs(signals, ticks, bytes);
+    set_inputs(signals, ticks, bytes, code.ports);
     load_late(
         signals,
         exprs,

@@ -252,7 +252,7 @@ pub fn run_ticks(
         );
         late = either(late, is_made(r));
         put_answer(answers, 2 * i, r);
-        to = show(signals, bytes, shown, to);
+        to = show(signals, bytes, shown, to, code.ports);
         at += 3;
         pos = end;
         i += 1;

@@ -12,6 +12,7 @@ ghost use Rattle.recorder.specs.Lists.{over};
 ghost use Rattle.simulation.specs.Index.{recordsIn, widthsIn, offset as sumTo};
 ghost use Rattle.simulation.specs.Run.{answerOf, firedOf, total, flat};
 ghost use Rattle.simulation.specs.Shown.{shownBytes};
+ghost use Rattle.evaluation.specs.Late.{PortsBefore};
 ghost use Rattle.evaluation.specs.Ticks.{ReadSignals, signalsIn};
 ghost use Rattle.runner.specs.Calls.{firedBy, outputWidth, answerWords};
 
@@ -35,6 +36,27 @@ pub fn output_total(signals: &[u32]) -> usize
     sum
 }
 
+// A word before which all ports begin.
+pub fn ports_end(signals: &[u32]) -> usize
+    requires { ⌜ ReadSignals (now signals) ⌝ }
+    ensures { λ r. ⌜ PortsBefore (now (signals .entry)) r ⌝ }
+{
+    let mut at: usize = 0;
+    let mut end: usize = 0;
+    while at < signals.len() {
+        let size = size(signals, at);
+        if size == 0 {
+            return end;
+        }
+        let label = signals[at + 1];
+        at += size;
+        if label <= 1 {
+            end = at;
+        }
+    }
+    end
+}
+
 // A product that stops at the largest number.
 pub fn times(a: usize, b: usize) -> usize
     ensures { λ r. ⌜ r ≡ min (a * b) 18446744073709551615 ⌝ }
@@ -49,16 +71,16 @@ pub fn times(a: usize, b: usize) -> usize
     }
 }
 
-// The output signals' bytes, one after the other, from an index on; the index behind them.
-pub fn show(signals: &[u32], bytes: &[u8], shown: &mut [u8], from: usize) -> usize
-    requires { ⌜ ReadSignals (now signals) × (sumTo (widthsIn (now signals)) (length (recordsIn (now signals))) ≤ length (now bytes)) × (from + total outputWidth (signalsIn (now signals)) ≤ length (now shown)) ⌝ }
+// The output signals' bytes, one after the other, from an index on; the index behind them. All of them begin before a word.
+pub fn show(signals: &[u32], bytes: &[u8], shown: &mut [u8], from: usize, until: usize) -> usize
+    requires { ⌜ ReadSignals (now signals) × (sumTo (widthsIn (now signals)) (length (recordsIn (now signals))) ≤ length (now bytes)) × (from + total outputWidth (signalsIn (now signals)) ≤ length (now shown)) × PortsBefore (now signals) until ⌝ }
     ensures end { λ r. ⌜ r ≡ from + total outputWidth (signalsIn (now (signals .entry))) ⌝ }
     ensures shows { λ _. ⌜ now (shown .exit) ≡ over (now (shown .entry)) from (flat (shownBytes (signalsIn (now (signals .entry))) (now (bytes .entry)))) ⌝ }
 {
     let mut at: usize = 0;
     let mut pos: usize = 0;
     let mut to = from;
-    while at < signals.len() {
+    while at < until {
         let size = size(signals, at);
         if size == 0 {
             return to;

@@ -10,7 +10,7 @@ ghost use Prim.Native.Nat.{_+_, _≤_, _<_};
 ghost use lib.ListN.{length, getD};
 ghost use Rattle.simulation.specs.Index.{recordsIn, widthsIn, offset as sumTo, Indexed, Driven};
 ghost use Rattle.evaluation.specs.Ready.{Prepared, Room};
-ghost use Rattle.evaluation.specs.Late.{StoresDriven, StoresListed};
+ghost use Rattle.evaluation.specs.Late.{PortsBefore, StoresDriven, StoresListed};
 ghost use Rattle.evaluation.specs.Ticks.{ReadSignals, GoodTicks, Inputs, StoresOne, Stores};
 
 // Signal t takes the value of expression d, which is as wide.
@@ -138,15 +138,15 @@ pub fn store_listed(
     }
 }
 
-// The input signals take the tick's bits, in order.
-pub fn set_inputs(signals: &[u32], ticks: &[u8], bytes: &mut [u8])
-    requires { ⌜ ReadSignals (now signals) × GoodTicks (now signals) (now ticks) × (sumTo (widthsIn (now signals)) (length (recordsIn (now signals))) ≤ length (now bytes)) ⌝ }
+// The input signals take the tick's bits, in order. All of them begin before a word.
+pub fn set_inputs(signals: &[u32], ticks: &[u8], bytes: &mut [u8], until: usize)
+    requires { ⌜ ReadSignals (now signals) × GoodTicks (now signals) (now ticks) × (sumTo (widthsIn (now signals)) (length (recordsIn (now signals))) ≤ length (now bytes)) × PortsBefore (now signals) until ⌝ }
     ensures { λ _. ⌜ Inputs (now (signals .entry)) (now (ticks .entry)) (now (bytes .entry)) (now (bytes .exit)) ⌝ }
 {
     let mut at: usize = 0;
     let mut to: usize = 0;
     let mut pos: usize = 0;
-    while at < signals.len() {
+    while at < until {
         let size = size(signals, at);
         if size == 0 {
             return;

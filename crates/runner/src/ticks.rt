@@ -36,7 +36,7 @@ pub fn tick(
     ensures ticked { λ _. ⌜ Ticks (now (signals .entry)) (now (exprs .entry)) (now (stmts .entry)) (now (ticks .entry)) (firing (firedOf fired)) (now (bytes .entry)) (now (bytes .exit)) ⌝ }
     ensures filled { λ _. ⌜ Filled (widthsIn (now (exprs .entry))) (now (values .exit)) ⌝ }
 {
-    set_inputs(signals, ticks, bytes);
+    set_inputs(signals, ticks, bytes, signals.len());
     settle(
         signals,
         exprs,

@@ -12,7 +12,7 @@ use Rattle.runner.proofs.store.set_inputs.Reads as set-inputs-reads
 
 -- src/late.rt:167:5
 set-inputs-requires : tie.Need-set-inputs-requires
-set-inputs-requires c κs = (read-signals (c .before .before .before .before .before .before .before .before .before .before .before .before .before .pre .0), c .before .before .before .before .before .before .before .before .before .before .before .before .before .pre .10, c .before .before .before .before .before .before .before .before .before .before .before .before .before .pre .3 .bytes-room)
+set-inputs-requires c κs = (read-signals (c .before .before .before .before .before .before .before .before .before .before .before .before .before .pre .0), c .before .before .before .before .before .before .before .before .before .before .before .before .before .pre .10, c .before .before .before .before .before .before .before .before .before .before .before .before .before .pre .3 .bytes-room, c .before .before .before .before .before .before .before .before .before .before .before .before .before .pre .12)
 
 -- src/late.rt:168:5
 load-late-requires : tie.Need-load-late-requires

@@ -9,7 +9,7 @@ use Rattle.runner.proofs.ticks.tick.Reads as tick-reads
 
 -- src/list.rt:56:9
 tick-late-requires : tie.Need-tick-late-requires
-tick-late-requires c κs = (c .before .before .before .before .before .before .before .before .before .before .before .before .before .before .before .before .before .pre .0, c .before .before .before .before .before .before .before .before .before .before .before .before .before .before .before .before .before .pre .1, c .before .before .before .before .before .before .before .before .before .before .before .before .before .before .before .before .before .pre .2, c .before .before .before .before .before .before .before .before .before .before .before .before .before .before .before .before .before .pre .3, c .before .before .before .before .before .before .before .before .before .before .before .before .before .before .before .before .before .pre .4, c .before .before .before .before .before .before .before .before .before .before .before .before .before .before .before .before .before .pre .5, c .before .before .before .before .before .before .before .before .before .before .before .before .before .before .before .before .before .pre .7, c .before .before .before .before .before .before .before .before .before .before .before .before .before .before .before .before .before .pre .9, c .before .before .before .before .before .before .before .before .before .before .before .before .before .before .before .before .before .pre .10, c .before .before .before .before .before .before .before .before .before .before .before .before .before .before .before .before .before .pre .11, c .before .before .before .before .before .before .before .before .before .before .before .before .before .before .before .before .before .pre .12, c .before .before .before .before .before .before .before .before .before .before .before .before .before .before .before .before .before .pre .13 .planned (c .before .before .before .if1 .taken))
+tick-late-requires c κs = (c .before .before .before .before .before .before .before .before .before .before .before .before .before .before .before .before .before .pre .0, c .before .before .before .before .before .before .before .before .before .before .before .before .before .before .before .before .before .pre .1, c .before .before .before .before .before .before .before .before .before .before .before .before .before .before .before .before .before .pre .2, c .before .before .before .before .before .before .before .before .before .before .before .before .before .before .before .before .before .pre .3, c .before .before .before .before .before .before .before .before .before .before .before .before .before .before .before .before .before .pre .4, c .before .before .before .before .before .before .before .before .before .before .before .before .before .before .before .before .before .pre .5, c .before .before .before .before .before .before .before .before .before .before .before .before .before .before .before .before .before .pre .7, c .before .before .before .before .before .before .before .before .before .before .before .before .before .before .before .before .before .pre .9, c .before .before .before .before .before .before .before .before .before .before .before .before .before .before .before .before .before .pre .10, c .before .before .before .before .before .before .before .before .before .before .before .before .before .before .before .before .before .pre .11, c .before .before .before .before .before .before .before .before .before .before .before .before .before .before .before .before .before .pre .12, c .before .before .before .before .before .before .before .before .before .before .before .before .before .before .before .before .before .pre .13 .planned (c .before .before .before .if1 .taken), c .before .before .before .before .before .before .before .before .before .before .before .before .before .before .before .before .before .pre .13 .ports)
 
 -- src/list.rt:75:9
 tick-requires : tie.Need-tick-requires

@@ -4,8 +4,8 @@ use mathlib.Core.Path.{sym, subst}
 use mathlib.Core.Logic.{⊎-elim}
 use mathlib.Core.List.{List}
 use lib.ListN.{length}
-use Rattle.simulation.proofs.Steps.{walked-out, walked-end}
-use Rattle.evaluation.proofs.Signals.{signal-inside, signal-step}
+use Rattle.simulation.proofs.Steps.{walked-out}
+use Rattle.evaluation.proofs.Signals.{no-port, signal-inside, signal-step}
 use Rattle.runner.proofs.Showing.{Showing, showing-start, showing-end, showing-all, shown-end, output-copies, output-shown, output-none}
 use Rattle.runner.proofs.show.show.Statement.{statement}
 use Rattle.runner.proofs.show.show.Tie as tie
@@ -16,10 +16,10 @@ use Rattle.simulation.proofs.index.size.Reads as size-reads
 use Rattle.simulation.proofs.index.wide.Reads as wide-reads
 
 abbrev Inv-loop : tie.InvT-loop
-Inv-loop signals bytes shown₀ from at₀ pos₀ to₀ shown at pos to = Showing signals bytes shown₀ shown from at pos to
+Inv-loop signals bytes shown₀ from until at₀ pos₀ to₀ shown at pos to = Showing signals bytes shown₀ shown from at pos to
 
 abbrev μ-loop : tie.MeasureT-loop
-μ-loop signals bytes shown₀ from at₀ pos₀ to₀ shown at pos to = length signals - at
+μ-loop signals bytes shown₀ from until at₀ pos₀ to₀ shown at pos to = length signals - at
 
 -- src/show.rt:61:5
 loop-holds : tie.Need-loop-holds Inv-loop μ-loop
@@ -35,7 +35,7 @@ same-length c = c .before .before .before .loop .inv .as-long
 
 -- src/show.rt:64:13
 returns : tie.Need-returns Inv-loop μ-loop
-returns c = let e = walked-out (c .before .before .before .loop .inv .walked) (c .before .size .result) (c .before .size .ensures) (c .if1 .taken) in (showing-end (c .before .before .before .before .before .before .before .pre .0) (c .before .before .before .loop .inv) e, showing-all (c .before .before .before .before .before .before .before .pre .0) (c .before .before .before .loop .inv) e)
+returns c = let e = walked-out (c .before .before .before .loop .inv .walked) (c .before .size .result) (c .before .size .ensures) (c .if1 .taken) in (showing-end (c .before .before .before .before .before .before .before .pre .0) (c .before .before .before .loop .inv) (λ i a q. absurd (omega (arith, a, q, e))), showing-all (c .before .before .before .before .before .before .before .pre .0) (c .before .before .before .loop .inv) (λ i a q. absurd (omega (arith, a, q, e))))
 
 -- src/show.rt:66:34
 add-wide : tie.Need-add-wide Inv-loop μ-loop
@@ -103,7 +103,7 @@ same-length-2 c = c .before .loop .inv .as-long
 
 -- src/show.rt:53:1
 returns-2 : tie.Need-returns-2 Inv-loop μ-loop
-returns-2 c = let e = walked-end (c .before .loop .inv .walked) (c .loop-test .left) .0 in (showing-end (c .before .before .before .before .before .pre .0) (c .before .loop .inv) e, showing-all (c .before .before .before .before .before .pre .0) (c .before .loop .inv) e)
+returns-2 c = (showing-end (c .before .before .before .before .before .pre .0) (c .before .loop .inv) (λ i a q. no-port (c .before .before .before .before .before .pre .0) (c .before .before .before .before .before .pre .3) (c .before .loop .inv .walked) (c .loop-test .left) i a q .1), showing-all (c .before .before .before .before .before .pre .0) (c .before .loop .inv) (λ i a q. no-port (c .before .before .before .before .before .pre .0) (c .before .before .before .before .before .pre .3) (c .before .loop .inv .walked) (c .loop-test .left) i a q .1))
 
 pub show-spec : {M : Type 1} → statement M
 show-spec =

@@ -1,6 +1,6 @@
 use Rattle.evaluation.proofs.Storing.{Taking, taking-start, taking-end, input-room, input-copies, input-taken, input-none}
-use Rattle.evaluation.proofs.Signals.{signal-inside, signal-step}
-use Rattle.simulation.proofs.Steps.{walked-out, walked-end}
+use Rattle.evaluation.proofs.Signals.{no-port, signal-inside, signal-step}
+use Rattle.simulation.proofs.Steps.{walked-out}
 use lib.ListN.{length}
 use mathlib.Core.List.{List}
 use mathlib.Core.Logic.{⊎-elim}
@@ -16,10 +16,10 @@ use Rattle.simulation.proofs.index.size.Reads as size-reads
 use Rattle.simulation.proofs.index.wide.Reads as wide-reads
 
 abbrev Inv-loop : tie.InvT-loop
-Inv-loop signals ticks bytes₀ at₀ to₀ pos₀ bytes at to pos = Taking signals ticks bytes₀ bytes at to pos
+Inv-loop signals ticks bytes₀ until at₀ to₀ pos₀ bytes at to pos = Taking signals ticks bytes₀ bytes at to pos
 
 abbrev μ-loop : tie.MeasureT-loop
-μ-loop signals ticks bytes₀ at₀ to₀ pos₀ bytes at to pos = length signals - at
+μ-loop signals ticks bytes₀ until at₀ to₀ pos₀ bytes at to pos = length signals - at
 
 -- src/store.rt:77:5
 loop-holds : tie.Need-loop-holds Inv-loop μ-loop
@@ -35,7 +35,7 @@ same-length c = c .before .before .before .loop .inv .as-long
 
 -- src/store.rt:80:13
 returns : tie.Need-returns Inv-loop μ-loop
-returns c = let s = c .before .before .before .before .before .before .before in taking-end (s .pre .0) (s .pre .1) (c .before .before .before .loop .inv) (walked-out (c .before .before .before .loop .inv .walked) (c .before .size .result) (c .before .size .ensures) (c .if1 .taken))
+returns c = let s = c .before .before .before .before .before .before .before in taking-end (s .pre .0) (s .pre .1) (c .before .before .before .loop .inv) (λ i a q. absurd (omega (arith, a, q, walked-out (c .before .before .before .loop .inv .walked) (c .before .size .result) (c .before .size .ensures) (c .if1 .taken))))
 
 -- src/store.rt:82:34
 add-wide : tie.Need-add-wide Inv-loop μ-loop
@@ -102,7 +102,7 @@ same-length-2 c = c .before .loop .inv .as-long
 
 -- src/store.rt:70:1
 returns-2 : tie.Need-returns-2 Inv-loop μ-loop
-returns-2 c = let s = c .before .before .before .before .before in taking-end (s .pre .0) (s .pre .1) (c .before .loop .inv) (walked-end (c .before .loop .inv .walked) (c .loop-test .left) .0)
+returns-2 c = let s = c .before .before .before .before .before in taking-end (s .pre .0) (s .pre .1) (c .before .loop .inv) (λ i a q. no-port (s .pre .0) (s .pre .3) (c .before .loop .inv .walked) (c .loop-test .left) i a q .0)
 
 pub set-inputs-spec : {M : Type 1} → statement M
 set-inputs-spec =

@@ -1,3 +1,4 @@
+use Rattle.evaluation.proofs.Signals.{ports-all}
 use Rattle.runner.proofs.Tick.{read-signals, room-kept, inputs-fill, settled-values, made, values-fill}
 use mathlib.Core.Path.{refl, _∙_}
 use native.Mathlib.Omega.{arith}
@@ -12,7 +13,7 @@ use Rattle.runner.proofs.store.set_inputs.Reads as set-inputs-reads
 
 -- src/ticks.rt:42:5
 set-inputs-requires : tie.Need-set-inputs-requires
-set-inputs-requires c κs = let s = c .before .before .before .before .before .before .before .before .before .before .before .before .before .before in (read-signals (s .pre .0), s .pre .11, s .pre .3 .bytes-room)
+set-inputs-requires c κs = (read-signals (c .before .before .before .before .before .before .before .before .before .before .before .before .before .before .pre .0), c .before .before .before .before .before .before .before .before .before .before .before .before .before .before .pre .11, c .before .before .before .before .before .before .before .before .before .before .before .before .before .before .pre .3 .bytes-room, ports-all (read-signals (c .before .before .before .before .before .before .before .before .before .before .before .before .before .before .pre .0)))
 
 -- src/ticks.rt:43:5
 settle-requires : tie.Need-settle-requires

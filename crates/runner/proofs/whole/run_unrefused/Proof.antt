@@ -3,7 +3,7 @@ use lib.ListN.{replicate}
 use lib.Seq.{length-take-le}
 use mathlib.Core.Path.{refl, sym, _∙_, ap}
 use native.Mathlib.Omega.{arith}
-use Rattle.runner.proofs.Planning.{planning-kept}
+use Rattle.runner.proofs.Lagging.{planning-kept}
 use Rattle.runner.proofs.Call.{no-fault, exprs-fit, signals-fit, values-fill, room, bytes-fill, unlooped}
 use Rattle.runner.proofs.WholeList.{quiet, inputs-are, shown-room, list-looped, list-made}
 use borrow.Author.Needs.{needs}
