@@ -39,6 +39,11 @@ module _ (from : List ℕ) (start n : ℕ) (h : start + n ≤ length from) where
   pub copied-end : (l l₀ : List ℕ) (at i : ℕ) → n ≤ i → over l (at + i) (drop i (part from start n)) ≡ over l₀ at (part from start n) → l ≡ over l₀ at (part from start n)
   copied-end l l₀ at i q p = sym (copy-end l at (part from start n) i (omega (arith, part-length from start n h))) ∙ p
 
+-- one byte
+pub copied-one : (l from : List ℕ) (at start n : ℕ) → n ≡ 1 → start + n ≤ length from → set l at (getD from start 0) ≡ over l at (part from start n)
+unfolding over
+copied-one l from at start n e h = sym (ap (λ (k : ℕ). sets l at (take k (drop start from))) e ∙ ap (λ (b : List ℕ). sets l at (take 1 b)) (drop-cons from start 0 (omega arith)))
+
 -- within one slice: what is still to be read is as it was
 abbrev pub Unread : List ℕ → List ℕ → ℕ → ℕ → ℕ → Type 0
 Unread l l₀ start n i = (j : ℕ) → i ≤ j → j < n → getD l (start + j) 0 ≡ getD l₀ (start + j) 0

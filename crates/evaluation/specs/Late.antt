@@ -89,22 +89,22 @@ module _ (signals exprs stmts : List ℕ) where
   -- signal s takes the value of what is assigned to it
   pub record StoresDriven (s : ℕ) (values bytes bytes′ : List ℕ) : Type 0 where
     pub stores-driven : (old vs : List Bits) (behind rest : List ℕ) → Holds (widthsIn signals) old behind bytes → Holds (widthsIn exprs) vs rest values
-      → Holds (widthsIn signals) (store vs (given assigns (stmtsIn stmts) s) s old) behind bytes′
+        → Holds (widthsIn signals) (store vs (given assigns (stmtsIn stmts) s) s old) behind bytes′
 
   -- k signals of a list take the values of what is assigned to them; those to which nothing is assigned are kept
   pub record StoresListed (list : List ℕ) (from k : ℕ) (values bytes bytes′ : List ℕ) : Type 0 where
     pub stores-listed : (old vs : List Bits) (behind rest : List ℕ) → Holds (widthsIn signals) old behind bytes → Holds (widthsIn exprs) vs rest values
-      → (new : List Bits) × Holds (widthsIn signals) new behind bytes′ × ((s d : ℕ) → Among list from k s → given assigns (stmtsIn stmts) s ≡ some d → getD new s [] ≡ getD vs d []) × ((s : ℕ) → given assigns (stmtsIn stmts) s ≡ none → getD new s [] ≡ getD old s [])
+        → (new : List Bits) × Holds (widthsIn signals) new behind bytes′ × ((s d : ℕ) → Among list from k s → given assigns (stmtsIn stmts) s ≡ some d → getD new s [] ≡ getD vs d []) × ((s : ℕ) → given assigns (stmtsIn stmts) s ≡ none → getD new s [] ≡ getD old s [])
 
   -- every register takes what it loads by the marks
   pub record LoadsMarked (values marks bytes bytes′ : List ℕ) : Type 0 where
     pub loads-marked : (old vs : List Bits) (behind rest : List ℕ) → Holds (widthsIn signals) old behind bytes → Holds (widthsIn exprs) vs rest values
-      → (new : List Bits) × Holds (widthsIn signals) new behind bytes′ × ((s : ℕ) → getD new s [] ≡ become vs (given (byMarks marks) (stmtsIn stmts) s) (getD old s []))
+        → (new : List Bits) × Holds (widthsIn signals) new behind bytes′ × ((s : ℕ) → getD new s [] ≡ become vs (given (byMarks marks) (stmtsIn stmts) s) (getD old s []))
 
   -- every register that loads takes its value, by the levels that the bytes hold
   pub record LoadsListed (fires : Firing) (values bytes bytes′ : List ℕ) : Type 0 where
     pub loads-listed : (old vs : List Bits) (behind rest : List ℕ) → Holds (widthsIn signals) old behind bytes → Holds (widthsIn exprs) vs rest values
-      → (new : List Bits) × Holds (widthsIn signals) new behind bytes′ × ((s : ℕ) → getD new s [] ≡ become vs (given (loads fires (signalsAt [] old)) (stmtsIn stmts) s) (getD old s []))
+        → (new : List Bits) × Holds (widthsIn signals) new behind bytes′ × ((s : ℕ) → getD new s [] ≡ become vs (given (loads fires (signalsAt [] old)) (stmtsIn stmts) s) (getD old s []))
 
   -- a tick, late
   pub record TicksLate (ticks : List ℕ) (fires : Firing) (bytes bytes′ : List ℕ) : Type 0 where

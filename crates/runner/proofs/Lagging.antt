@@ -98,13 +98,16 @@ module _ {signals exprs stmts exprTable signalTable : List ℕ} (p : Prepared si
         after old behind ho =
             let t = sc .settles-code old behind ho in
             let a = st .stores-listed old (t .0) behind (t .1) ho (t .2) in
-            let b = ld .loads-listed (a .0) (t .0) behind (t .1) (a .1) (t .2) in
-            (b .0, b .1, loaded-late (p .widest) m (is-sound p) q old (held-long ho) (t .0) (a .0) (held-long (a .1)) (a .3) fires
-              (λ k x l z. settled-so (p .widest) m (is-sound p) q old (held-long ho) (t .0) (a .0) (held-long (a .1)) (a .3) x
-                (λ d w. a .2 x d (pl .controls .all-asked k x (omega (arith, l, stmts-are)) z) w)
-                (λ d w. t .3 d (pl .controls-coded x d (pl .controls .all-asked k x (omega (arith, l, stmts-are)) z) w)))
-              (λ k e l z. t .3 e (pl .loaded-coded e (record { number = k; there = omega (arith, l, stmts-are); loaded = z })))
-              (held-long (b .1)) (b .2))
+            let b = ld .loads-listed (a .0) (t .0) behind (t .1) (a .1) (t .2) in (
+              b .0,
+              b .1,
+              loaded-late (p .widest) m (is-sound p) q old (held-long ho) (t .0) (a .0) (held-long (a .1)) (a .3) fires
+                  (λ k x l z. settled-so (p .widest) m (is-sound p) q old (held-long ho) (t .0) (a .0) (held-long (a .1)) (a .3) x
+                  (λ d w. a .2 x d (pl .controls .all-asked k x (omega (arith, l, stmts-are)) z) w)
+                  (λ d w. t .3 d (pl .controls-coded x d (pl .controls .all-asked k x (omega (arith, l, stmts-are)) z) w)))
+                  (λ k e l z. t .3 e (pl .loaded-coded e (record { number = k; there = omega (arith, l, stmts-are); loaded = z })))
+                  (held-long (b .1)) (b .2),
+            )
 
     -- the outputs
     pub shows-late : {bytes b₁ values : List ℕ} → SettlesCode signals exprs stmts order (secondAt n s) (c .second) bytes values → StoresListed signals exprs stmts order (outputsAt n s) (c .outputs) values bytes b₁ → ShowsAfter signals exprs stmts bytes b₁
@@ -114,10 +117,13 @@ module _ {signals exprs stmts exprTable signalTable : List ℕ} (p : Prepared si
         after : (old : List Bits) (behind : List ℕ) → Holds (widthsIn signals) old behind bytes → (late : List Bits) × Holds (widthsIn signals) late behind b₁ × Late (modelIn signals exprs stmts) (settle (modelIn signals exprs stmts) old) late
         after old behind ho =
             let t = sc .settles-code old behind ho in
-            let a = st .stores-listed old (t .0) behind (t .1) ho (t .2) in
-            (a .0, a .1, shown-late (p .widest) m (is-sound p) q old (held-long ho) (t .0) (a .0) (held-long (a .1)) (a .3)
-              (λ x d o w. a .2 x d (pl .outputs .all-outputs x o) w)
-              (λ x d o w. t .3 d (pl .outputs-coded x d (pl .outputs .all-outputs x o) w)))
+            let a = st .stores-listed old (t .0) behind (t .1) ho (t .2) in (
+              a .0,
+              a .1,
+              shown-late (p .widest) m (is-sound p) q old (held-long ho) (t .0) (a .0) (held-long (a .1)) (a .3)
+                  (λ x d o w. a .2 x d (pl .outputs .all-outputs x o) w)
+                  (λ x d o w. t .3 d (pl .outputs-coded x d (pl .outputs .all-outputs x o) w)),
+            )
 
   -- all of it
   pub late-made : {ticks : List ℕ} {fires : Firing} {bytes b₁ b₂ b₃ : List ℕ} → Inputs signals ticks bytes b₁ → LoadsAfter signals exprs stmts fires b₁ b₂ → ShowsAfter signals exprs stmts b₂ b₃ → TicksLate signals exprs stmts ticks fires bytes b₃

@@ -135,12 +135,12 @@ module _ (n s : ℕ) (o₁ o₂ o₃ o₄ : List ℕ) (k₂ : take (7 * n) o₂ 
       controls-back k x h a = among-kept (7 * n + s + s + s + n) o₆ o₅ (sym k₆) (omega (arith, h)) a
 
       pub planned-all : {signals exprs stmts values : List ℕ} {ports base state registers controls outputs first second used : ℕ}
-        → PortsBefore signals ports → n ≡ length (recordsIn exprs) → registers ≤ s → controls ≤ s → outputs ≤ s → first ≤ n
-        → 9 * n + 3 * s ≤ length o₆ → length o₆ ≡ length o₅ → base ≡ bitsIn exprs → state ≡ bitsIn signals → base + state ≤ length values
-        → Registers stmts o₂ (7 * n) registers → Controls stmts o₃ (7 * n + s) controls → Outputs signals o₄ (7 * n + s + s) outputs
-        → Coded signals exprs stmts n (7 * n + s + s + s) first o₅ → ((e : ℕ) → Loaded stmts e → Among o₅ (7 * n + s + s + s) first e) → ((x d : ℕ) → Among o₅ (7 * n + s) controls x → given assigns (stmtsIn stmts) x ≡ some d → Among o₅ (7 * n + s + s + s) first d)
-        → Coded signals exprs stmts n (7 * n + s + s + s + n) second o₆ → ((x d : ℕ) → Among o₆ (7 * n + s + s) outputs x → given assigns (stmtsIn stmts) x ≡ some d → Among o₆ (7 * n + s + s + s + n) second d)
-        → Planning signals exprs stmts n s (record { usable = true; ports = ports; base = base; state = state; registers = registers; controls = controls; outputs = outputs; first = first; second = second; used = used }) o₆ values
+          → PortsBefore signals ports → n ≡ length (recordsIn exprs) → registers ≤ s → controls ≤ s → outputs ≤ s → first ≤ n
+          → 9 * n + 3 * s ≤ length o₆ → length o₆ ≡ length o₅ → base ≡ bitsIn exprs → state ≡ bitsIn signals → base + state ≤ length values
+          → Registers stmts o₂ (7 * n) registers → Controls stmts o₃ (7 * n + s) controls → Outputs signals o₄ (7 * n + s + s) outputs
+          → Coded signals exprs stmts n (7 * n + s + s + s) first o₅ → ((e : ℕ) → Loaded stmts e → Among o₅ (7 * n + s + s + s) first e) → ((x d : ℕ) → Among o₅ (7 * n + s) controls x → given assigns (stmtsIn stmts) x ≡ some d → Among o₅ (7 * n + s + s + s) first d)
+          → Coded signals exprs stmts n (7 * n + s + s + s + n) second o₆ → ((x d : ℕ) → Among o₆ (7 * n + s + s) outputs x → given assigns (stmtsIn stmts) x ≡ some d → Among o₆ (7 * n + s + s + s + n) second d)
+          → Planning signals exprs stmts n s (record { usable = true; ports = ports; base = base; state = state; registers = registers; controls = controls; outputs = outputs; first = first; second = second; used = used }) o₆ values
       planned-all {signals} {exprs} {stmts} {values} {ports} {base} {state} {registers} {controls} {outputs} {first} {second} {used} hp hn hr hc ho hf room same hb hs hv rs cs os coded loaded driven coded₂ shown = record {
         ports = hp;
         planned = λ u. record {

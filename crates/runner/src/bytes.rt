@@ -11,8 +11,7 @@ ghost use Rattle.recorder.specs.Lists.{over};
 ghost use Rattle.simulation.specs.Run.{isOne};
 ghost use Rattle.evaluation.specs.Bytes.{part, sameBytes, gateOf};
 
-// Copies n bytes from one slice to another.
-pub fn copy(to: &mut [u8], at: usize, from: &[u8], start: usize, n: usize)
+fn copy_more(to: &mut [u8], at: usize, from: &[u8], start: usize, n: usize)
     requires { ⌜ (at + n ≤ length (now to)) × (start + n ≤ length (now from)) ⌝ }
     ensures { λ _. ⌜ now (to .exit) ≡ over (now (to .entry)) at (part (now (from .entry)) start n) ⌝ }
 {
@@ -23,8 +22,19 @@ pub fn copy(to: &mut [u8], at: usize, from: &[u8], start: usize, n: usize)
     }
 }
 
-// Copies n bytes within a slice, to a place behind them or not behind their first.
-pub fn copy_within(bytes: &mut [u8], at: usize, start: usize, n: usize)
+// Copies n bytes from one slice to another. Most are one bit, for which a loop is slow.
+pub fn copy(to: &mut [u8], at: usize, from: &[u8], start: usize, n: usize)
+    requires { ⌜ (at + n ≤ length (now to)) × (start + n ≤ length (now from)) ⌝ }
+    ensures { λ _. ⌜ now (to .exit) ≡ over (now (to .entry)) at (part (now (from .entry)) start n) ⌝ }
+{
+    if n == 1 {
+        to[at] = from[start];
+        return;
+    }
+    copy_more(to, at, from, start, n);
+}
+
+fn move_more(bytes: &mut [u8], at: usize, start: usize, n: usize)
     requires { ⌜ (at + n ≤ length (now bytes)) × (start + n ≤ length (now bytes)) × ((start + n ≤ at) ⊎ (at ≤ start)) ⌝ }
     ensures { λ _. ⌜ now (bytes .exit) ≡ over (now (bytes .entry)) at (part (now (bytes .entry)) start n) ⌝ }
 {
@@ -33,6 +43,18 @@ pub fn copy_within(bytes: &mut [u8], at: usize, start: usize, n: usize)
         bytes[at + i] = bytes[start + i];
         i += 1;
     }
+}
+
+// Copies n bytes within a slice, to a place behind them or not behind their first.
+pub fn copy_within(bytes: &mut [u8], at: usize, start: usize, n: usize)
+    requires { ⌜ (at + n ≤ length (now bytes)) × (start + n ≤ length (now bytes)) × ((start + n ≤ at) ⊎ (at ≤ start)) ⌝ }
+    ensures { λ _. ⌜ now (bytes .exit) ≡ over (now (bytes .entry)) at (part (now (bytes .entry)) start n) ⌝ }
+{
+    if n == 1 {
+        bytes[at] = bytes[start];
+        return;
+    }
+    move_more(bytes, at, start, n);
 }
 
 // The lowest n bits of a number.

@@ -561,7 +561,16 @@ fn first_code(
 {
     zero_bytes(values);
     want_loads(exprs, expr_table, stmts, order, loads, registers, values);
-    want_drivers(exprs, expr_table, stmts, driver_table, order, asked, controls, values);
+    want_drivers(
+        exprs,
+        expr_table,
+        stmts,
+        driver_table,
+        order,
+        asked,
+        controls,
+        values,
+    );
     want_needed(
         exprs,
         stmts,
@@ -626,7 +635,16 @@ fn second_code(
     ensures driven { λ r. ⌜ (r ≤ n → (x d : ℕ) → Among (now (order .exit)) shown outputs x → given assigns (stmtsIn (now (stmts .entry))) x ≡ some d → Among (now (order .exit)) from r d) ⌝ }
 {
     zero_bytes(values);
-    want_drivers(exprs, expr_table, stmts, driver_table, order, shown, outputs, values);
+    want_drivers(
+        exprs,
+        expr_table,
+        stmts,
+        driver_table,
+        order,
+        shown,
+        outputs,
+        values,
+    );
     want_needed(
         exprs,
         stmts,
@@ -724,7 +742,16 @@ fn encode_in(
         return none(all, ports);
     }
     let controls_at = loads + count;
-    let controls = list_controls(signals, stmts, order, loads, registers, controls_at, count, asked);
+    let controls = list_controls(
+        signals,
+        stmts,
+        order,
+        loads,
+        registers,
+        controls_at,
+        count,
+        asked,
+    );
     if controls > count {
         return none(all, ports);
     }

@@ -317,7 +317,17 @@ pub fn commit_listed(
     requires { ⌜ Prepared (now signals) (now exprs) (now stmts) (now «expr_table») (now «signal_table») × Room (now signals) (now exprs) (now bytes) (now values) × (length (recordsIn (now signals)) ≤ length (now marks)) × (from + k ≤ length (now order)) × Registers (now stmts) (now order) from k ⌝ }
     ensures { λ _. ⌜ LoadsListed (now (signals .entry)) (now (exprs .entry)) (now (stmts .entry)) (firing (firedOf fired)) (now (values .entry)) (now (bytes .entry)) (now (bytes .exit)) ⌝ }
 {
-    note_listed(signals, stmts, signal_table, fired, order, from, k, bytes, marks);
+    note_listed(
+        signals,
+        stmts,
+        signal_table,
+        fired,
+        order,
+        from,
+        k,
+        bytes,
+        marks,
+    );
     load_listed(
         signals,
         exprs,

@@ -15,7 +15,13 @@ ghost use Rattle.evaluation.specs.Late.{Among, Asks, Registers};
 ghost use Rattle.runner.specs.Plan.{Listing, Controls, Outputs};
 
 // The words at which registers begin.
-pub fn list_registers(signals: &[u32], stmts: &[u32], order: &mut [u32], from: usize, room: usize) -> usize
+pub fn list_registers(
+    signals: &[u32],
+    stmts: &[u32],
+    order: &mut [u32],
+    from: usize,
+    room: usize,
+) -> usize
     requires { ⌜ Stated (now signals) (now stmts) × (from + room ≤ length (now order)) ⌝ }
     ensures kept { λ _. ⌜ take from (now (order .exit)) ≡ take from (now (order .entry)) ⌝ }
     ensures listed { λ r. ⌜ (r ≤ room → Registers (now (stmts .entry)) (now (order .exit)) from r) ⌝ }
@@ -43,7 +49,14 @@ pub fn list_registers(signals: &[u32], stmts: &[u32], order: &mut [u32], from: u
 }
 
 // Signal x is listed as number k, unless it is marked; how many are listed then.
-fn list_once(order: &mut [u32], from: usize, room: usize, k: usize, x: u32, marks: &mut [u8]) -> usize
+fn list_once(
+    order: &mut [u32],
+    from: usize,
+    room: usize,
+    k: usize,
+    x: u32,
+    marks: &mut [u8],
+) -> usize
     requires { ⌜ (from + room ≤ length (now order)) × (k ≤ room) × (x < length (now marks)) × Listing (now order) from k (now marks) ⌝ }
     ensures kept { λ _. ⌜ take from (now (order .exit)) ≡ take from (now (order .entry)) ⌝ }
     ensures listed { λ r. ⌜ (r ≤ room → Listing (now (order .exit)) from r (now (marks .exit)) × Among (now (order .exit)) from r x × ((y : ℕ) → Among (now (order .entry)) from k y → Among (now (order .exit)) from r y)) ⌝ }
@@ -61,7 +74,15 @@ fn list_once(order: &mut [u32], from: usize, room: usize, k: usize, x: u32, mark
 }
 
 // The signal of the control at a word, if one is given.
-fn list_control(stmts: &[u32], word: usize, order: &mut [u32], from: usize, room: usize, k: usize, marks: &mut [u8]) -> usize
+fn list_control(
+    stmts: &[u32],
+    word: usize,
+    order: &mut [u32],
+    from: usize,
+    room: usize,
+    k: usize,
+    marks: &mut [u8],
+) -> usize
     requires { ⌜ (from + room ≤ length (now order)) × (k ≤ room) × Listing (now order) from k (now marks) × (word < length (now stmts)) × ((getD (now stmts) word 0 ≡ 0 → ⊥) → (word + 2 < length (now stmts)) × (getD (now stmts) (word + 1) 0 < length (now marks))) ⌝ }
     ensures kept { λ _. ⌜ take from (now (order .exit)) ≡ take from (now (order .entry)) ⌝ }
     ensures listed { λ r. ⌜ (r ≤ room → Listing (now (order .exit)) from r (now (marks .exit)) × ((getD (now (stmts .entry)) word 0 ≡ 0 → ⊥) → Among (now (order .exit)) from r (getD (now (stmts .entry)) (word + 1) 0)) × ((y : ℕ) → Among (now (order .entry)) from k y → Among (now (order .exit)) from r y)) ⌝ }
