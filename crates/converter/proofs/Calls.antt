@@ -61,9 +61,6 @@ ready {a} {b} {d} {e} {f} {a′} {b′} z q =
 -- THE LISTS
 
 module _ (limits : Limits) (words s e t : List ℕ) (a b d f g : List ℕ) where
-  abbrev blanks : Lists
-  blanks = blank (length s) (length e) (length t)
-
   zeroed : {s₁ e₁ t₁ : List ℕ} → ZerosThree s e t s₁ e₁ t₁ → lists s₁ e₁ t₁ ≡ blank (length s) (length e) (length t)
   zeroed z = λ i. lists (z .first i) (z .second i) (z .third i)
 

@@ -105,9 +105,6 @@ apiece-wire (w ∷ ws) k g m = go (cases-cons m) (apiece-wire ws (suc k) g)
     go (inl e) f = (w, here refl, ap (λ (x : Group). x .wires) e)
     go (inr q) f = let r = f q in (r .0, there (r .1), r .2)
 
-first-of : Group → ℕ
-first-of g = getD (g .wires) 0 0
-
 aim-in : (m : Wires) (ws : List ℕ) (w : ℕ) → Mem w ws → Mem (aim (m w)) (aims m ws)
 aim-in m [] w h = absurd (not-nil h)
 aim-in m (v ∷ ws) w h = go (cases-cons h) (aim-in m ws w)

@@ -9,11 +9,10 @@ use text::Place;
 use text::put_byte;
 ghost use mathlib.Core.Path.{_≡_};
 ghost use mathlib.Core.List.{[], _∷_, _++_};
-ghost use lib.ListN.{getD};
 ghost use Rattle.text.specs.Text.{Appended};
 ghost use Rattle.lines.specs.Ascii.{newline};
 ghost use Rattle.lines.specs.Lines.{signalText, exprText, stmtText, countsText};
-ghost use Rattle.listing.specs.Listing.{lineText, linesOf, modelText};
+ghost use Rattle.listing.specs.Listing.{lineText, linesOf};
 ghost use Rattle.listing.specs.Standing.{wordsAt};
 
 // The words of the record at an index, its length counted, or 0 where none stands whole.
@@ -138,30 +137,4 @@ pub fn put_statements(out: &mut [u8], at: usize, list: &[u32]) -> Place
         from += n;
         number += 1;
     }
-}
-
-// The listing of a model that these lists hold, of so many signals, expressions and statements.
-pub fn put_model(
-    out: &mut [u8],
-    at: usize,
-    counts: [u32; 3],
-    signals: &[u32],
-    exprs: &[u32],
-    stmts: &[u32],
-) -> Place
-    ensures { λ r. ⌜ Appended (now (out .entry)) at (modelText (getD counts 0 0) (getD counts 1 0) (getD counts 2 0) (now (signals .entry)) (now (exprs .entry)) (now (stmts .entry))) r (now (out .exit)) ⌝ }
-{
-    let r = put_first_line(out, at, counts[0], counts[1], counts[2]);
-    let Place::At(a) = r else {
-        return r;
-    };
-    let r = put_signals(out, a, signals);
-    let Place::At(a) = r else {
-        return r;
-    };
-    let r = put_expressions(out, a, exprs);
-    let Place::At(a) = r else {
-        return r;
-    };
-    put_statements(out, a, stmts)
 }
