@@ -55,6 +55,10 @@ tapesOf m = tapes (tapeOf signalWords (m .signals)) (tapeOf exprWords (m .exprs)
 abbrev pub nothing : Model
 nothing = record { signals = []; exprs = []; stmts = [] }
 
+-- zeros in the place of a list's words
+abbrev pub zeroed : List ℕ → List ℕ
+zeroed l = replicate (length l) 0
+
 -- lists of zeros, and their tapes
 abbrev pub blank : ℕ → ℕ → ℕ → Lists
 blank a b c = lists (replicate a 0) (replicate b 0) (replicate c 0)
