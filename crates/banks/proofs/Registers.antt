@@ -27,7 +27,7 @@ use Rattle.recorder.specs.declared.Stated.{Stated}
 use Rattle.recorder.specs.declared.Stated.the-variants as S
 use Rattle.recorder.specs.Record.{RegReset, Stmt.reg}
 use Rattle.recorder.specs.Writer.{Writer, pure, refuse, state, _>>=_}
-use Rattle.recorder.specs.Lists.{lists, Wrote, stated}
+use Rattle.recorder.specs.Lists.{lists, Wrote, stated, WroteBoth}
 use Rattle.recorder.proofs.Events.{bind-pure, bind-refuse, bind-assoc}
 use Rattle.recorder.proofs.Wrote.{wrote-as, wrote-pure, wrote-refuse, Going, going-start, going-step, going-same, going-end}
 use Rattle.wires.specs.declared.Constants.{Constants}
@@ -36,7 +36,6 @@ use Rattle.wires.specs.declared.Controlled.the-variants.{Signal, Refused}
 use Rattle.wires.specs.Wires.{WireRef, Wires, wiresOf}
 use Rattle.wires.specs.Expressions.{wireRef, bitSignal, concatParts, roomy, controlled, Reads}
 use Rattle.wires.proofs.Laws.{ref-held, ref-missing, roomy-yes, roomy-no}
-use Rattle.cells.specs.Answers.{WroteBoth}
 use Rattle.lowering.specs.Emit.{nextBits, resetBits, bankReset, emitFlipFlopBank, emitBanks}
 use Rattle.banks.specs.declared.Scan.{Scan}
 use Rattle.banks.specs.Banked.{flopAt, Collected}

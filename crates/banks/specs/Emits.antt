@@ -12,11 +12,10 @@ use Rattle.recorder.specs.declared.Tapes.{Tapes}
 use Rattle.recorder.specs.declared.Stated.{Stated}
 use Rattle.recorder.specs.Record.{RegReset, Stmt.reg}
 use Rattle.recorder.specs.Writer.{Writer, state, _>>=_}
-use Rattle.recorder.specs.Lists.{Answer, Answer.Done, Answer.Failed, stated, resetOf}
+use Rattle.recorder.specs.Lists.{Answer, Answer.Done, Answer.Failed, stated, resetOf, WroteBoth}
 use Rattle.wires.specs.declared.Constants.{Constants}
 use Rattle.wires.specs.Wires.{Wires, wiresOf}
 use Rattle.wires.specs.Expressions.{bitSignal, concatParts, roomy}
-use Rattle.cells.specs.Answers.{WroteBoth}
 use Rattle.lowering.specs.Emit.{nextBits, emitFlipFlopBank, emitBanks}
 use Rattle.banks.specs.declared.Resetting.{Resetting}
 use Rattle.banks.specs.declared.Resetting.the-variants as R

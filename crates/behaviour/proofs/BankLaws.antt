@@ -1,6 +1,6 @@
 -- Every flip-flop is in one bank, with those of its clock, edge and asynchronous reset control; a bank's leader is its first member.
 -- Assumes nothing.
-use mathlib.Core.Path.{_≡_, refl, ap, ap₂, sym, _∙_, subst}
+use mathlib.Core.Path.{_≡_, refl, ap, sym, _∙_, subst}
 use mathlib.Core.Logic.{_⊎_, inl, inr}
 use mathlib.Core.Bool.{Bool, true, false, _&&_, false≢true}
 use mathlib.Core.List.{List, [], _∷_, _++_, append-nil, append-assoc, List·Memᴰ as Mem, List·Memᴰ·head as here, List·Memᴰ·tail as there, List·Memᴰ·cases-cons as cases-cons, List·Memᴰ·not-nil as not-nil}
@@ -111,31 +111,6 @@ one-control-resets v (some q) (some r) h =
 -- flip-flops of one bank are reset together
 pub mates-reset : (v : Valuation) (l f : FlipFlop) → Mates l f → resetting v 1 (l .reset) ≡ resetting v 1 (f .reset)
 mates-reset v l f m = async-alone v (l .reset) ∙ one-control-resets v (asyncReset l) (asyncReset f) (m .reset) ∙ sym (async-alone v (f .reset))
-
-same-control-alike : (x o p : Option Reset) → OneControl o p → sameResetControl x o ≡ sameResetControl x p
-same-control-alike none none none h = refl
-same-control-alike none none (some r) h = absurd h
-same-control-alike none (some q) none h = absurd h
-same-control-alike none (some q) (some r) h = refl
-same-control-alike (some x) none none h = refl
-same-control-alike (some x) none (some r) h = absurd h
-same-control-alike (some x) (some q) none h = absurd h
-same-control-alike (some x) (some q) (some r) h =
-    ap (λ (s : Bit). sameBit (x .signal) s && (eqb (x .active) (q .active) && eqb (x .asynchronous) (q .asynchronous))) (h .0)
-    ∙ ap (λ (a : ℕ). sameBit (x .signal) (r .signal) && (eqb (x .active) a && eqb (x .asynchronous) (q .asynchronous))) (h .1)
-    ∙ ap (λ (a : ℕ). sameBit (x .signal) (r .signal) && (eqb (x .active) (r .active) && eqb (x .asynchronous) a)) (h .2)
-
-same-bank-alike : (l f g : FlipFlop) → Mates f g → sameBank l f ≡ sameBank l g
-same-bank-alike l f g m =
-    ap (λ (c : Bit). sameBit (l .clock) c && (eqb (l .edge) (f .edge) && sameResetControl (asyncReset l) (asyncReset f))) (m .clock)
-    ∙ ap (λ (e : ℕ). sameBit (l .clock) (g .clock) && (eqb (l .edge) e && sameResetControl (asyncReset l) (asyncReset f))) (m .edge)
-    ∙ ap (λ (b : Bool). sameBit (l .clock) (g .clock) && (eqb (l .edge) (g .edge) && b)) (same-control-alike (asyncReset l) (asyncReset f) (asyncReset g) (m .reset))
-
--- flip-flops of one bank find the same bank, whoever leads
-pub bank-alike : (ls : List Member) (f g : FlipFlop) → Mates f g → bankIn ls f ≡ bankIn ls g
-unfolding bankIn
-bank-alike [] f g m = refl
-bank-alike (l ∷ ls) f g m = ap₂ (λ (b : Bool) (k : ℕ). pick b 0 (suc k)) (same-bank-alike (l .flop) f g m) (bank-alike ls f g m)
 
 -- WHERE A FLIP-FLOP IS FOUND
 

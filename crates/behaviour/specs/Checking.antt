@@ -1,9 +1,9 @@
 -- Rows of the computed tables, and what the definitions give for them.
-use mathlib.Core.List.{List, [], _∷_, _++_, map}
+use mathlib.Core.List.{List, [], map}
 use mathlib.Core.Option.{Option, none, some}
 use mathlib.Core.Bool.{Bool, false}
 use Prim.Native.Nat.{ℕ}
-use Rattle.bits.specs.Bits.{Bits, number}
+use Rattle.bits.specs.Bits.{Bits, flat, number}
 use Rattle.netlist.specs.Reader.{Read, netlist, refused, readWords, base}
 use Rattle.behaviour.specs.WireMap.{WireRef, wireMap, signalCount}
 use Rattle.behaviour.specs.Behaviour.{Tick, shows}
@@ -24,10 +24,6 @@ pub record Row : Type 0 where
   pub ticks : List Tick
   -- after each tick, all output bits in port order as one number, the lowest bit first
   pub shown : List ℕ
-
-abbrev pub flat : List Bits → Bits
-flat [] = []
-flat (l ∷ ls) = l ++ flat ls
 
 abbrev pub shownRead : Read → List Tick → List ℕ
 shownRead (netlist n) l = map (λ (ports : List Bits). number (flat ports)) (shows n l)

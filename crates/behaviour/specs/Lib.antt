@@ -4,7 +4,6 @@ pub mod WireMap
 pub mod Behaviour
 pub mod Settled
 pub mod LoopTest
-pub mod Registers
 pub mod Runs
 pub mod Checking
 pub mod Netlists

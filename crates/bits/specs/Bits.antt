@@ -1,6 +1,6 @@
 -- Bits, numbers and tests, as every crate speaks of them.
 use mathlib.Core.Bool.{Bool, true, false, not, _&&_}
-use mathlib.Core.List.{List, [], _∷_}
+use mathlib.Core.List.{List, [], _∷_, _++_}
 use Prim.Native.Nat.{ℕ, zero, suc, _+_, _*_, _/_, _%_, _^_}
 use lib.Dec.{eqb}
 use lib.ListN.{getD}
@@ -9,6 +9,11 @@ use lib.ListN.{getD}
 abbrev pub pick : {A : Type 0} → Bool → A → A → A
 pick true a b = a
 pick false a b = b
+
+-- the parts of a list, one after the other
+abbrev pub flat : {A : Type 0} → List (List A) → List A
+flat [] = []
+flat (l ∷ ls) = l ++ flat ls
 
 -- the lowest bit comes first
 abbrev pub Bits : Type 0

@@ -3,23 +3,14 @@ use converter::Lowered;
 use recorder::SignalId;
 use simulation::Fired;
 use simulation::Ran;
+use simulation::zero::zero_longs;
 ghost use mathlib.Core.Path.{_≡_};
 ghost use lib.ListN.{set};
-ghost use Rattle.simulation.specs.Run.{answerOf as ranOf, firedOf, zeroed};
+ghost use Rattle.simulation.specs.Run.{answerOf as ranOf, firedOf};
 ghost use Prim.Native.Nat.{_+_};
 ghost use Rattle.converter.specs.Entry.{answerOf};
 ghost use Rattle.runner.specs.Calls.{firedBy};
 ghost use Rattle.capi.specs.Answer.{refusalNumbers, numbersOf, Hands};
-
-fn zero_longs(table: &mut [u64])
-    ensures { λ _. ⌜ now (table .exit) ≡ zeroed (now (table .entry)) ⌝ }
-{
-    let mut i = 0;
-    while i < table.len() {
-        table[i] = 0;
-        i += 1;
-    }
-}
 
 // A number at an index, if there is room.
 fn put(buffer: &mut [u64], i: usize, n: u64)

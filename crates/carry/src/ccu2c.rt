@@ -15,10 +15,10 @@ use wires::expressions::bit_expression;
 ghost use mathlib.Core.Path.{_≡_};
 ghost use lib.Dec.{eqb};
 ghost use Rattle.bits.specs.Bits.{pick};
-ghost use Rattle.recorder.specs.Lists.{emitted, stated};
+ghost use Rattle.recorder.specs.Lists.{emitted, stated, WroteBoth};
 ghost use Rattle.wires.specs.Wires.{wiresOf};
 ghost use Rattle.cells.specs.Cells.{ccuRow, emitCcu2c};
-ghost use Rattle.cells.specs.Answers.{WroteBoth, changed, nought, ccuOf};
+ghost use Rattle.cells.specs.Answers.{changed, nought, ccuOf};
 
 fn stopped_stated(r: Stated) -> Emitted
     ensures { λ q. ⌜ emitted q ≡ changed nought (stated r) ⌝ }

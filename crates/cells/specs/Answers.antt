@@ -6,15 +6,9 @@ use Rattle.netlist.specs.declared.Bit.{Bit}
 use Rattle.netlist.specs.Netlist.{Ccu2c, Pll}
 use Rattle.netlist.specs.Fields.{wordAt, bitAt, wiresAt}
 use Rattle.refusal.specs.Refusal.{numberOf, placeOf}
-use Rattle.recorder.specs.declared.Tapes.{Tapes}
-use Rattle.recorder.specs.Writer.{Writer}
-use Rattle.recorder.specs.Lists.{lists, Answer, Answer.Done, Answer.Failed, Wrote}
+use Rattle.recorder.specs.Lists.{Answer, Answer.Done, Answer.Failed}
 use Rattle.cells.specs.declared.Read4.{Read4}
 use Rattle.cells.specs.declared.Read4.the-variants as Q
-
--- of a call that was lent the expressions and the statements: whatever the signals hold
-abbrev pub WroteBoth : {A : Type 0} → List ℕ → List ℕ → Tapes → Writer A → Answer A → List ℕ → List ℕ → Type 0
-WroteBoth e m t w r e′ m′ = (s : List ℕ) → Wrote (lists s e m) t w r (lists s e′ m′)
 
 -- four inputs read, as a value
 abbrev pub readOf : Read4 → Answer (List ℕ)

@@ -19,12 +19,12 @@ ghost use mathlib.Core.Path.{_≡_};
 ghost use mathlib.Core.List.{[]};
 ghost use Prim.Native.Nat.{_+_};
 ghost use Rattle.netlist.specs.Fields.{bitsAt, wiresAt};
-ghost use Rattle.recorder.specs.Lists.{WroteExprs, emitted, stated};
+ghost use Rattle.recorder.specs.Lists.{WroteExprs, emitted, stated, WroteBoth};
 ghost use Rattle.optimize.specs.Lut.{numbers, lutCofactor};
 ghost use Rattle.wires.specs.Wires.{wiresOf};
 ghost use Rattle.wires.specs.Expressions.{readBits, roomy};
 ghost use Rattle.cells.specs.Cells.{emitMultiplier, emitLut4, emitPfumx, emitL6mux21, emitIo};
-ghost use Rattle.cells.specs.Answers.{WroteBoth, readOf, changed, fourfold};
+ghost use Rattle.cells.specs.Answers.{readOf, changed, fourfold};
 
 // What is no reading of four.
 fn unread(r: Emitted) -> Read4

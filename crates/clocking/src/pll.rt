@@ -15,11 +15,11 @@ ghost use lib.Dec.{eqb};
 ghost use Rattle.bits.specs.Bits.{pick};
 ghost use Rattle.netlist.specs.Fields.{wordAt, wiresAt};
 ghost use Rattle.recorder.specs.Writer.{pure};
-ghost use Rattle.recorder.specs.Lists.{WroteStmts, stated};
+ghost use Rattle.recorder.specs.Lists.{WroteStmts, stated, WroteBoth};
 ghost use Rattle.wires.specs.Wires.{wiresOf};
 ghost use Rattle.wires.specs.Expressions.{assignWire};
 ghost use Rattle.cells.specs.Cells.{pllClocks, emitCyclePll};
-ghost use Rattle.cells.specs.Answers.{WroteBoth, pllOf};
+ghost use Rattle.cells.specs.Answers.{pllOf};
 
 // A wire unless it is this other one.
 fn assign_unless(

@@ -16,9 +16,9 @@ use Rattle.recorder.specs.declared.Cut.{Cut}
 use Rattle.recorder.specs.declared.Cut.the-variants.{Record, End, Broken}
 use Rattle.recorder.specs.Read as read
 use Rattle.recorder.specs.Read.{split}
-use Rattle.recorder.specs.Standing.{cutAt, splitBy}
+use Rattle.recorder.specs.Standing.{cutAt, splitBy, sizeOf, sizeAt, fieldsAt}
 use Rattle.recorder.proofs.Reading.{split-as, record-within, field-at}
-use Rattle.conflict.specs.Counting.{sizeOf, fieldsAt, more, raised, tally, exceeds, lowestFrom, restored}
+use Rattle.conflict.specs.Counting.{more, raised, tally, exceeds, lowestFrom, restored}
 
 -- ONE STATEMENT MORE
 
@@ -53,7 +53,7 @@ target-there m at n r h e =
 abbrev pub leftFrom : List ℕ → ℕ → List (List ℕ)
 leftFrom l at = split (drop at l) .records
 
-module _ (l : List ℕ) (at size : ℕ) (e : size ≡ sizeOf (cutAt l at)) where
+module _ (l : List ℕ) (at size : ℕ) (e : size ≡ sizeAt l at) where
   is-record : (c : Cut) → (size ≡ 0 → ⊥) → size ≡ sizeOf c → cutAt l at ≡ c → cutAt l at ≡ Record (size - 1)
   is-record (Record n) d q p = let z : n ≡ size - 1 = omega arith in p ∙ ap Record z
   is-record End d q p = absurd (d q)

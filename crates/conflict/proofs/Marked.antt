@@ -11,12 +11,12 @@ use lib.ListN.{length, getD, set, replicate, List·getD-eq-default, length-repli
 use lib.Seq.{set-out, set-getD}
 use borrow.Author.Tests.{lt-ltb, le-ltb, eq-eqb, ne-eqb, le-leb, lt-leb}
 use Rattle.bits.specs.Bits.{pick}
-use Rattle.recorder.specs.Record.{Signal, Stmt, Stmt.assign, Stmt.reg, signalWords, stmtWords, sized}
+use Rattle.recorder.specs.Record.{Signal, Stmt, Stmt.assign, Stmt.reg, signalWords, stmtWords, sized, target}
 use Rattle.recorder.specs.Read as read
 use Rattle.recorder.specs.Read.{split}
 use Rattle.recorder.specs.Words.{listWords, holding}
 use Rattle.recorder.proofs.Roundtrip.{Kind, stmt-kind, split-sized, split-nil, split-zero}
-use Rattle.lowering.specs.Lower.{targetOf, statementsOn, allowed, overdrivenFrom}
+use Rattle.lowering.specs.Lower.{statementsOn, allowed, overdrivenFrom}
 use Rattle.conflict.specs.declared.Conflict as c
 use Rattle.conflict.specs.Conflicts.{foundOf, Judges}
 use Rattle.conflict.specs.Counting.{more, raised, tally, exceeds, lowestFrom, restored}
@@ -87,7 +87,7 @@ raised-marked k c (x ∷ xs) i (suc j) t e =
 
 -- ALL OF THEM
 
-target-field : (t : Stmt) → getD (tail (stmtWords t)) 1 0 ≡ targetOf t
+target-field : (t : Stmt) → getD (tail (stmtWords t)) 1 0 ≡ target t
 target-field (assign t e) = refl
 target-field (reg t n c d r e) = refl
 
@@ -96,9 +96,9 @@ unfolding tally statementsOn
 tally-marked k xs [] c = ap (λ (d : ℕ → ℕ). marked d 0 xs ++ replicate k 0) (fun-ext (λ s. sym (add-zero (c s))))
 tally-marked k xs (t ∷ ts) c =
     ap (λ (j : ℕ). tally (raised (marked c 0 xs ++ replicate k 0) (4 * j)) (map (λ t. tail (stmtWords t)) ts)) (target-field t)
-    ∙ ap (λ (l : List ℕ). tally l (map (λ t. tail (stmtWords t)) ts)) (raised-marked k c xs 0 (targetOf t) (targetOf t) (sym (zero-add (targetOf t))))
-    ∙ tally-marked k xs ts (bump (targetOf t) c)
-    ∙ ap (λ (d : ℕ → ℕ). marked d 0 xs ++ replicate k 0) (fun-ext (λ s. add-assoc (c s) (pick (eqb (targetOf t) s) 1 0) (statementsOn s ts)))
+    ∙ ap (λ (l : List ℕ). tally l (map (λ t. tail (stmtWords t)) ts)) (raised-marked k c xs 0 (target t) (target t) (sym (zero-add (target t))))
+    ∙ tally-marked k xs ts (bump (target t) c)
+    ∙ ap (λ (d : ℕ → ℕ). marked d 0 xs ++ replicate k 0) (fun-ext (λ s. add-assoc (c s) (pick (eqb (target t) s) 1 0) (statementsOn s ts)))
 
 -- the statements of a list that holds them
 zeros-split : (k : ℕ) → split (replicate k 0) .records ≡ []

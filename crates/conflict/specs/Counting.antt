@@ -2,22 +2,10 @@
 use mathlib.Core.Bool.{Bool, true, false}
 use mathlib.Core.List.{List, [], _∷_}
 use mathlib.Core.Option.{Option, none, some}
-use Prim.Native.Nat.{ℕ, zero, suc, _+_, _-_, _*_}
+use Prim.Native.Nat.{ℕ, zero, suc, _*_}
 use lib.Dec.{eqb, ltb}
-use lib.ListN.{getD, set, take, drop}
+use lib.ListN.{getD, set}
 use Rattle.bits.specs.Bits.{pick}
-use Rattle.recorder.specs.declared.Cut.{Cut}
-use Rattle.recorder.specs.declared.Cut.the-variants.{Record, End, Broken}
-
--- the length of what stands at an index, 0 for no whole record
-abbrev pub sizeOf : Cut → ℕ
-sizeOf (Record n) = n + 1
-sizeOf End = 0
-sizeOf Broken = 0
-
--- the fields of a record of so many words at an index
-abbrev pub fieldsAt : List ℕ → ℕ → ℕ → List ℕ
-fieldsAt list at size = take (size - 1) (drop (at + 1) list)
 
 -- 4, a record's length, then 5, and 6 for two or more
 abbrev pub more : ℕ → ℕ

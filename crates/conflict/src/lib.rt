@@ -9,9 +9,9 @@ use recorder::read::word;
 ghost use mathlib.Core.Path.{_≡_};
 ghost use lib.ListN.{getD};
 ghost use Rattle.recorder.specs.Read.{split};
-ghost use Rattle.recorder.specs.Standing.{cutAt};
+ghost use Rattle.recorder.specs.Standing.{sizeAt, fieldsAt};
 ghost use Rattle.conflict.specs.Conflicts.{Judges, foundOf};
-ghost use Rattle.conflict.specs.Counting.{sizeOf, fieldsAt, raised, tally, lowestFrom, restored, exceeds};
+ghost use Rattle.conflict.specs.Counting.{raised, tally, lowestFrom, restored, exceeds};
 
 pub enum Conflict {
     Absent,
@@ -37,7 +37,7 @@ fn raise(signals: &mut [u32], at: usize)
 
 // The length of the record at an index, 0 if no whole one stands there.
 fn size(list: &[u32], at: usize) -> usize
-    ensures { λ r. ⌜ r ≡ sizeOf (cutAt (now (list .entry)) at) ⌝ }
+    ensures { λ r. ⌜ r ≡ sizeAt (now (list .entry)) at ⌝ }
 {
     match cut(list, at) {
         Cut::Record(n) => n + 1,

@@ -12,7 +12,8 @@ use Rattle.refusal.specs.declared.Refusal as x
 use Rattle.recorder.specs.declared.Tapes.{Tapes}
 use Rattle.recorder.specs.declared.Stated as r
 use Rattle.recorder.specs.Lists.{Lists, lists}
-use Rattle.lowering.specs.Lower.{zeros, Lowered, Accepted, Refused, Lowering, judged}
+use Rattle.recorder.specs.Words.{zeroed}
+use Rattle.lowering.specs.Lower.{Lowered, Accepted, Refused, Lowering, judged}
 use Rattle.conflict.specs.declared.Conflict as f
 use Rattle.conflict.specs.Conflicts.{foundOf, Judges}
 use Rattle.converter.specs.declared.Lowered as c
@@ -20,8 +21,8 @@ use Rattle.converter.specs.Entry.{answerOf, short, anyShort, kept, blank
 
 -- ZEROS
 
-pub filled : (i : ℕ) (l l₀ : List ℕ) → l ≡ replicate i 0 ++ drop i l₀ → i ≡ length l₀ → l ≡ zeros (length l₀)
-filled i l l₀ p e = p ∙ ap (λ (r : List ℕ). replicate i 0 ++ r) (let h : length l₀ ≤ i = omega arith in drop-of-length-le l₀ h) ∙ append-nil (replicate i 0) ∙ ap (λ (n : ℕ). zeros n) e
+pub filled : (i : ℕ) (l l₀ : List ℕ) → l ≡ replicate i 0 ++ drop i l₀ → i ≡ length l₀ → l ≡ zeroed l₀
+filled i l l₀ p e = p ∙ ap (λ (r : List ℕ). replicate i 0 ++ r) (let h : length l₀ ≤ i = omega arith in drop-of-length-le l₀ h) ∙ append-nil (replicate i 0) ∙ ap (λ (n : ℕ). replicate n 0) e
 
 pub fill-length : (i : ℕ) (l l₀ : List ℕ) → i ≤ length l₀ → l ≡ replicate i 0 ++ drop i l₀ → length l ≡ length l₀
 fill-length i l l₀ h p = omega (arith, ap length p, length-append (replicate {A = ℕ} i 0) (drop i l₀), length-replicate {A = ℕ} i 0, length-drop i l₀)

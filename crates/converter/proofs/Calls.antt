@@ -4,14 +4,15 @@ use mathlib.Core.Path.{_≡_, refl, sym, _∙_, ap, subst}
 use mathlib.Core.Bool.{Bool, true, false}
 use mathlib.Core.List.{List, [], _∷_, map}
 use native.Mathlib.Omega.{arith}
-use lib.ListN.{length, length-replicate}
+use lib.ListN.{length, replicate, length-replicate}
 use borrow.Author.Tests.{ltb-false}
 use Rattle.bits.specs.Bits.{pick}
 use Rattle.refusal.specs.declared.Refusal.the-variants.{BufferTooShort}
 use Rattle.netlist.specs.declared.Limits.{Limits}
 use Rattle.netlist.specs.Reader.{base}
 use Rattle.recorder.specs.Lists.{Lists, lists}
-use Rattle.lowering.specs.Lower.{zeros, blank, Lowered, Refused, Lowering, lowerWords}
+use Rattle.recorder.specs.Words.{zeroed, blank}
+use Rattle.lowering.specs.Lower.{Lowered, Refused, Lowering, lowerWords}
 use Rattle.steps.specs.Steps.{Within}
 use Rattle.converter.specs.declared.Lowered as c
 use Rattle.converter.specs.Entry.{answerOf, short, anyShort, callOf, Lowers, LowersWithin, LowersLists, kept, blankOf, Keeps, Ready, Attempts, ZerosTwo, ZerosThree, ZerosFive}
@@ -36,7 +37,7 @@ long-here n ns q = go (short n) refl q
     go true p h = let z : _≡_ {A = ℕ} 0 1 = cc in absurd (omega arith)
     go false p h = (long n p, h)
 
-same-zeros : (l l′ : List ℕ) → l′ ≡ zeros (length l) → length l′ ≡ length l
+same-zeros : (l l′ : List ℕ) → l′ ≡ zeroed l → length l′ ≡ length l
 same-zeros l l′ p = ap length p ∙ length-replicate {A = ℕ} (length l) 0
 
 ready : {a b d e f a′ b′ : List ℕ} → ZerosTwo a b a′ b′ → anyShort (lengths a b d e f) ≡ false → Ready a′ b′ d e f
@@ -49,8 +50,8 @@ ready {a} {b} {d} {e} {f} {a′} {b′} z q =
     let la = same-zeros a a′ (z .first) in
     let lb = same-zeros b b′ (z .second) in
     record {
-      no-signals = z .first ∙ ap (λ (n : ℕ). zeros n) (sym la);
-      no-places = z .second ∙ ap (λ (n : ℕ). zeros n) (sym lb);
+      no-signals = z .first ∙ ap (λ (n : ℕ). replicate n 0) (sym la);
+      no-places = z .second ∙ ap (λ (n : ℕ). replicate n 0) (sym lb);
       wires-long = omega (arith, p₀ .0);
       places-long = omega (arith, p₁ .0);
       parts-long = p₂ .0;
@@ -61,18 +62,15 @@ ready {a} {b} {d} {e} {f} {a′} {b′} z q =
 -- THE LISTS
 
 module _ (limits : Limits) (words s e t : List ℕ) (a b d f g : List ℕ) where
-  abbrev blanks : Lists
-  blanks = blank (length s) (length e) (length t)
-
-  zeroed : {s₁ e₁ t₁ : List ℕ} → ZerosThree s e t s₁ e₁ t₁ → lists s₁ e₁ t₁ ≡ blank (length s) (length e) (length t)
-  zeroed z = λ i. lists (z .first i) (z .second i) (z .third i)
+  zeroed-lists : {s₁ e₁ t₁ : List ℕ} → ZerosThree s e t s₁ e₁ t₁ → lists s₁ e₁ t₁ ≡ blank (length s) (length e) (length t)
+  zeroed-lists z = λ i. lists (z .first i) (z .second i) (z .third i)
 
   by-short : (v : Bool) → anyShort (lengths a b d f g) ≡ v → callOf limits words (lists s e t) (five a b d f g) ≡ pick v (record { answer = Refused 1 16384; lists = blank (length s) (length e) (length t) }) (lowerWords limits words (length s) (length e) (length t))
   by-short v q = ap (λ (y : Bool). pick y (record { answer = Refused 1 16384; lists = blank (length s) (length e) (length t) }) (lowerWords limits words (length s) (length e) (length t))) q
 
   pub works-short : {s₁ e₁ t₁ : List ℕ} {v : Bool} → ZerosThree s e t s₁ e₁ t₁ → v ≡ anyShort (lengths a b d f g) → v ≡ true
       → LowersLists limits words (lists s e t) (five a b d f g) (c.the-variants.Refused (BufferTooShort 16384)) (lists s₁ e₁ t₁)
-  works-short z q p = record { so = λ w. ap (λ (y : Lists). record { answer = Refused 1 16384; lists = y }) (zeroed z) ∙ sym (by-short true (sym q ∙ p)) }
+  works-short z q p = record { so = λ w. ap (λ (y : Lists). record { answer = Refused 1 16384; lists = y }) (zeroed-lists z) ∙ sym (by-short true (sym q ∙ p)) }
 
   pub works-done : {s₁ e₁ t₁ : List ℕ} {v : Bool} {a₁ b₁ : List ℕ} → ZerosThree s e t s₁ e₁ t₁ → v ≡ anyShort (lengths a b d f g) → v ≡ false → ZerosTwo a b a₁ b₁
       → {r : c.Lowered} (s₂ e₂ t₂ : List ℕ) → Attempts limits words (lists s₁ e₁ t₁) a₁ b₁ d f g r (lists s₂ e₂ t₂) → length s₂ ≡ length s₁ → length e₂ ≡ length e₁ → length t₂ ≡ length t₁
@@ -85,7 +83,7 @@ module _ (limits : Limits) (words s e t : List ℕ) (a b d f g : List ℕ) where
       record {
         so = λ w.
             ap (λ (k : Lists). record { answer = answerOf r; lists = k }) (keeps ∙ ap (λ (k : Lists). kept (answerOf r) (lists s₂ e₂ t₂) k) again)
-            ∙ tried .value w (ready y (sym q ∙ p)) (length s) (length e) (length t) (zeroed z)
+            ∙ tried .value w (ready y (sym q ∙ p)) (length s) (length e) (length t) (zeroed-lists z)
             ∙ sym (by-short false (sym q ∙ p));
       }
 
@@ -97,7 +95,7 @@ pub within-done : {limits : Limits} {words : List ℕ} {l : Lists} {a b d f g : 
 within-done a₁ b₁ d₁ f₁ g₁ h la lb ld lf lg z = record {
   so = λ w. record {
     value = h .so w;
-    zeroed = λ i. five ((z .two .first ∙ ap (λ (n : ℕ). zeros n) la) i) ((z .two .second ∙ ap (λ (n : ℕ). zeros n) lb) i) ((z .three .first ∙ ap (λ (n : ℕ). zeros n) ld) i) ((z .three .second ∙ ap (λ (n : ℕ). zeros n) lf) i) ((z .three .third ∙ ap (λ (n : ℕ). zeros n) lg) i);
+    zeros = λ i. five ((z .two .first ∙ ap (λ (n : ℕ). replicate n 0) la) i) ((z .two .second ∙ ap (λ (n : ℕ). replicate n 0) lb) i) ((z .three .first ∙ ap (λ (n : ℕ). replicate n 0) ld) i) ((z .three .second ∙ ap (λ (n : ℕ). replicate n 0) lf) i) ((z .three .third ∙ ap (λ (n : ℕ). replicate n 0) lg) i);
   };
 }
 

@@ -21,25 +21,25 @@ use Rattle.recorder.specs.declared.Stated as r
 use Rattle.recorder.specs.Record.{Signal, Stmt, Model, signalWords, stmtWords}
 use Rattle.recorder.specs.Writer.{modelOf, Out, Writer}
 use Rattle.recorder.specs.Lists.{Lists, lists, Answer, Answer.Done, Answer.Failed, Left, stated, Wrote}
-use Rattle.recorder.specs.Words.{listWords, holding, holdingAll}
+use Rattle.recorder.specs.Words.{listWords, holding, holdingAll, blank}
 use Rattle.recorder.specs.Outcome.{none-yet, Ended, done, refused as turned, filled}
 use Rattle.recorder.proofs.Outcomes.{wrote-ended}
 use Rattle.wires.specs.Wires.{entry, noWires, wiresOf}
-use Rattle.lowering.specs.Lower.{zeros, blank, start, Lowered, Accepted, Refused, Lowering, overdrivenFrom, judged, ended, lowerNetlist, lowered, loweredRead, lowerWords}
+use Rattle.lowering.specs.Lower.{start, Lowered, Accepted, Refused, Lowering, overdrivenFrom, judged, ended, lowerNetlist, lowered, loweredRead, lowerWords}
 use Rattle.steps.specs.Steps.{Within, netlistBy, Checked, Unmapped, Roomy, RecordsNetlist}
 use Rattle.converter.specs.declared.Lowered as c
 use Rattle.converter.specs.Entry.{answerOf, kept, Ready, Attempts, AnswersTo}
 
 -- THE TABLES
 
-zeros-at : (n i : ℕ) → getD (zeros n) i 0 ≡ 0
+zeros-at : (n i : ℕ) → getD (replicate {A = ℕ} n 0) i 0 ≡ 0
 zeros-at zero i = refl
 zeros-at (suc n) zero = refl
 zeros-at (suc n) (suc i) = zeros-at n i
 
-no-wires : (n m : ℕ) → wiresOf (zeros n) (zeros m) ≡ noWires
+no-wires : (n m : ℕ) → wiresOf (replicate n 0) (replicate m 0) ≡ noWires
 unfolding wiresOf
-no-wires n m = fun-ext (λ w. ap (λ (s : ℕ). entry s (getD (zeros m) w 0)) (zeros-at n w))
+no-wires n m = fun-ext (λ w. ap (λ (s : ℕ). entry s (getD (replicate m 0) w 0)) (zeros-at n w))
 
 unmapped : {ss ps parts values banks : List ℕ} → Ready ss ps parts values banks → Unmapped ss ps
 unmapped {ss} {ps} h = record { signals = h .wires-long; places = h .places-long; none-yet = ap₂ wiresOf (h .no-signals) (h .no-places) ∙ no-wires (length ss) (length ps) }

@@ -13,8 +13,8 @@ use Rattle.recorder.specs.declared.Tapes.{Tapes}
 use Rattle.recorder.specs.declared.Stated as r
 use Rattle.recorder.specs.Record.{Signal, Stmt, signalWords, stmtWords}
 use Rattle.recorder.specs.Lists.{Lists}
-use Rattle.recorder.specs.Words.{listWords, holding}
-use Rattle.lowering.specs.Lower.{zeros, blank, Lowered, Accepted, Refused, Lowering, overdrivenFrom, judged, lowerWords}
+use Rattle.recorder.specs.Words.{listWords, holding, blank, zeroed}
+use Rattle.lowering.specs.Lower.{Lowered, Accepted, Refused, Lowering, overdrivenFrom, judged, lowerWords}
 use Rattle.steps.specs.Steps.{Within}
 use Rattle.converter.specs.declared.Lowered as c
 
@@ -41,7 +41,7 @@ callOf limits words l works = lowerCall limits words (length (l .signals)) (leng
 -- words, lists and works at entry; the answer, lists and works at exit
 pub record Lowers (limits : Limits) (words : List ℕ) (l : Lists) (works : List (List ℕ)) (r : c.Lowered) (l′ : Lists) (works′ : List (List ℕ)) : Type 0 where
   pub value : record { answer = answerOf r; lists = l′ } ≡ callOf limits words l works
-  pub zeroed : works′ ≡ map (λ (w : List ℕ). zeros (length w)) works
+  pub zeros : works′ ≡ map zeroed works
 
 pub record LowersWithin (limits : Limits) (words : List ℕ) (l : Lists) (works : List (List ℕ)) (r : c.Lowered) (l′ : Lists) (works′ : List (List ℕ)) : Type 0 where
   pub so : Within limits → Lowers limits words l works r l′ works′
@@ -65,8 +65,8 @@ Keeps r l l′ = l′ ≡ kept (answerOf r) l (blankOf l)
 
 -- what the works hold once they are known to be long enough: the first two are the wire map's tables, and empty
 pub record Ready (wires places parts values banks : List ℕ) : Type 0 where
-  pub no-signals : wires ≡ zeros (length wires)
-  pub no-places : places ≡ zeros (length places)
+  pub no-signals : wires ≡ zeroed wires
+  pub no-places : places ≡ zeroed places
   pub wires-long : 16384 ≤ length wires
   pub places-long : 16384 ≤ length places
   pub parts-long : 16384 ≤ length parts
@@ -86,13 +86,13 @@ pub record AnswersTo (s m : List ℕ) (p : r.Stated) (q : c.Lowered) (s′ : Lis
 
 -- zeros of the same lengths
 pub record ZerosTwo (a b a′ b′ : List ℕ) : Type 0 where
-  pub first : a′ ≡ zeros (length a)
-  pub second : b′ ≡ zeros (length b)
+  pub first : a′ ≡ zeroed a
+  pub second : b′ ≡ zeroed b
 
 pub record ZerosThree (a b c a′ b′ c′ : List ℕ) : Type 0 where
-  pub first : a′ ≡ zeros (length a)
-  pub second : b′ ≡ zeros (length b)
-  pub third : c′ ≡ zeros (length c)
+  pub first : a′ ≡ zeroed a
+  pub second : b′ ≡ zeroed b
+  pub third : c′ ≡ zeroed c
 
 pub record ZerosFive (a b c d e a′ b′ c′ d′ e′ : List ℕ) : Type 0 where
   pub two : ZerosTwo a b a′ b′

@@ -1,5 +1,5 @@
 // The converter: from a netlist's words to the three lists of its model, or a refusal. (lib.rs of the Rust: lower.)
-pub mod judge; // judge.rt: the answer, once all is recorded
+mod judge; // judge.rt: the answer, once all is recorded
 pub mod zeros; // zeros.rt: lists and works of zeros
 
 use judge::answered;
@@ -101,7 +101,7 @@ fn lower_works(
 }
 
 // With these limits.
-pub fn lower_within(
+fn lower_within(
     limits: Limits,
     words: &[u32],
     signals: &mut [u32],

@@ -3,11 +3,11 @@ use crate::WORK;
 ghost use mathlib.Core.Path.{_≡_};
 ghost use mathlib.Core.List.{[], _∷_};
 ghost use lib.ListN.{length};
-ghost use Rattle.lowering.specs.Lower.{zeros};
+ghost use Rattle.recorder.specs.Words.{zeroed};
 ghost use Rattle.converter.specs.Entry.{short, anyShort, ZerosTwo, ZerosThree, ZerosFive};
 
 pub fn zero(list: &mut [u32])
-    ensures { λ _. ⌜ now (list .exit) ≡ zeros (length (now (list .entry))) ⌝ }
+    ensures { λ _. ⌜ now (list .exit) ≡ zeroed (now (list .entry)) ⌝ }
 {
     let n = list.len();
     let mut i = 0;

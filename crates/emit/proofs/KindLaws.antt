@@ -18,23 +18,23 @@ use Rattle.netlist.specs.declared.records.L6mux21.{L6mux21}
 use Rattle.netlist.specs.declared.records.Ccu2c as code-ccu2c
 use Rattle.netlist.specs.declared.records.Io.{Io}
 use Rattle.netlist.specs.Netlist.{Cell}
-use Rattle.netlist.specs.Fields.{wordAt, bitsAt, wiresAt, lut4At, pfumxAt, l6mux21At, ccu2cAt, multiplierAt, flipFlopAt, blockRamAt, distributedRamAt, ioAt, jtaggAt, pllAt, kindsAt, cellAt}
+use Rattle.netlist.specs.Fields.{wordAt, bitsAt, wiresAt, lut4At, pfumxAt, l6mux21At, ccu2cAt, multiplierAt, flipFlopAt, blockRamAt, distributedRamAt, ioAt, jtaggAt, pllAt, kindsAt, cellAt, ramAt}
 use Rattle.netlist.specs.Records.{pfumxOf, l6mux21Of, ioOf, ccu2cWith}
 use Rattle.netlist.specs.Shape.{FitsCell}
 use Rattle.recorder.specs.declared.Tapes.{Tapes}
 use Rattle.recorder.specs.declared.Stated.{Stated}
 use Rattle.recorder.specs.declared.Stated.the-variants as S
 use Rattle.recorder.specs.Writer.{Writer, pure, refuse}
-use Rattle.recorder.specs.Lists.{Lists, lists, Answer, Answer.Failed, Wrote, WroteStmts, stated}
+use Rattle.recorder.specs.Lists.{Lists, lists, Answer, Answer.Failed, Wrote, WroteStmts, stated, WroteBoth}
 use Rattle.recorder.proofs.Wrote.{wrote-as, wrote-pure, wrote-refuse}
 use Rattle.wires.specs.declared.Constants.{Constants}
 use Rattle.wires.specs.Wires.{Wires}
 use Rattle.wires.specs.Expressions.{roomy}
 use Rattle.wires.proofs.Laws.{roomy-yes}
 use Rattle.cells.specs.Cells.{emitLut4, emitPfumx, emitL6mux21, emitCcu2c, emitMultiplier, emitIo, emitIdleJtagg, emitCyclePll}
-use Rattle.cells.specs.Answers.{WroteBoth, ccuOf, pllOf}
+use Rattle.cells.specs.Answers.{ccuOf, pllOf}
 use Rattle.memories.specs.Memories.{emitBlockRam, emitDistributedRam}
-use Rattle.memories.specs.Rams.{ramAt, dramAt, workOf, blockRamIn, distributedRamIn}
+use Rattle.memories.specs.Rams.{dramAt, workOf, blockRamIn, distributedRamIn}
 use Rattle.lowering.specs.Emit.{emitCell}
 use Rattle.lowering.specs.Reserves.{ofKind}
 use Rattle.emit.specs.Emits.{Emits, Work, CellFits, OneFits, EmitsCell, EmitsDistributed, EmitsKind}

@@ -6,8 +6,7 @@ use recorder::Stated;
 use recorder::Tapes;
 use recorder::builder;
 use wires::Constants;
-ghost use Rattle.recorder.specs.Lists.{lists, Wrote, WroteSignals};
-ghost use Rattle.cells.specs.Answers.{WroteBoth};
+ghost use Rattle.recorder.specs.Lists.{lists, Wrote, WroteSignals, WroteBoth};
 ghost use Rattle.lowering.specs.Lower.{emitConstants};
 ghost use Rattle.emit.specs.Emits.{started, constantSignals, constantValues};
 

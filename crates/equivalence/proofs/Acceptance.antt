@@ -17,11 +17,11 @@ use Rattle.recorder.specs.declared.Tapes.{Tapes}
 use Rattle.recorder.specs.Record.{Model}
 use Rattle.recorder.specs.Writer.{Event, Count, further, End, End.ok, End.no, Out, Writer, modelOf, _>>=_}
 use Rattle.recorder.specs.Lists.{Lists, lists, countOf, Played, going, full, play, Answer, Answer.Done, Answer.Failed, Left, finish, writing}
-use Rattle.recorder.specs.Words.{wordsOf, holding, holdingAll, tapesOf, nothing}
+use Rattle.recorder.specs.Words.{wordsOf, holding, holdingAll, tapesOf, nothing, blank}
 use Rattle.recorder.proofs.Events.{bind-ok, bind-no}
 use Rattle.recorder.proofs.Played.{going-fit}
 use Rattle.wires.specs.Wires.{Wires}
-use Rattle.lowering.specs.Lower.{overdrivenFrom, reserveNetlist, emitNetlist, lowerNetlist, start, zeros, blank, Accepted, Refused, Lowering, judged, ended, lowered, loweredRead, lowerWords}
+use Rattle.lowering.specs.Lower.{overdrivenFrom, reserveNetlist, emitNetlist, lowerNetlist, start, Accepted, Refused, Lowering, judged, ended, lowered, loweredRead, lowerWords}
 use Rattle.lowering.specs.Lower.{Lowered as Verdict}
 use Rattle.forms.specs.Lowered.{none-yet, loweredModel, Lowered}
 use Rattle.equivalence.specs.Demand.{usedLists}

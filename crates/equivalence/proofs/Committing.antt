@@ -89,9 +89,6 @@ module _ (κ : Tick) (m : Wires) (z : Constants) (zero-is : κ .before (z .zero 
   -- BLOCK RAM
 
   module _ (limits : Limits) (r : BlockRam) (ws : List ℕ) (f : FitsBlockRam limits r) (count : length ws ≡ r .depth) (d : Remembered κ m z r ws) where
-    abbrev aw : ℕ
-    aw = addressWidth (r .depth)
-
     abbrev wide : ℕ
     wide = r .width
 

@@ -36,9 +36,6 @@ shownBits (s ∷ ss) (v ∷ t) = pick (eqb (s .label) 1) (v ∷ shownBits ss t) 
 
 -- BYTES THAT ARE BITS
 
-abbrev wideOf : Signal → ℕ
-wideOf s = s .width
-
 -- the first k bytes are bits
 abbrev pub BitsIn : ℕ → List ℕ → Type 0
 BitsIn k bytes = AllBits (take k bytes)

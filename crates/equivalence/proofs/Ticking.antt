@@ -209,9 +209,6 @@ module _ {limits : Limits} {n : Netlist} (a : Lowered limits n) {widest : ℕ} (
     abbrev v₂ : Valuation
     v₂ = held (at [] (k₂ .state)) (a .wires)
 
-    abbrev v₄ : Valuation
-    v₄ = held (at [] (k₄ .state)) (a .wires)
-
     -- an unassigned signal keeps its bits in settling
     free-kept : (k : Settling (loweredModel n)) (s : ℕ) → s < length (M .signals) → drivers (loweredModel n) s ≡ 0 → at [] (k .state) s ≡ at [] (k .old) s
     free-kept k s h e = settle-keeps sound k s h (given-none assigns (M .stmts) s e)

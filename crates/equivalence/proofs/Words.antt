@@ -73,10 +73,6 @@ indexed-then : (f g : ℕ → Bits → Bits) (i : ℕ) (ws : List Bits) → inde
 indexed-then f g i [] = refl
 indexed-then f g i (w ∷ ws) = ap (λ (l : List Bits). g i (f i w) ∷ l) (indexed-then f g (suc i) ws)
 
-indexed-long : (f : ℕ → Bits → Bits) (i : ℕ) (ws : List Bits) → length (indexed f i ws) ≡ length ws
-indexed-long f i [] = refl
-indexed-long f i (w ∷ ws) = ap suc (indexed-long f (suc i) ws)
-
 -- one place is set, if it is among those from index i on
 set-from : (A i : ℕ) (x : Bits) (ws : List Bits) → indexed (λ j w. pick (eqb A j) x w) i ws ≡ pick (leb i A) (set ws (A - i) x) ws
 set-from A i x [] = go (leb i A)

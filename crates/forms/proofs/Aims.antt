@@ -13,7 +13,7 @@ use Rattle.netlist.specs.declared.Bit.{Bit}
 use Rattle.netlist.specs.declared.Bit.the-variants.{Zero, One, Wire}
 use Rattle.netlist.specs.Netlist.{Port, SecondPort, BlockRam, DistributedRam, Ccu2c, Pll, Netlist, Cell, lut4, pfumx, l6mux21, ccu2c, multiplier, flipFlop, blockRam, distributedRam, io, jtagg, pll}
 use Rattle.netlist.specs.Reader.{addressWidth, shiftOf}
-use Rattle.recorder.specs.Record.{Signal, Stmt, Stmt.assign}
+use Rattle.recorder.specs.Record.{Signal, Stmt, Stmt.assign, target}
 use Rattle.recorder.specs.Writer.{Event, signalsOf, stmtsOf, Count, further, Out, Writer, pure, refuse, declare, emit, state, _>>=_, _>>_}
 use Rattle.recorder.proofs.Events.{signals-append, stmts-append}
 use Rattle.optimize.proofs.Muxes.{by-test}
@@ -27,7 +27,7 @@ use Rattle.cells.specs.Cells.{emitLut4, emitPfumx, emitL6mux21, emitIo, emitMul
 use Rattle.memories.specs.Memories.{wordSignal, Word, PortExprs, ramWord, ramWords, emitBlockRamReadPort, emitSecondReadPort, updateWords, emitBlockRam, dramWords, emitDistributedRam}
 use Rattle.lowering.specs.Reserve.{signalOf}
 use Rattle.lowering.specs.Emit.{emitFlipFlopBank, emitBanks, emitCell, emitCells, emitOutputs}
-use Rattle.lowering.specs.Lower.{targetOf, emitConstants, emitNetlist}
+use Rattle.lowering.specs.Lower.{emitConstants, emitNetlist}
 use Rattle.meaning.specs.Writes.{Writes}
 use Rattle.meaning.specs.Settles.{Gets}
 use Rattle.meaning.proofs.Writing.{writes-pure, writes-refuse, writes-declare, writes-state, writes-bind, writes-so, writes-both, writes-always, writes-gets}
@@ -41,7 +41,7 @@ use Rattle.forms.proofs.Quiets.{quiet-pure, quiet-emit, quiet-bind, qui
 
 targets-append : (xs ys : List Stmt) → targets (xs ++ ys) ≡ targets xs ++ targets ys
 targets-append [] ys = refl
-targets-append (x ∷ xs) ys = ap (λ (l : List ℕ). targetOf x ∷ l) (targets-append xs ys)
+targets-append (x ∷ xs) ys = ap (λ (l : List ℕ). target x ∷ l) (targets-append xs ys)
 
 done-append : {ss ss′ : List Signal} {ts ts′ : List ℕ} {es fs : List Event} → Done ss ts es → Done ss′ ts′ fs → Done (ss ++ ss′) (ts ++ ts′) (es ++ fs)
 done-append {es = es} {fs} f g = record {
@@ -59,7 +59,7 @@ module _ {n : Count} where
   acts-pure : {A : Type 0} {a : A} {R : A → Type 0} → R a → Acts n (pure a) R [] []
   acts-pure h = writes-pure (h, done-none)
 
-  acts-state : {t : Stmt} → Acts n (state t) (λ u. Unit {0}) [] (targetOf t ∷ [])
+  acts-state : {t : Stmt} → Acts n (state t) (λ u. Unit {0}) [] (target t ∷ [])
   acts-state = writes-state (tt, record { signals = refl; stmts = refl })
 
   acts-declare : {s : Signal} → Acts n (declare s) (λ i. i ≡ n .signals) (s ∷ []) []

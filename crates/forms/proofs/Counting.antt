@@ -19,7 +19,7 @@ use Rattle.netlist.specs.declared.Bit.the-variants.{Zero, One, Wire}
 use Rattle.netlist.specs.declared.Limits.{Limits}
 use Rattle.netlist.specs.Netlist.{Port, SecondPort, Pll, Netlist, Cell, lut4, pfumx, l6mux21, ccu2c, multiplier, flipFlop, blockRam, distributedRam, io, jtagg, pll}
 use Rattle.netlist.specs.Shape.{Each, each-at, FitsOption, FitsSecond, FitsCell, Fits}
-use Rattle.recorder.specs.Record.{Signal, Stmt, Model}
+use Rattle.recorder.specs.Record.{Signal, Stmt, Model, target}
 use Rattle.recorder.specs.Writer.{Event, signalsOf, stmtsOf, Count, further, End, End.ok, Out}
 use Rattle.recorder.proofs.Events.{signals-append}
 use Rattle.behaviour.specs.Banks.{Member, Bank, outputsOf, collectFlipFlopBanks}
@@ -28,7 +28,7 @@ use Rattle.behaviour.specs.Behaviour.{absent}
 use Rattle.behaviour.proofs.BankLaws.{IsBank, banks-are, Begins}
 use Rattle.behaviour.proofs.MapLaws.{FoundIs, FoundAt, found-is}
 use Rattle.wires.specs.Wires.{Wires, WireRef as Ref}
-use Rattle.lowering.specs.Lower.{targetOf, statementsOn, allowed, overdrivenFrom, reserveNetlist, emitNetlist, lowerNetlist}
+use Rattle.lowering.specs.Lower.{statementsOn, allowed, overdrivenFrom, reserveNetlist, emitNetlist, lowerNetlist}
 use Rattle.meaning.specs.Mapped.{refOf, LabelFits, SignalFits, SignalsFit, noSlot, entryOf, Mapping, portSignals, Reserved}
 use Rattle.meaning.proofs.Writing.{written}
 use Rattle.meaning.proofs.Reserving.{mapping-count, reserved-is}
@@ -60,7 +60,7 @@ occurs-in s (t ∷ l) m = go (cases-cons m) (occurs-in s l)
 statements-occur : (s : ℕ) (ts : List Stmt) → statementsOn s ts ≡ occurs s (targets ts)
 unfolding statementsOn
 statements-occur s [] = refl
-statements-occur s (t ∷ ts) = ap (λ (k : ℕ). pick (eqb (targetOf t) s) 1 0 + k) (statements-occur s ts)
+statements-occur s (t ∷ ts) = ap (λ (k : ℕ). pick (eqb (target t) s) 1 0 + k) (statements-occur s ts)
 
 -- 11 did not come
 not-overdriven : (k : ℕ) (xs : List Signal) (ts : List Stmt) → overdrivenFrom k xs ts ≡ none → (i : ℕ) (d : Signal) → i < length xs → statementsOn (k + i) ts ≤ allowed (getD xs i d)
@@ -104,9 +104,6 @@ apiece-wire (w ∷ ws) k g m = go (cases-cons m) (apiece-wire ws (suc k) g)
     go : (g ≡ record { pin = k; wires = w ∷ [] }) ⊎ Mem g (apiece ws (suc k)) → (Mem g (apiece ws (suc k)) → (v : ℕ) × Mem v ws × (g .wires ≡ v ∷ [])) → (v : ℕ) × Mem v (w ∷ ws) × (g .wires ≡ v ∷ [])
     go (inl e) f = (w, here refl, ap (λ (x : Group). x .wires) e)
     go (inr q) f = let r = f q in (r .0, there (r .1), r .2)
-
-first-of : Group → ℕ
-first-of g = getD (g .wires) 0 0
 
 aim-in : (m : Wires) (ws : List ℕ) (w : ℕ) → Mem w ws → Mem (aim (m w)) (aims m ws)
 aim-in m [] w h = absurd (not-nil h)

@@ -88,30 +88,6 @@ map-in c (h ∷ gs) g m = go (cases-cons m) (map-in c gs g)
     go (inl e) f = here (ap (slotOf c) e)
     go (inr q) f = there (f q)
 
--- a PLL adds some of its groups' slots
-fresh-from : (c : ℕ) (ws : List ℕ) (k : ℕ) (held : List Slot) (x : Slot) → Mem x (reserveFresh c ws k held) → Mem x held ⊎ OfGroup c (apiece ws k) x
-fresh-from c [] k held x m = inl m
-fresh-from c (w ∷ ws) k held x m = go (isSome (find w held 0)) (fresh-from c ws (suc k)) m
-  where
-    later : OfGroup c (apiece ws (suc k)) x → OfGroup c (apiece (w ∷ ws) k) x
-    later r = record { group = r .group; one-of = there (r .one-of); is = r .is }
-
-    two : Mem x held ⊎ Mem x (single c (w ∷ []) k) → Mem x held ⊎ OfGroup c (apiece (w ∷ ws) k) x
-    two (inl q) = inl q
-    two (inr q) = let r = in-map c (record { pin = k; wires = w ∷ [] } ∷ []) x q in inr (record { group = r .group; one-of = mem-left (apiece ws (suc k)) (r .one-of); is = r .is })
-
-    three : Mem x (held ++ single c (w ∷ []) k) ⊎ OfGroup c (apiece ws (suc k)) x → Mem x held ⊎ OfGroup c (apiece (w ∷ ws) k) x
-    three (inl q) = two (append-cases held q)
-    three (inr r) = inr (later r)
-
-    four : Mem x held ⊎ OfGroup c (apiece ws (suc k)) x → Mem x held ⊎ OfGroup c (apiece (w ∷ ws) k) x
-    four (inl q) = inl q
-    four (inr r) = inr (later r)
-
-    go : (b : Bool) → ((held : List Slot) (x : Slot) → Mem x (reserveFresh c ws (suc k) held) → Mem x held ⊎ OfGroup c (apiece ws (suc k)) x) → Mem x (reserveFresh c ws (suc k) (pick b held (held ++ single c (w ∷ []) k))) → Mem x held ⊎ OfGroup c (apiece (w ∷ ws) k) x
-    go true f q = four (f held x q)
-    go false f q = three (f (held ++ single c (w ∷ []) k) x q)
-
 fresh-keeps : (c : ℕ) (ws : List ℕ) (k : ℕ) (held : List Slot) (x : Slot) → Mem x held → Mem x (reserveFresh c ws k held)
 fresh-keeps c [] k held x m = m
 fresh-keeps c (w ∷ ws) k held x m = fresh-keeps c ws (suc k) (pick (isSome (find w held 0)) held (held ++ single c (w ∷ []) k)) x (go (isSome (find w held 0)))
@@ -133,19 +109,6 @@ pll-split (io p d i t) e = absurd (false≢true e)
 pll-split (jtagg ws) e = absurd (false≢true e)
 pll-split (pll p) e = (p, refl)
 
-reserve-from : (c : ℕ) (y : Cell) (held : List Slot) (x : Slot) → Mem x (reserve c y held) → Mem x held ⊎ OfGroup c (groups y) x
-reserve-from c y held x m = go (isPll y) refl
-  where
-    plain : Mem x held ⊎ Mem x (map (slotOf c) (groups y)) → Mem x held ⊎ OfGroup c (groups y) x
-    plain (inl q) = inl q
-    plain (inr q) = inr (in-map c (groups y) x q)
-
-    go : (b : Bool) → isPll y ≡ b → Mem x held ⊎ OfGroup c (groups y) x
-    go false e = plain (append-cases held (subst (λ (l : List Slot). Mem x l) (plain-adds c y held e) m))
-    go true e =
-        let p = pll-split y e in
-        subst (λ (z : Cell). Mem x held ⊎ OfGroup c (groups z) x) (sym (p .1)) (fresh-from c (pllWires (p .0)) 0 held x (subst (λ (z : Cell). Mem x (reserve c z held)) (p .1) m))
-
 reserve-keeps : (c : ℕ) (y : Cell) (held : List Slot) (x : Slot) → Mem x held → Mem x (reserve c y held)
 reserve-keeps c y held x m = go (isPll y) refl
   where
@@ -163,18 +126,6 @@ pub record OfCell (cells : List Cell) (c : ℕ) (x : Slot) : Type 0 where
   pub inside : place < length cells
   pub of-group : OfGroup (c + place) (groups (getD cells place absent)) x
 
-all-from : (cells : List Cell) (c : ℕ) (held : List Slot) (x : Slot) → Mem x (reserveAll cells c held) → Mem x held ⊎ OfCell cells c x
-all-from [] c held x m = inl m
-all-from (y ∷ cells) c held x m = go (all-from cells (suc c) (reserve c y held) x m)
-  where
-    two : Mem x held ⊎ OfGroup c (groups y) x → Mem x held ⊎ OfCell (y ∷ cells) c x
-    two (inl q) = inl q
-    two (inr r) = inr (record { place = 0; inside = omega arith; of-group = subst (λ (k : ℕ). OfGroup k (groups y) x) (omega arith) r })
-
-    go : Mem x (reserve c y held) ⊎ OfCell cells (suc c) x → Mem x held ⊎ OfCell (y ∷ cells) c x
-    go (inl q) = two (reserve-from c y held x q)
-    go (inr r) = inr (record { place = suc (r .place); inside = omega (arith, r .inside); of-group = subst (λ (k : ℕ). OfGroup k (groups (getD cells (r .place) absent)) x) (omega arith) (r .of-group) })
-
 group-kept : (cells : List Cell) (c : ℕ) (held : List Slot) (i : ℕ) (g : Group) → i < length cells → isPll (getD cells i absent) ≡ false → Mem g (groups (getD cells i absent)) → Mem (slotOf (c + i) g) (reserveAll cells c held)
 group-kept [] c held i g h e m = absurd (not-suc-le-zero h)
 group-kept (y ∷ cells) c held zero g h e m =
@@ -188,12 +139,6 @@ group-kept (y ∷ cells) c held (suc i) g h e m =
 module _ (n : Netlist) where
   abbrev banks : List Bank
   banks = collectFlipFlopBanks (n .cells)
-
-  -- where a slot comes from
-  pub data Origin (x : Slot) : Type 0 where
-    port : Mem x (portSlots (n .ports) 0) → Origin x
-    cell : OfCell (n .cells) 0 x → Origin x
-    flops : (b : Bank) → Mem b banks → x ≡ bankSlot b → Origin x
 
   bank-from : (bs : List Bank) (x : Slot) → Mem x (map bankSlot bs) → (b : Bank) × Mem b bs × (x ≡ bankSlot b)
   bank-from [] x m = absurd (not-nil m)
@@ -210,17 +155,6 @@ module _ (n : Netlist) where
       go : (b ≡ b′) ⊎ Mem b bs → (Mem b bs → Mem (bankSlot b) (map bankSlot bs)) → Mem (bankSlot b) (bankSlot b′ ∷ map bankSlot bs)
       go (inl e) f = here (ap bankSlot e)
       go (inr q) f = there (f q)
-
-  pub slot-origin : (x : Slot) → Mem x (slots n) → Origin x
-  slot-origin x m = go (append-cases (reserveAll (n .cells) 0 (portSlots (n .ports) 0)) m)
-    where
-      two : Mem x (portSlots (n .ports) 0) ⊎ OfCell (n .cells) 0 x → Origin x
-      two (inl q) = port q
-      two (inr r) = cell r
-
-      go : Mem x (reserveAll (n .cells) 0 (portSlots (n .ports) 0)) ⊎ Mem x (map bankSlot banks) → Origin x
-      go (inl q) = two (all-from (n .cells) 0 (portSlots (n .ports) 0) x q)
-      go (inr q) = let r = bank-from banks x q in flops (r .0) (r .1) (r .2)
 
   -- every group of a cell that is no PLL has its slot
   pub group-slot : (c : ℕ) (g : Group) → c < length (n .cells) → isPll (getD (n .cells) c absent) ≡ false → Mem g (groups (getD (n .cells) c absent)) → Placed (slots n) (slotOf c g)

@@ -18,16 +18,16 @@ use Rattle.netlist.specs.declared.Limits.{Limits}
 use Rattle.netlist.specs.declared.Reset.{Reset}
 use Rattle.netlist.specs.Netlist.{Port, SecondPort, FlipFlop, Netlist, Cell, lut4, pfumx, l6mux21, ccu2c, multiplier, flipFlop, blockRam, distributedRam, io, jtagg, pll}
 use Rattle.netlist.specs.Shape.{Each, each-at, FitsOption, FitsReset, FitsSecond, FitsCell, FitsPort, Fits}
-use Rattle.recorder.specs.Record.{Signal, Expr, Expr.const, Expr.read, Expr.concat, Expr.not, Expr.and, Expr.or, Expr.xor, Expr.mux, Expr.eq, Expr.mul, RegReset, RegEnable, Stmt, Stmt.assign, Stmt.reg, Model}
+use Rattle.recorder.specs.Record.{Signal, Expr, Expr.const, Expr.read, Expr.concat, Expr.not, Expr.and, Expr.or, Expr.xor, Expr.mux, Expr.eq, Expr.mul, RegReset, RegEnable, Stmt, Stmt.assign, Stmt.reg, Model, target}
 use Rattle.recorder.specs.Writer.{Event, Event.signal, Event.expr, Event.stmt, signalsOf, exprsOf, stmtsOf, Count, further, Out}
 use Rattle.behaviour.specs.Banks.{Member, Bank, outputsOf, asyncReset, filterAsync, collectFlipFlopBanks}
 use Rattle.behaviour.specs.WireMap.{Source, inputs, shown, pins, bank, Slot, bankSlot, slots}
 use Rattle.behaviour.specs.Behaviour.{absent}
 use Rattle.behaviour.proofs.BankLaws.{IsBank, IsCell, Begins}
 use Rattle.wires.specs.Wires.{Wires, WireRef as Ref}
-use Rattle.lowering.specs.Lower.{targetOf, allowed, reserveNetlist, emitNetlist, lowerNetlist}
+use Rattle.lowering.specs.Lower.{allowed, reserveNetlist, emitNetlist, lowerNetlist}
 use Rattle.simulation.specs.Wellformed.{countOf, statements, inRange, wide, broad, earlier, widthSum, exprFits, suits, resetFits, enableFits, stmtFits, signalFits}
-use Rattle.simulation.specs.Tick.{target, readsExpr, readsAll}
+use Rattle.simulation.specs.Tick.{readsExpr, readsAll}
 use Rattle.simulation.specs.Run.{exprWidth}
 use Rattle.simulation.specs.Sound.{AllFrom, signalWidths, exprWidths, on, drivers, Sound}
 use Rattle.meaning.specs.Mapped.{LabelFits, WidthFits, SignalFits, noSlot, Mapping, portSignals, Reserved}
@@ -439,13 +439,9 @@ module _ {limits : Limits} {n : Netlist} (a : Lowered limits n) {widest : ℕ} (
   stays : Grows F F
   stays = record { signals = λ s w h. h; exprs = λ e w h. h; reads = λ e h. (h, refl); many = omega arith }
 
-  same-target : (t : Stmt) → target t ≡ targetOf t
-  same-target (assign t e) = refl
-  same-target (reg t x c d q e) = refl
-
   count-occurs : (s : ℕ) (ts : List Stmt) → countOf (on s) ts ≡ occurs s (targets ts)
   count-occurs s [] = refl
-  count-occurs s (t ∷ ts) = ap (λ (k : ℕ). pick (eqb k s) (suc (countOf (on s) ts)) (countOf (on s) ts)) (same-target t) ∙ go (eqb (targetOf t) s) (count-occurs s ts)
+  count-occurs s (t ∷ ts) = go (eqb (target t) s) (count-occurs s ts)
     where
       go : (b : Bool) → countOf (on s) ts ≡ occurs s (targets ts) → pick b (suc (countOf (on s) ts)) (countOf (on s) ts) ≡ pick b 1 0 + occurs s (targets ts)
       go true e = omega (arith, e)

@@ -181,13 +181,6 @@ module _ {limits : Limits} {n : Netlist} (a : Lowered limits n) where
 
   -- EVERY CELL
 
-  only-group : {g h : Group} → Mem g (h ∷ []) → g ≡ h
-  only-group {g} {h} q = go (cases-cons q)
-    where
-      go : (g ≡ h) ⊎ Mem g [] → g ≡ h
-      go (inl e) = e
-      go (inr k) = absurd (not-nil k)
-
   apiece-at : (ws : List ℕ) (k w : ℕ) → Mem w ws → (g : Group) × Mem g (apiece ws k) × (g .wires ≡ w ∷ [])
   apiece-at [] k w h = absurd (not-nil h)
   apiece-at (v ∷ ws) k w h = go (cases-cons h) (apiece-at ws (suc k) w)

@@ -8,14 +8,13 @@ use lib.Dec.{eqb}
 use lib.ListN.{length, getD, take, drop, replicate}
 use Rattle.bits.specs.Bits.{pick}
 use Rattle.netlist.specs.Netlist.{Port, SecondPort, Netlist, Cell, lut4, pfumx, l6mux21, ccu2c, multiplier, flipFlop, blockRam, distributedRam, io, jtagg, pll}
-use Rattle.recorder.specs.Record.{Signal, Stmt}
+use Rattle.recorder.specs.Record.{Signal, Stmt, target}
 use Rattle.recorder.specs.Writer.{Event, signalsOf, stmtsOf, Count, Out, Writer}
 use Rattle.behaviour.specs.Banks.{Bank, collectFlipFlopBanks}
 use Rattle.behaviour.specs.WireMap.{wordSignals}
 use Rattle.wires.specs.Wires.{Wires, WireRef}
 use Rattle.memories.specs.Memories.{wordSignal}
 use Rattle.lowering.specs.Reserve.{signalOf}
-use Rattle.lowering.specs.Lower.{targetOf}
 use Rattle.meaning.specs.Writes.{Writes}
 
 -- a writer that makes neither
@@ -24,7 +23,7 @@ pub record Quiet {A : Type 0} (w : Writer A) : Type 0 where
   pub stmts : (n : Count) → stmtsOf (w n .events) ≡ []
 
 abbrev pub targets : List Stmt → List ℕ
-targets ts = map targetOf ts
+targets ts = map target ts
 
 -- these signals, and statements on these targets
 pub record Done (ss : List Signal) (ts : List ℕ) (es : List Event) : Type 0 where

@@ -1,9 +1,8 @@
 -- The listing of a model: its first line, then a line for each record.
 use mathlib.Core.List.{List, [], _∷_, _++_}
-use Prim.Native.Nat.{ℕ, zero, suc}
+use Prim.Native.Nat.{ℕ, suc}
 use Rattle.recorder.specs.Read.{split}
 use Rattle.lines.specs.Ascii.{newline}
-use Rattle.lines.specs.Lines.{signalText, exprText, stmtText, countsText}
 
 abbrev pub lineText : (ℕ → List ℕ → List ℕ) → ℕ → List ℕ → List ℕ
 lineText text n r = text n r ++ (newline ∷ [])
@@ -16,9 +15,3 @@ linesFrom text n (r ∷ rs) = lineText text n r ++ linesFrom text (suc n) rs
 -- the records of a list of words, as far as they stand whole
 unfoldable pub linesOf : (ℕ → List ℕ → List ℕ) → List ℕ → List ℕ
 linesOf text ws = linesFrom text 0 (split ws .records)
-
--- the listing of a model: the three counts, then its three lists
-unfoldable pub modelText : ℕ → ℕ → ℕ → List ℕ → List ℕ → List ℕ → List ℕ
-modelText a b c signals exprs stmts =
-    (countsText a b c ++ (newline ∷ []))
-    ++ (linesOf signalText signals ++ (linesOf exprText exprs ++ linesOf stmtText stmts))

@@ -9,19 +9,18 @@ use text::Place;
 use text::put_byte;
 ghost use mathlib.Core.Path.{_≡_};
 ghost use mathlib.Core.List.{[], _∷_, _++_};
-ghost use lib.ListN.{getD};
+ghost use Rattle.recorder.specs.Standing.{sizeAt};
 ghost use Rattle.text.specs.Text.{Appended};
 ghost use Rattle.lines.specs.Ascii.{newline};
 ghost use Rattle.lines.specs.Lines.{signalText, exprText, stmtText, countsText};
-ghost use Rattle.listing.specs.Listing.{lineText, linesOf, modelText};
-ghost use Rattle.listing.specs.Standing.{wordsAt};
+ghost use Rattle.listing.specs.Listing.{lineText, linesOf};
 
-// The words of the record at an index, its length counted, or 0 where none stands whole.
-fn words_at(list: &[u32], at: usize) -> usize
-    ensures { λ r. ⌜ r ≡ wordsAt (now (list .entry)) at ⌝ }
+// The length of the record at an index, 0 if no whole one stands there.
+fn size(list: &[u32], at: usize) -> usize
+    ensures { λ r. ⌜ r ≡ sizeAt (now (list .entry)) at ⌝ }
 {
     match cut(list, at) {
-        Cut::Record(n) => 1 + n,
+        Cut::Record(n) => n + 1,
         Cut::End => 0,
         Cut::Broken => 0,
     }
@@ -78,7 +77,7 @@ pub fn put_signals(out: &mut [u8], at: usize, list: &[u32]) -> Place
     let mut from = 0;
     let mut number = 0;
     loop {
-        let n = words_at(list, from);
+        let n = size(list, from);
         if n == 0 {
             return Place::At(a);
         }
@@ -102,7 +101,7 @@ pub fn put_expressions(out: &mut [u8], at: usize, list: &[u32]) -> Place
     let mut from = 0;
     let mut number = 0;
     loop {
-        let n = words_at(list, from);
+        let n = size(list, from);
         if n == 0 {
             return Place::At(a);
         }
@@ -126,7 +125,7 @@ pub fn put_statements(out: &mut [u8], at: usize, list: &[u32]) -> Place
     let mut from = 0;
     let mut number = 0;
     loop {
-        let n = words_at(list, from);
+        let n = size(list, from);
         if n == 0 {
             return Place::At(a);
         }
@@ -138,30 +137,4 @@ pub fn put_statements(out: &mut [u8], at: usize, list: &[u32]) -> Place
         from += n;
         number += 1;
     }
-}
-
-// The listing of a model that these lists hold, of so many signals, expressions and statements.
-pub fn put_model(
-    out: &mut [u8],
-    at: usize,
-    counts: [u32; 3],
-    signals: &[u32],
-    exprs: &[u32],
-    stmts: &[u32],
-) -> Place
-    ensures { λ r. ⌜ Appended (now (out .entry)) at (modelText (getD counts 0 0) (getD counts 1 0) (getD counts 2 0) (now (signals .entry)) (now (exprs .entry)) (now (stmts .entry))) r (now (out .exit)) ⌝ }
-{
-    let r = put_first_line(out, at, counts[0], counts[1], counts[2]);
-    let Place::At(a) = r else {
-        return r;
-    };
-    let r = put_signals(out, a, signals);
-    let Place::At(a) = r else {
-        return r;
-    };
-    let r = put_expressions(out, a, exprs);
-    let Place::At(a) = r else {
-        return r;
-    };
-    put_statements(out, a, stmts)
 }

@@ -3,17 +3,18 @@ use mathlib.Core.List.{List, [], _∷_, _++_}
 use mathlib.Core.Option.{Option, none, some}
 use Prim.Native.Nat.{ℕ, zero, suc, _+_}
 use lib.Dec.{eqb, leb}
-use lib.ListN.{length, replicate}
+use lib.ListN.{length}
 use Rattle.bits.specs.Bits.{pick}
 use Rattle.netlist.specs.declared.Limits.{Limits}
 use Rattle.netlist.specs.Netlist.{Netlist}
 use Rattle.netlist.specs.Reader.{Read, netlist, refused, readWords}
 use Rattle.behaviour.specs.Banks.{collectFlipFlopBanks}
-use Rattle.recorder.specs.Record.{Signal, Expr.const, Stmt, Stmt.assign, Stmt.reg, Model}
+use Rattle.recorder.specs.Record.{Signal, Expr.const, Stmt, Stmt.assign, Stmt.reg, Model, target}
 use Rattle.recorder.specs.declared.Tape.{Tape}
 use Rattle.recorder.specs.declared.Tapes.{Tapes}
 use Rattle.recorder.specs.Writer.{Count, Out, Writer, pure, declare, emit, state, _>>=_, _>>_, modelOf}
 use Rattle.recorder.specs.Lists.{Lists, lists, tapes, Answer, Answer.Done, Answer.Failed, Left, writing}
+use Rattle.recorder.specs.Words.{blank}
 use Rattle.wires.specs.declared.Constants.{Constants}
 use Rattle.wires.specs.Wires.{Wires, noWires}
 use Rattle.lowering.specs.Reserve.{signalOf, reservePorts, reserveCells, reserveFlipFlopBanks}
@@ -21,13 +22,9 @@ use Rattle.lowering.specs.Emit.{emitCells, emitBanks, emitOutputs}
 
 -- 11: a signal that is driven more than once, or an input that is driven at all
 
-abbrev pub targetOf : Stmt → ℕ
-targetOf (assign t e) = t
-targetOf (reg t n c d r e) = t
-
 unfoldable pub statementsOn : ℕ → List Stmt → ℕ
 statementsOn s [] = 0
-statementsOn s (t ∷ ts) = pick (eqb (targetOf t) s) 1 0 + statementsOn s ts
+statementsOn s (t ∷ ts) = pick (eqb (target t) s) 1 0 + statementsOn s ts
 
 -- an input may have none, another signal one
 abbrev pub allowed : Signal → ℕ
@@ -74,13 +71,6 @@ lowerNetlist n = do
 -- no record yet
 abbrev pub start : Tapes
 start = let t : Tape = record { used = 0; count = 0 } in tapes t t t
-
-abbrev pub zeros : ℕ → List ℕ
-zeros n = replicate n 0
-
--- the lists as lowering begins with them, and as a refusal leaves them
-abbrev pub blank : ℕ → ℕ → ℕ → Lists
-blank s e t = lists (zeros s) (zeros e) (zeros t)
 
 pub data Lowered : Type 0 where
   -- each list's records and words used

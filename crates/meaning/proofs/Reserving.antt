@@ -159,9 +159,6 @@ only-append {xs = xs} {ys} f g = record {
   stmts = stmts-append xs ys ∙ ap₂ (λ (a b : List Stmt). a ++ b) (f .stmts) (g .stmts);
 }
 
-only-as : {new more : List Signal} {xs : List Event} → new ≡ more → Only new xs → Only more xs
-only-as {xs = xs} e f = subst (λ (l : List Signal). Only l xs) e f
-
 insert-one : {n : Count} (m : Wires) (s width : ℕ) (done : List Bit) (b : Bit) (m₁ : Wires) → Inserted m s width done m₁
     → Writes n (insertWire m₁ b (record { signal = s; lsb = length done; width = width })) (λ m₂ es. Inserted m s width (done ++ (b ∷ [])) m₂ × Only [] es)
 unfolding insertWire

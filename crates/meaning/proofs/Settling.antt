@@ -7,8 +7,8 @@ use Prim.Native.Nat.{ℕ, _+_}
 use native.Mathlib.Omega.{arith}
 use lib.ListN.{length}
 use Rattle.bits.specs.Bits.{pick, Bits}
-use Rattle.recorder.specs.Record.{Signal, Stmt, Stmt.assign}
-use Rattle.recorder.specs.Writer.{Event, exprsOf, stmtsOf, Count, further, End, End.ok, End.no, Out, Writer, pure, refuse, declare, state, after, _>>=_}
+use Rattle.recorder.specs.Record.{Stmt, Stmt.assign}
+use Rattle.recorder.specs.Writer.{Event, exprsOf, stmtsOf, Count, further, End, End.ok, End.no, Out, Writer, pure, refuse, state, after, _>>=_}
 use Rattle.recorder.specs.Evaluate.{Values, evalAll}
 use Rattle.recorder.specs.Meaning.{Is, Keeps, Ends, Makes}
 use Rattle.recorder.proofs.Events.{exprs-append, stmts-append}
@@ -23,9 +23,6 @@ module _ {A : Type 0} {P : A → Type 0} where
 
   pub gets-refuse : {a b : ℕ} → Gets (refuse {A = A} a b) P
   gets-refuse = record { gets = λ n. tt }
-
-pub gets-declare : {s : Signal} → Gets (declare s) (λ i. Unit {0})
-gets-declare = record { gets = λ n. tt }
 
 module _ {A B : Type 0} {w : Writer A} {k : A → Writer B} {P : A → Type 0} {Q : B → Type 0} where
   pub gets-bind : Gets w P → ((a : A) → P a → Gets (k a) Q) → Gets (w >>= k) Q

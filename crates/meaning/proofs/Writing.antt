@@ -3,8 +3,8 @@
 use mathlib.Core.Path.{_≡_, refl, ap, sym, _∙_, subst}
 use mathlib.Core.List.{List, [], _∷_, _++_}
 use Prim.Native.Nat.{ℕ}
-use Rattle.recorder.specs.Record.{Signal, Expr, Stmt}
-use Rattle.recorder.specs.Writer.{Event, Event.signal, Event.expr, Event.stmt, Count, further, End, End.ok, End.no, Out, Writer, pure, refuse, declare, emit, state, after, _>>=_}
+use Rattle.recorder.specs.Record.{Signal, Stmt}
+use Rattle.recorder.specs.Writer.{Event, Event.signal, Event.expr, Event.stmt, Count, further, End, End.ok, End.no, Out, Writer, pure, refuse, declare, state, after, _>>=_}
 use Rattle.recorder.specs.Meaning.{Ends}
 use Rattle.meaning.specs.Settles.{Gets}
 use Rattle.meaning.specs.Writes.{Writes}
@@ -18,9 +18,6 @@ module _ {n : Count} where
 
   pub writes-declare : {s : Signal} {P : ℕ → List Event → Type 0} → P (n .signals) (signal s ∷ []) → Writes n (declare s) P
   writes-declare h = record { writes = h }
-
-  pub writes-emit : {x : Expr} {P : ℕ → List Event → Type 0} → P (n .exprs) (expr x ∷ []) → Writes n (emit x) P
-  writes-emit h = record { writes = h }
 
   pub writes-state : {t : Stmt} {P : Unit {0} → List Event → Type 0} → P tt (stmt t ∷ []) → Writes n (state t) P
   writes-state h = record { writes = h }

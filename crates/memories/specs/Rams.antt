@@ -8,7 +8,7 @@ use Rattle.refusal.specs.Refusal.{numberOf, placeOf}
 use Rattle.netlist.specs.declared.Bit.{Bit}
 use Rattle.netlist.specs.declared.Control.{Control}
 use Rattle.netlist.specs.Netlist.{SecondPort, BlockRam, DistributedRam}
-use Rattle.netlist.specs.Fields.{whenSet, wordAt, bitAt, bitsAt, wiresAt, controlAt, optionalControlAt, firstSize, secondPortAt}
+use Rattle.netlist.specs.Fields.{wordAt, bitAt, bitsAt, wiresAt, controlAt}
 use Rattle.recorder.specs.declared.Tapes.{Tapes}
 use Rattle.recorder.specs.declared.Stated.{Stated}
 use Rattle.recorder.specs.declared.Stated.the-variants as S
@@ -36,9 +36,6 @@ use Rattle.memories.specs.Memories.{Word, PortExprs, writeSecond, ramWor
 
 abbrev pub WroteWords : {A : Type 0} → List ℕ → List ℕ → Tapes → Writer A → Answer A → List ℕ → List ℕ → Type 0
 WroteWords s e t w r s′ e′ = (m : List ℕ) → Wrote (lists s e m) t w r (lists s′ e′ m)
-
-abbrev pub WrotePort : {A : Type 0} → List ℕ → List ℕ → Tapes → Writer A → Answer A → List ℕ → List ℕ → Type 0
-WrotePort e m t w r e′ m′ = (s : List ℕ) → Wrote (lists s e m) t w r (lists s e′ m′)
 
 -- ---- the expressions of a port, with the wires that it reads to and its read enable
 
@@ -147,25 +144,6 @@ readRegister m z output enable v clock edge = do
   state (reg (r .signal) v clock edge none en)
 
 -- ---- the cells at an index
-
-abbrev pub ramAt : List ℕ → ℕ → BlockRam
-ramAt words i =
-    let width = wordAt words (i + 2) in
-    record {
-      depth = wordAt words (i + 1);
-      width = width;
-      physical = wordAt words (i + 3);
-      writeAddress = bitsAt words (i + 4) 14;
-      write = controlAt words (i + 18);
-      readAddress = bitsAt words (i + 20) 14;
-      readEnable = optionalControlAt words (i + 34);
-      clockEnable = optionalControlAt words (i + 37);
-      clock = bitAt words (i + 40);
-      edge = wordAt words (i + 41);
-      second = whenSet (wordAt words (i + 42)) (secondPortAt words (i + firstSize words width) width);
-      input = bitsAt words (i + 43) width;
-      output = wiresAt words (i + (43 + width)) width;
-    }
 
 abbrev pub dramAt : List ℕ → ℕ → DistributedRam
 dramAt words i = record {

@@ -27,11 +27,11 @@ use wires::expressions::bit_signal;
 ghost use mathlib.Core.Path.{_≡_};
 ghost use Prim.Native.Nat.{_+_, _≤_, max};
 ghost use lib.ListN.{length};
-ghost use Rattle.netlist.specs.Fields.{wordAt};
-ghost use Rattle.recorder.specs.Lists.{lists, Wrote, stated};
+ghost use Rattle.netlist.specs.Fields.{wordAt, ramAt};
+ghost use Rattle.recorder.specs.Lists.{lists, Wrote, stated, WroteBoth};
 ghost use Rattle.wires.specs.Wires.{wiresOf};
 ghost use Rattle.memories.specs.Memories.{emitBlockRam};
-ghost use Rattle.memories.specs.Rams.{WrotePort, portOf, secondOf, lastOf, wordsOf, Spaced, workOf, blockRamIn, ramAt};
+ghost use Rattle.memories.specs.Rams.{portOf, secondOf, lastOf, wordsOf, Spaced, workOf, blockRamIn};
 ghost use Rattle.memories.specs.Steps.{secondAt, ramReads, ramBody};
 
 // Both ports read the words, which then take their next values.
@@ -52,7 +52,7 @@ fn reads_and_updates(
     at: usize,
 ) -> Stated
     requires { ⌜ (made .depth ≤ length (now matched)) × (made .depth ≤ length (now value)) × Spaced made ⌝ }
-    ensures { λ r. ⌜ WrotePort (now (exprs .entry)) (now (stmts .entry)) t (ramReads (wiresOf (now (signals .entry)) (now (places .entry))) constants (portOf (ramAt (now (words .entry)) at .output) (ramAt (now (words .entry)) at .readEnable) first) (secondOf (secondAt (now (words .entry)) at .output) (secondAt (now (words .entry)) at .readEnable) second) (shape .width) (shape .address) (shape .clock .0) (shape .edge) (wordsOf made)) (stated r) (now (exprs .exit)) (now (stmts .exit)) ⌝ }
+    ensures { λ r. ⌜ WroteBoth (now (exprs .entry)) (now (stmts .entry)) t (ramReads (wiresOf (now (signals .entry)) (now (places .entry))) constants (portOf (ramAt (now (words .entry)) at .output) (ramAt (now (words .entry)) at .readEnable) first) (secondOf (secondAt (now (words .entry)) at .output) (secondAt (now (words .entry)) at .readEnable) second) (shape .width) (shape .address) (shape .clock .0) (shape .edge) (wordsOf made)) (stated r) (now (exprs .exit)) (now (stmts .exit)) ⌝ }
 {
     let reads = first.reads;
     let clock = shape.clock;

@@ -24,10 +24,10 @@ use wires::expressions::bit_signal;
 ghost use mathlib.Core.List.{[]};
 ghost use Prim.Native.Nat.{ℕ, _≤_};
 ghost use lib.ListN.{length};
-ghost use Rattle.recorder.specs.Lists.{lists, Wrote, WroteExprs, emitted, stated};
+ghost use Rattle.recorder.specs.Lists.{lists, Wrote, WroteExprs, emitted, stated, WroteBoth};
 ghost use Rattle.wires.specs.Wires.{wiresOf};
 ghost use Rattle.memories.specs.Memories.{dramWords, dramSelect};
-ghost use Rattle.memories.specs.Rams.{WrotePort, writing, worded, wordsFrom, reach, distributedRamIn, dramAt};
+ghost use Rattle.memories.specs.Rams.{writing, worded, wordsFrom, reach, distributedRamIn, dramAt};
 ghost use Rattle.memories.specs.Steps.{dramWord, FilledAll, selectOne, dramRead, dramBody};
 
 // The word at an index, with its register.
@@ -151,7 +151,7 @@ fn dram_read(
     output: u32,
 ) -> Stated
     requires { ⌜ reach (current .0) 4 16 ≤ 2147483648 ⌝ }
-    ensures { λ r. ⌜ ((s : ℕ) → WrotePort (now (exprs .entry)) (now (stmts .entry)) t (dramRead (wiresOf (now (signals .entry)) (now (places .entry))) (reads .0) output (wordsFrom s (current .0) 4 16)) (stated r) (now (exprs .exit)) (now (stmts .exit))) ⌝ }
+    ensures { λ r. ⌜ ((s : ℕ) → WroteBoth (now (exprs .entry)) (now (stmts .entry)) t (dramRead (wiresOf (now (signals .entry)) (now (places .entry))) (reads .0) output (wordsFrom s (current .0) 4 16)) (stated r) (now (exprs .exit)) (now (stmts .exit))) ⌝ }
 {
     match builder::constant(exprs, t, 4, 0) {
         Emitted::Done(e, t2) => match dram_select(exprs, t2, reads, current, e) {

@@ -17,12 +17,12 @@ ghost use mathlib.Core.Path.{_≡_};
 ghost use mathlib.Core.Option.{none};
 ghost use Prim.Native.Nat.{_+_, _≤_};
 ghost use lib.ListN.{length};
-ghost use Rattle.netlist.specs.Fields.{wordAt, bitsAt, controlAt, firstSize};
+ghost use Rattle.netlist.specs.Fields.{wordAt, bitsAt, controlAt, firstSize, ramAt};
 ghost use Rattle.recorder.specs.Lists.{WroteExprs, emitted};
 ghost use Rattle.wires.specs.Wires.{wiresOf};
 ghost use Rattle.wires.specs.Expressions.{assertedExpression, vectorExpression, bitsExpression};
 ghost use Rattle.memories.specs.Memories.{secondExprs};
-ghost use Rattle.memories.specs.Rams.{ported, seconded, firstExprs, dramExprs, ramAt, dramAt};
+ghost use Rattle.memories.specs.Rams.{ported, seconded, firstExprs, dramExprs, dramAt};
 ghost use Rattle.memories.specs.Steps.{secondAt};
 
 // The n bits at an offset of a record.

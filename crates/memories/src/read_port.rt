@@ -27,12 +27,12 @@ use wires::map::wire_ref;
 ghost use mathlib.Core.Path.{_≡_};
 ghost use Prim.Native.Nat.{_+_, _≤_};
 ghost use lib.ListN.{length, getD};
-ghost use Rattle.netlist.specs.Fields.{wiresAt};
+ghost use Rattle.netlist.specs.Fields.{wiresAt, ramAt};
 ghost use Rattle.netlist.specs.FieldForms.{presence};
-ghost use Rattle.recorder.specs.Lists.{WroteExprs, WroteStmts, emitted, stated};
+ghost use Rattle.recorder.specs.Lists.{WroteExprs, WroteStmts, emitted, stated, WroteBoth};
 ghost use Rattle.wires.specs.Wires.{wiresOf};
 ghost use Rattle.memories.specs.Memories.{emitBlockRamReadPort, emitSecondReadPort};
-ghost use Rattle.memories.specs.Rams.{WrotePort, reading, secondOf, wordsOf, Spaced, selectWord, readRegister, ramAt};
+ghost use Rattle.memories.specs.Rams.{reading, secondOf, wordsOf, Spaced, selectWord, readRegister};
 ghost use Rattle.memories.specs.Steps.{secondAt, enabledRegister};
 
 // The word at an address, or zero.
@@ -156,7 +156,7 @@ pub fn emit_block_ram_read_port(
     enable: OptionalControl,
 ) -> Stated
     requires { ⌜ (made .depth ≤ length (now matched)) × (made .depth ≤ length (now value)) × Spaced made ⌝ }
-    ensures { λ r. ⌜ WrotePort (now (exprs .entry)) (now (stmts .entry)) t (emitBlockRamReadPort (wiresOf (now (signals .entry)) (now (places .entry))) constants (reading (reads .0) output (presence enable)) (wordsOf made) (shape .width) (shape .address) (shape .clock .0) (shape .edge)) (stated r) (now (exprs .exit)) (now (stmts .exit)) ⌝ }
+    ensures { λ r. ⌜ WroteBoth (now (exprs .entry)) (now (stmts .entry)) t (emitBlockRamReadPort (wiresOf (now (signals .entry)) (now (places .entry))) constants (reading (reads .0) output (presence enable)) (wordsOf made) (shape .width) (shape .address) (shape .clock .0) (shape .edge)) (stated r) (now (exprs .exit)) (now (stmts .exit)) ⌝ }
 {
     let clock = shape.clock;
     match select_word(
@@ -212,7 +212,7 @@ pub fn first_read_port(
     at: usize,
 ) -> Stated
     requires { ⌜ (made .depth ≤ length (now matched)) × (made .depth ≤ length (now value)) × Spaced made ⌝ }
-    ensures { λ r. ⌜ WrotePort (now (exprs .entry)) (now (stmts .entry)) t (emitBlockRamReadPort (wiresOf (now (signals .entry)) (now (places .entry))) constants (reading (reads .0) (getD (ramAt (now (words .entry)) at .output) 0 0) (ramAt (now (words .entry)) at .readEnable)) (wordsOf made) (shape .width) (shape .address) (shape .clock .0) (shape .edge)) (stated r) (now (exprs .exit)) (now (stmts .exit)) ⌝ }
+    ensures { λ r. ⌜ WroteBoth (now (exprs .entry)) (now (stmts .entry)) t (emitBlockRamReadPort (wiresOf (now (signals .entry)) (now (places .entry))) constants (reading (reads .0) (getD (ramAt (now (words .entry)) at .output) 0 0) (ramAt (now (words .entry)) at .readEnable)) (wordsOf made) (shape .width) (shape .address) (shape .clock .0) (shape .edge)) (stated r) (now (exprs .exit)) (now (stmts .exit)) ⌝ }
 {
     let width = field(words, at, 2);
     let offset = 43 + wide(width);
@@ -252,7 +252,7 @@ pub fn second_read_port(
     at: usize,
 ) -> Stated
     requires { ⌜ (made .depth ≤ length (now matched)) × (made .depth ≤ length (now value)) × Spaced made ⌝ }
-    ensures { λ r. ⌜ WrotePort (now (exprs .entry)) (now (stmts .entry)) t (emitSecondReadPort (wiresOf (now (signals .entry)) (now (places .entry))) constants (secondOf (secondAt (now (words .entry)) at .output) (secondAt (now (words .entry)) at .readEnable) second) (wordsOf made) (shape .width) (shape .address) (shape .clock .0) (shape .edge)) (stated r) (now (exprs .exit)) (now (stmts .exit)) ⌝ }
+    ensures { λ r. ⌜ WroteBoth (now (exprs .entry)) (now (stmts .entry)) t (emitSecondReadPort (wiresOf (now (signals .entry)) (now (places .entry))) constants (secondOf (secondAt (now (words .entry)) at .output) (secondAt (now (words .entry)) at .readEnable) second) (wordsOf made) (shape .width) (shape .address) (shape .clock .0) (shape .edge)) (stated r) (now (exprs .exit)) (now (stmts .exit)) ⌝ }
 {
     match second {
         Second::Absent => Stated::Done(t),

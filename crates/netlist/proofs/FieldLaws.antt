@@ -268,9 +268,6 @@ module _ (limits : Limits) (words : List ℕ) (end : ℕ) where
   pub cell-law : (i j : ℕ) (c : Cell) → Reader.readCell limits words end i ≡ got c j → (c ≡ cellAt words i) × (j ≡ cellEnd words i)
   cell-law i j c e = gives-got _ _ _ c j (gives-cell i) e
 
-  pub port-law : (i j : ℕ) (p : Port) → Reader.readPort limits words end i ≡ got p j → (p ≡ portAt words i) × (j ≡ portEnd words i)
-  port-law i j p e = gives-got _ _ _ p j (gives-port i) e
-
   -- a section that was read: its records, and its end
   pub record Section {A : Type 0} (p : Parser A) (value : ℕ → A) (next : ℕ → ℕ) (count start : ℕ) (l : List A) : Type 0 where
     pub all : many count p start ≡ got l end

@@ -3,12 +3,7 @@ use mathlib.Core.Path.{_≡_, refl}
 use mathlib.Core.List.{List, [], _∷_, map}
 use mathlib.Core.Option.{Option, none, some}
 use Prim.Native.Nat.{ℕ}
-use Rattle.netlist.specs.ReaderChecks.{reading}
-
--- words, and the refusal's number and place, or none for a netlist that is read
-pub record Row : Type 0 where
-  pub words : List ℕ
-  pub refused : Option (ℕ × ℕ)
+use Rattle.netlist.specs.ReaderChecks.{reading, Row}
 
 -- a block RAM alone, of this depth and physical width, one bit wide, with one port; its read wire is 7
 abbrev pub ramOf : ℕ → ℕ → List ℕ

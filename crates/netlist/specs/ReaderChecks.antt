@@ -27,167 +27,124 @@ worked-example = refl
 widths : map addressWidth (1 ∷ 2 ∷ 3 ∷ 4 ∷ 5 ∷ 1024 ∷ 1025 ∷ 16384 ∷ []) ≡ (1 ∷ 1 ∷ 2 ∷ 2 ∷ 3 ∷ 10 ∷ 11 ∷ 14 ∷ [])
 widths = refl
 
-empty-input : reading ([]) ≡ some (3, 0)
-empty-input = refl
+-- words, and the refusal's number and place, or none
+pub record Row : Type 0 where
+  pub words : List ℕ
+  pub refused : Option (ℕ × ℕ)
 
-three-words : reading (0 ∷ 0 ∷ 0 ∷ []) ≡ some (3, 0)
-three-words = refl
+abbrev pub rows : List Row
+rows =
+    -- empty input
+    record { words = []; refused = some (3, 0) } ∷
+    -- three words
+    record { words = 0 ∷ 0 ∷ 0 ∷ []; refused = some (3, 0) } ∷
+    -- no ports no cells
+    record { words = 0 ∷ 0 ∷ 0 ∷ 0 ∷ []; refused = none } ∷
+    -- ports start 1
+    record { words = 1 ∷ 0 ∷ 0 ∷ 0 ∷ []; refused = some (3, 0) } ∷
+    -- ports 257
+    record { words = 0 ∷ 257 ∷ 0 ∷ 0 ∷ []; refused = some (3, 0) } ∷
+    -- cells 4097
+    record { words = 0 ∷ 0 ∷ 0 ∷ 4097 ∷ []; refused = some (3, 0) } ∷
+    -- cells start past
+    record { words = 0 ∷ 0 ∷ 1 ∷ 0 ∷ []; refused = some (3, 0) } ∷
+    -- cells start huge
+    record { words = 0 ∷ 0 ∷ 4294967295 ∷ 0 ∷ []; refused = some (3, 0) } ∷
+    -- port missing
+    record { words = 0 ∷ 1 ∷ 0 ∷ 0 ∷ []; refused = some (4, 0) } ∷
+    -- cell missing
+    record { words = 0 ∷ 0 ∷ 0 ∷ 1 ∷ []; refused = some (4, 0) } ∷
+    -- left in ports
+    record { words = 0 ∷ 0 ∷ 0 ∷ 1 ∷ 0 ∷ []; refused = some (4, 0) } ∷
+    -- left in cells
+    record { words = 0 ∷ 0 ∷ 0 ∷ 0 ∷ 0 ∷ []; refused = some (4, 0) } ∷
+    -- left after port
+    record { words = 0 ∷ 1 ∷ 2 ∷ 7 ∷ 0 ∷ 1 ∷ 4 ∷ 0 ∷ []; refused = some (4, 3) } ∷
+    -- left after cell
+    record { words = 0 ∷ 0 ∷ 0 ∷ 0 ∷ 0 ∷ 0 ∷ 0 ∷ 9 ∷ 0 ∷ 0 ∷ 0 ∷ 1 ∷ []; refused = some (4, 7) } ∷
+    -- port runs into cells
+    record { words = 0 ∷ 2 ∷ 2 ∷ 0 ∷ 1 ∷ 3 ∷ 0 ∷ []; refused = some (4, 3) } ∷
+    -- port runs into cells 2
+    record { words = 0 ∷ 2 ∷ 2 ∷ 0 ∷ 0 ∷ 0 ∷ 0 ∷ 0 ∷ 0 ∷ 0 ∷ 0 ∷ 1 ∷ 3 ∷ 1 ∷ []; refused = some (4, 3) } ∷
+    -- bad before missing
+    record { words = 0 ∷ 9 ∷ 2 ∷ 99999 ∷ 0 ∷ 1 ∷ 4 ∷ 0 ∷ []; refused = some (5, 3) } ∷
+    -- ports before cells
+    record { words = 0 ∷ 1 ∷ 2 ∷ 7 ∷ 77 ∷ 0 ∷ 1 ∷ 4 ∷ 1 ∷ []; refused = some (4, 3) } ∷
+    -- direction 3
+    record { words = 3 ∷ 1 ∷ 2 ∷ 0 ∷ 1 ∷ 3 ∷ 0 ∷ []; refused = some (5, 0) } ∷
+    -- width 0
+    record { words = 0 ∷ 0 ∷ 0 ∷ 1 ∷ 2 ∷ 0 ∷ []; refused = some (5, 1) } ∷
+    -- width 257
+    record { words = 0 ∷ 257 ∷ 0 ∷ 1 ∷ 2 ∷ 0 ∷ []; refused = some (5, 1) } ∷
+    -- width 256 short
+    record { words = 0 ∷ 256 ∷ 0 ∷ 1 ∷ 2 ∷ 0 ∷ []; refused = some (4, 2) } ∷
+    -- bit 16385
+    record { words = 0 ∷ 1 ∷ 16385 ∷ 0 ∷ 1 ∷ 3 ∷ 0 ∷ []; refused = none } ∷
+    -- bit 16386
+    record { words = 0 ∷ 1 ∷ 16386 ∷ 0 ∷ 1 ∷ 3 ∷ 0 ∷ []; refused = some (5, 2) } ∷
+    -- kind 11
+    record { words = 11 ∷ 0 ∷ 0 ∷ 0 ∷ 1 ∷ []; refused = some (5, 0) } ∷
+    -- lut wire 16383
+    record { words = 0 ∷ 0 ∷ 0 ∷ 0 ∷ 0 ∷ 16383 ∷ 0 ∷ 0 ∷ 0 ∷ 0 ∷ 1 ∷ []; refused = none } ∷
+    -- lut wire 16384
+    record { words = 0 ∷ 0 ∷ 0 ∷ 0 ∷ 0 ∷ 16384 ∷ 0 ∷ 0 ∷ 0 ∷ 0 ∷ 1 ∷ []; refused = some (5, 5) } ∷
+    -- lut init 65536
+    record { words = 0 ∷ 0 ∷ 0 ∷ 0 ∷ 0 ∷ 0 ∷ 65536 ∷ 0 ∷ 0 ∷ 0 ∷ 1 ∷ []; refused = some (5, 6) } ∷
+    -- ff absent enable word
+    record { words = 5 ∷ 0 ∷ 0 ∷ 0 ∷ 0 ∷ 0 ∷ 0 ∷ 1 ∷ 0 ∷ 0 ∷ 0 ∷ 0 ∷ 0 ∷ 0 ∷ 0 ∷ 0 ∷ 1 ∷ []; refused = some (5, 7) } ∷
+    -- ff absent enable wire
+    record { words = 5 ∷ 0 ∷ 0 ∷ 0 ∷ 0 ∷ 0 ∷ 2 ∷ 0 ∷ 0 ∷ 0 ∷ 0 ∷ 0 ∷ 0 ∷ 0 ∷ 0 ∷ 0 ∷ 1 ∷ []; refused = some (5, 6) } ∷
+    -- ff absent reset value
+    record { words = 5 ∷ 0 ∷ 0 ∷ 0 ∷ 0 ∷ 0 ∷ 0 ∷ 0 ∷ 0 ∷ 0 ∷ 0 ∷ 0 ∷ 1 ∷ 0 ∷ 0 ∷ 0 ∷ 1 ∷ []; refused = some (5, 12) } ∷
+    -- ff edge 2
+    record { words = 5 ∷ 0 ∷ 0 ∷ 0 ∷ 2 ∷ 0 ∷ 0 ∷ 0 ∷ 0 ∷ 0 ∷ 0 ∷ 0 ∷ 0 ∷ 0 ∷ 0 ∷ 0 ∷ 1 ∷ []; refused = some (5, 4) } ∷
+    -- pll count 5
+    record { words = 10 ∷ 0 ∷ 0 ∷ 1 ∷ 2 ∷ 5 ∷ 0 ∷ 0 ∷ 0 ∷ 1 ∷ []; refused = some (5, 5) } ∷
+    -- ram depth 0
+    record { words = 6 ∷ 0 ∷ 1 ∷ 1 ∷ 0 ∷ 0 ∷ 0 ∷ 1 ∷ []; refused = some (5, 1) } ∷
+    -- ram depth 16385
+    record { words = 6 ∷ 16385 ∷ 1 ∷ 1 ∷ 0 ∷ 0 ∷ 0 ∷ 1 ∷ []; refused = some (5, 1) } ∷
+    -- ram width 0
+    record { words = 6 ∷ 1 ∷ 0 ∷ 1 ∷ 0 ∷ 0 ∷ 0 ∷ 1 ∷ []; refused = some (5, 2) } ∷
+    -- ram width 19
+    record { words = 6 ∷ 1 ∷ 19 ∷ 1 ∷ 0 ∷ 0 ∷ 0 ∷ 1 ∷ []; refused = some (5, 2) } ∷
+    -- ram physical 3
+    record { words = 6 ∷ 1 ∷ 1 ∷ 3 ∷ 0 ∷ 0 ∷ 0 ∷ 1 ∷ []; refused = some (5, 3) } ∷
+    -- ram 18 1025
+    record { words = 6 ∷ 1025 ∷ 1 ∷ 18 ∷ 0 ∷ 0 ∷ 0 ∷ 1 ∷ []; refused = some (5, 3) } ∷
+    -- ram 18 1024 form
+    record { words = 6 ∷ 1024 ∷ 1 ∷ 18 ∷ 0 ∷ 0 ∷ 0 ∷ 1 ∷ []; refused = some (4, 4) } ∷
+    -- ram 9 2048 form
+    record { words = 6 ∷ 2048 ∷ 1 ∷ 9 ∷ 0 ∷ 0 ∷ 0 ∷ 1 ∷ []; refused = some (4, 4) } ∷
+    -- ram 9 2049
+    record { words = 6 ∷ 2049 ∷ 1 ∷ 9 ∷ 0 ∷ 0 ∷ 0 ∷ 1 ∷ []; refused = some (5, 3) } ∷
+    -- ram 1 16384 form
+    record { words = 6 ∷ 16384 ∷ 1 ∷ 1 ∷ 0 ∷ 0 ∷ 0 ∷ 1 ∷ []; refused = some (4, 4) } ∷
+    -- ram 2 16384
+    record { words = 6 ∷ 16384 ∷ 1 ∷ 2 ∷ 0 ∷ 0 ∷ 0 ∷ 1 ∷ []; refused = some (5, 3) } ∷
+    -- ccu zero
+    record { words = 3 ∷ 0 ∷ 0 ∷ 0 ∷ 0 ∷ 0 ∷ 0 ∷ 0 ∷ 0 ∷ 0 ∷ 0 ∷ 1 ∷ 2 ∷ 0 ∷ 0 ∷ 0 ∷ 0 ∷ 0 ∷ 0 ∷ 0 ∷ 1 ∷ []; refused = none } ∷
+    -- mul constants
+    record { words = 4 ∷ 0 ∷ 0 ∷ 0 ∷ 0 ∷ 0 ∷ 0 ∷ 0 ∷ 0 ∷ 0 ∷ 0 ∷ 0 ∷ 0 ∷ 0 ∷ 0 ∷ 0 ∷ 0 ∷ 0 ∷ 0 ∷ 1 ∷ 1 ∷ 1 ∷ 1 ∷ 1 ∷ 1 ∷ 1 ∷ 1 ∷ 1 ∷ 1 ∷ 1 ∷ 1 ∷ 1 ∷ 1 ∷ 1 ∷ 1 ∷ 1 ∷ 1 ∷ 0 ∷ 1 ∷ 2 ∷ 3 ∷ 4 ∷ 5 ∷ 6 ∷ 7 ∷ 8 ∷ 9 ∷ 10 ∷ 11 ∷ 12 ∷ 13 ∷ 14 ∷ 15 ∷ 16 ∷ 17 ∷ 18 ∷ 19 ∷ 20 ∷ 21 ∷ 22 ∷ 23 ∷ 24 ∷ 25 ∷ 26 ∷ 27 ∷ 28 ∷ 29 ∷ 30 ∷ 31 ∷ 32 ∷ 33 ∷ 34 ∷ 35 ∷ 0 ∷ 0 ∷ 0 ∷ 1 ∷ []; refused = none } ∷
+    -- jtagg
+    record { words = 9 ∷ 0 ∷ 1 ∷ 2 ∷ 3 ∷ 4 ∷ 5 ∷ 6 ∷ 7 ∷ 8 ∷ 0 ∷ 0 ∷ 0 ∷ 1 ∷ []; refused = none } ∷
+    -- io
+    record { words = 2 ∷ 1 ∷ 2 ∷ 8 ∷ 0 ∷ 1 ∷ 4 ∷ 0 ∷ 0 ∷ 1 ∷ 3 ∷ 1 ∷ []; refused = none } ∷
+    -- ff sync enable
+    record { words = 0 ∷ 1 ∷ 2 ∷ 0 ∷ 1 ∷ 3 ∷ 5 ∷ 0 ∷ 4 ∷ 2 ∷ 0 ∷ 1 ∷ 3 ∷ 0 ∷ 1 ∷ 3 ∷ 1 ∷ 0 ∷ 1 ∷ 0 ∷ 2 ∷ 6 ∷ 1 ∷ []; refused = none } ∷
+    -- ram depth 1
+    record { words = 6 ∷ 1 ∷ 1 ∷ 1 ∷ 0 ∷ 0 ∷ 0 ∷ 0 ∷ 0 ∷ 0 ∷ 0 ∷ 0 ∷ 0 ∷ 0 ∷ 0 ∷ 0 ∷ 0 ∷ 0 ∷ 0 ∷ 1 ∷ 0 ∷ 0 ∷ 0 ∷ 0 ∷ 0 ∷ 0 ∷ 0 ∷ 0 ∷ 0 ∷ 0 ∷ 0 ∷ 0 ∷ 0 ∷ 0 ∷ 0 ∷ 0 ∷ 0 ∷ 0 ∷ 0 ∷ 0 ∷ 0 ∷ 0 ∷ 0 ∷ 0 ∷ 7 ∷ 0 ∷ 0 ∷ 0 ∷ 1 ∷ []; refused = none } ∷
+    -- dram second
+    record { words = 7 ∷ 0 ∷ 0 ∷ 0 ∷ 0 ∷ 0 ∷ 0 ∷ 0 ∷ 0 ∷ 0 ∷ 1 ∷ 0 ∷ 0 ∷ 0 ∷ 0 ∷ 0 ∷ 1 ∷ 2 ∷ 3 ∷ 0 ∷ 0 ∷ 1 ∷ 0 ∷ 0 ∷ 0 ∷ 1 ∷ []; refused = none } ∷
+    -- ram clock differs
+    record { words = 6 ∷ 1 ∷ 1 ∷ 1 ∷ 0 ∷ 0 ∷ 0 ∷ 0 ∷ 0 ∷ 0 ∷ 0 ∷ 0 ∷ 0 ∷ 0 ∷ 0 ∷ 0 ∷ 0 ∷ 0 ∷ 0 ∷ 1 ∷ 0 ∷ 0 ∷ 0 ∷ 0 ∷ 0 ∷ 0 ∷ 0 ∷ 0 ∷ 0 ∷ 0 ∷ 0 ∷ 0 ∷ 0 ∷ 0 ∷ 0 ∷ 0 ∷ 0 ∷ 0 ∷ 0 ∷ 0 ∷ 0 ∷ 0 ∷ 1 ∷ 0 ∷ 7 ∷ 0 ∷ 0 ∷ 0 ∷ 0 ∷ 0 ∷ 0 ∷ 0 ∷ 0 ∷ 0 ∷ 0 ∷ 0 ∷ 0 ∷ 0 ∷ 0 ∷ 0 ∷ 1 ∷ 0 ∷ 0 ∷ 0 ∷ 0 ∷ 0 ∷ 0 ∷ 1 ∷ 0 ∷ 0 ∷ 8 ∷ 0 ∷ 0 ∷ 0 ∷ 1 ∷ []; refused = some (6, 0) } ∷
+    -- ram edge differs
+    record { words = 6 ∷ 1 ∷ 1 ∷ 1 ∷ 0 ∷ 0 ∷ 0 ∷ 0 ∷ 0 ∷ 0 ∷ 0 ∷ 0 ∷ 0 ∷ 0 ∷ 0 ∷ 0 ∷ 0 ∷ 0 ∷ 0 ∷ 1 ∷ 0 ∷ 0 ∷ 0 ∷ 0 ∷ 0 ∷ 0 ∷ 0 ∷ 0 ∷ 0 ∷ 0 ∷ 0 ∷ 0 ∷ 0 ∷ 0 ∷ 0 ∷ 0 ∷ 0 ∷ 0 ∷ 0 ∷ 0 ∷ 0 ∷ 0 ∷ 1 ∷ 0 ∷ 7 ∷ 0 ∷ 0 ∷ 0 ∷ 0 ∷ 0 ∷ 0 ∷ 0 ∷ 0 ∷ 0 ∷ 0 ∷ 0 ∷ 0 ∷ 0 ∷ 0 ∷ 0 ∷ 1 ∷ 0 ∷ 0 ∷ 0 ∷ 0 ∷ 0 ∷ 0 ∷ 0 ∷ 1 ∷ 0 ∷ 8 ∷ 0 ∷ 0 ∷ 0 ∷ 1 ∷ []; refused = some (6, 0) } ∷
+    -- six before seven
+    record { words = 0 ∷ 2 ∷ 2 ∷ 2 ∷ 6 ∷ 1 ∷ 1 ∷ 1 ∷ 0 ∷ 0 ∷ 0 ∷ 0 ∷ 0 ∷ 0 ∷ 0 ∷ 0 ∷ 0 ∷ 0 ∷ 0 ∷ 0 ∷ 0 ∷ 0 ∷ 0 ∷ 1 ∷ 0 ∷ 0 ∷ 0 ∷ 0 ∷ 0 ∷ 0 ∷ 0 ∷ 0 ∷ 0 ∷ 0 ∷ 0 ∷ 0 ∷ 0 ∷ 0 ∷ 0 ∷ 0 ∷ 0 ∷ 0 ∷ 0 ∷ 0 ∷ 0 ∷ 0 ∷ 1 ∷ 0 ∷ 7 ∷ 0 ∷ 0 ∷ 0 ∷ 0 ∷ 0 ∷ 0 ∷ 0 ∷ 0 ∷ 0 ∷ 0 ∷ 0 ∷ 0 ∷ 0 ∷ 0 ∷ 0 ∷ 1 ∷ 0 ∷ 0 ∷ 0 ∷ 0 ∷ 0 ∷ 0 ∷ 0 ∷ 1 ∷ 0 ∷ 8 ∷ 0 ∷ 1 ∷ 4 ∷ 1 ∷ []; refused = some (6, 0) } ∷
+    -- pll more feedback
+    record { words = 0 ∷ 1 ∷ 2 ∷ 10 ∷ 2 ∷ 1 ∷ 2 ∷ 3 ∷ 2 ∷ 1 ∷ 2 ∷ 0 ∷ 1 ∷ 3 ∷ 1 ∷ []; refused = none } ∷
+    []
 
-no-ports-no-cells : reading (0 ∷ 0 ∷ 0 ∷ 0 ∷ []) ≡ none
-no-ports-no-cells = refl
-
-ports-start-1 : reading (1 ∷ 0 ∷ 0 ∷ 0 ∷ []) ≡ some (3, 0)
-ports-start-1 = refl
-
-ports-257 : reading (0 ∷ 257 ∷ 0 ∷ 0 ∷ []) ≡ some (3, 0)
-ports-257 = refl
-
-cells-4097 : reading (0 ∷ 0 ∷ 0 ∷ 4097 ∷ []) ≡ some (3, 0)
-cells-4097 = refl
-
-cells-start-past : reading (0 ∷ 0 ∷ 1 ∷ 0 ∷ []) ≡ some (3, 0)
-cells-start-past = refl
-
-cells-start-huge : reading (0 ∷ 0 ∷ 4294967295 ∷ 0 ∷ []) ≡ some (3, 0)
-cells-start-huge = refl
-
-port-missing : reading (0 ∷ 1 ∷ 0 ∷ 0 ∷ []) ≡ some (4, 0)
-port-missing = refl
-
-cell-missing : reading (0 ∷ 0 ∷ 0 ∷ 1 ∷ []) ≡ some (4, 0)
-cell-missing = refl
-
-left-in-ports : reading (0 ∷ 0 ∷ 0 ∷ 1 ∷ 0 ∷ []) ≡ some (4, 0)
-left-in-ports = refl
-
-left-in-cells : reading (0 ∷ 0 ∷ 0 ∷ 0 ∷ 0 ∷ []) ≡ some (4, 0)
-left-in-cells = refl
-
-left-after-port : reading (0 ∷ 1 ∷ 2 ∷ 7 ∷ 0 ∷ 1 ∷ 4 ∷ 0 ∷ []) ≡ some (4, 3)
-left-after-port = refl
-
-left-after-cell : reading (0 ∷ 0 ∷ 0 ∷ 0 ∷ 0 ∷ 0 ∷ 0 ∷ 9 ∷ 0 ∷ 0 ∷ 0 ∷ 1 ∷ []) ≡ some (4, 7)
-left-after-cell = refl
-
-port-runs-into-cells : reading (0 ∷ 2 ∷ 2 ∷ 0 ∷ 1 ∷ 3 ∷ 0 ∷ []) ≡ some (4, 3)
-port-runs-into-cells = refl
-
-port-runs-into-cells-2 : reading (0 ∷ 2 ∷ 2 ∷ 0 ∷ 0 ∷ 0 ∷ 0 ∷ 0 ∷ 0 ∷ 0 ∷ 0 ∷ 1 ∷ 3 ∷ 1 ∷ []) ≡ some (4, 3)
-port-runs-into-cells-2 = refl
-
-bad-before-missing : reading (0 ∷ 9 ∷ 2 ∷ 99999 ∷ 0 ∷ 1 ∷ 4 ∷ 0 ∷ []) ≡ some (5, 3)
-bad-before-missing = refl
-
-ports-before-cells : reading (0 ∷ 1 ∷ 2 ∷ 7 ∷ 77 ∷ 0 ∷ 1 ∷ 4 ∷ 1 ∷ []) ≡ some (4, 3)
-ports-before-cells = refl
-
-direction-3 : reading (3 ∷ 1 ∷ 2 ∷ 0 ∷ 1 ∷ 3 ∷ 0 ∷ []) ≡ some (5, 0)
-direction-3 = refl
-
-width-0 : reading (0 ∷ 0 ∷ 0 ∷ 1 ∷ 2 ∷ 0 ∷ []) ≡ some (5, 1)
-width-0 = refl
-
-width-257 : reading (0 ∷ 257 ∷ 0 ∷ 1 ∷ 2 ∷ 0 ∷ []) ≡ some (5, 1)
-width-257 = refl
-
-width-256-short : reading (0 ∷ 256 ∷ 0 ∷ 1 ∷ 2 ∷ 0 ∷ []) ≡ some (4, 2)
-width-256-short = refl
-
-bit-16385 : reading (0 ∷ 1 ∷ 16385 ∷ 0 ∷ 1 ∷ 3 ∷ 0 ∷ []) ≡ none
-bit-16385 = refl
-
-bit-16386 : reading (0 ∷ 1 ∷ 16386 ∷ 0 ∷ 1 ∷ 3 ∷ 0 ∷ []) ≡ some (5, 2)
-bit-16386 = refl
-
-kind-11 : reading (11 ∷ 0 ∷ 0 ∷ 0 ∷ 1 ∷ []) ≡ some (5, 0)
-kind-11 = refl
-
-lut-wire-16383 : reading (0 ∷ 0 ∷ 0 ∷ 0 ∷ 0 ∷ 16383 ∷ 0 ∷ 0 ∷ 0 ∷ 0 ∷ 1 ∷ []) ≡ none
-lut-wire-16383 = refl
-
-lut-wire-16384 : reading (0 ∷ 0 ∷ 0 ∷ 0 ∷ 0 ∷ 16384 ∷ 0 ∷ 0 ∷ 0 ∷ 0 ∷ 1 ∷ []) ≡ some (5, 5)
-lut-wire-16384 = refl
-
-lut-init-65536 : reading (0 ∷ 0 ∷ 0 ∷ 0 ∷ 0 ∷ 0 ∷ 65536 ∷ 0 ∷ 0 ∷ 0 ∷ 1 ∷ []) ≡ some (5, 6)
-lut-init-65536 = refl
-
-ff-absent-enable-word : reading (5 ∷ 0 ∷ 0 ∷ 0 ∷ 0 ∷ 0 ∷ 0 ∷ 1 ∷ 0 ∷ 0 ∷ 0 ∷ 0 ∷ 0 ∷ 0 ∷ 0 ∷ 0 ∷ 1 ∷ []) ≡ some (5, 7)
-ff-absent-enable-word = refl
-
-ff-absent-enable-wire : reading (5 ∷ 0 ∷ 0 ∷ 0 ∷ 0 ∷ 0 ∷ 2 ∷ 0 ∷ 0 ∷ 0 ∷ 0 ∷ 0 ∷ 0 ∷ 0 ∷ 0 ∷ 0 ∷ 1 ∷ []) ≡ some (5, 6)
-ff-absent-enable-wire = refl
-
-ff-absent-reset-value : reading (5 ∷ 0 ∷ 0 ∷ 0 ∷ 0 ∷ 0 ∷ 0 ∷ 0 ∷ 0 ∷ 0 ∷ 0 ∷ 0 ∷ 1 ∷ 0 ∷ 0 ∷ 0 ∷ 1 ∷ []) ≡ some (5, 12)
-ff-absent-reset-value = refl
-
-ff-edge-2 : reading (5 ∷ 0 ∷ 0 ∷ 0 ∷ 2 ∷ 0 ∷ 0 ∷ 0 ∷ 0 ∷ 0 ∷ 0 ∷ 0 ∷ 0 ∷ 0 ∷ 0 ∷ 0 ∷ 1 ∷ []) ≡ some (5, 4)
-ff-edge-2 = refl
-
-pll-count-5 : reading (10 ∷ 0 ∷ 0 ∷ 1 ∷ 2 ∷ 5 ∷ 0 ∷ 0 ∷ 0 ∷ 1 ∷ []) ≡ some (5, 5)
-pll-count-5 = refl
-
-ram-depth-0 : reading (6 ∷ 0 ∷ 1 ∷ 1 ∷ 0 ∷ 0 ∷ 0 ∷ 1 ∷ []) ≡ some (5, 1)
-ram-depth-0 = refl
-
-ram-depth-16385 : reading (6 ∷ 16385 ∷ 1 ∷ 1 ∷ 0 ∷ 0 ∷ 0 ∷ 1 ∷ []) ≡ some (5, 1)
-ram-depth-16385 = refl
-
-ram-width-0 : reading (6 ∷ 1 ∷ 0 ∷ 1 ∷ 0 ∷ 0 ∷ 0 ∷ 1 ∷ []) ≡ some (5, 2)
-ram-width-0 = refl
-
-ram-width-19 : reading (6 ∷ 1 ∷ 19 ∷ 1 ∷ 0 ∷ 0 ∷ 0 ∷ 1 ∷ []) ≡ some (5, 2)
-ram-width-19 = refl
-
-ram-physical-3 : reading (6 ∷ 1 ∷ 1 ∷ 3 ∷ 0 ∷ 0 ∷ 0 ∷ 1 ∷ []) ≡ some (5, 3)
-ram-physical-3 = refl
-
-ram-18-1025 : reading (6 ∷ 1025 ∷ 1 ∷ 18 ∷ 0 ∷ 0 ∷ 0 ∷ 1 ∷ []) ≡ some (5, 3)
-ram-18-1025 = refl
-
-ram-18-1024-form : reading (6 ∷ 1024 ∷ 1 ∷ 18 ∷ 0 ∷ 0 ∷ 0 ∷ 1 ∷ []) ≡ some (4, 4)
-ram-18-1024-form = refl
-
-ram-9-2048-form : reading (6 ∷ 2048 ∷ 1 ∷ 9 ∷ 0 ∷ 0 ∷ 0 ∷ 1 ∷ []) ≡ some (4, 4)
-ram-9-2048-form = refl
-
-ram-9-2049 : reading (6 ∷ 2049 ∷ 1 ∷ 9 ∷ 0 ∷ 0 ∷ 0 ∷ 1 ∷ []) ≡ some (5, 3)
-ram-9-2049 = refl
-
-ram-1-16384-form : reading (6 ∷ 16384 ∷ 1 ∷ 1 ∷ 0 ∷ 0 ∷ 0 ∷ 1 ∷ []) ≡ some (4, 4)
-ram-1-16384-form = refl
-
-ram-2-16384 : reading (6 ∷ 16384 ∷ 1 ∷ 2 ∷ 0 ∷ 0 ∷ 0 ∷ 1 ∷ []) ≡ some (5, 3)
-ram-2-16384 = refl
-
-ccu-zero : reading (3 ∷ 0 ∷ 0 ∷ 0 ∷ 0 ∷ 0 ∷ 0 ∷ 0 ∷ 0 ∷ 0 ∷ 0 ∷ 1 ∷ 2 ∷ 0 ∷ 0 ∷ 0 ∷ 0 ∷ 0 ∷ 0 ∷ 0 ∷ 1 ∷ []) ≡ none
-ccu-zero = refl
-
-mul-constants : reading (4 ∷ 0 ∷ 0 ∷ 0 ∷ 0 ∷ 0 ∷ 0 ∷ 0 ∷ 0 ∷ 0 ∷ 0 ∷ 0 ∷ 0 ∷ 0 ∷ 0 ∷ 0 ∷ 0 ∷ 0 ∷ 0 ∷ 1 ∷ 1 ∷ 1 ∷ 1 ∷ 1 ∷ 1 ∷ 1 ∷ 1 ∷ 1 ∷ 1 ∷ 1 ∷ 1 ∷ 1 ∷ 1 ∷ 1 ∷ 1 ∷ 1 ∷ 1 ∷ 0 ∷ 1 ∷ 2 ∷ 3 ∷ 4 ∷ 5 ∷ 6 ∷ 7 ∷ 8 ∷ 9 ∷ 10 ∷ 11 ∷ 12 ∷ 13 ∷ 14 ∷ 15 ∷ 16 ∷ 17 ∷ 18 ∷ 19 ∷ 20 ∷ 21 ∷ 22 ∷ 23 ∷ 24 ∷ 25 ∷ 26 ∷ 27 ∷ 28 ∷ 29 ∷ 30 ∷ 31 ∷ 32 ∷ 33 ∷ 34 ∷ 35 ∷ 0 ∷ 0 ∷ 0 ∷ 1 ∷ []) ≡ none
-mul-constants = refl
-
-jtagg : reading (9 ∷ 0 ∷ 1 ∷ 2 ∷ 3 ∷ 4 ∷ 5 ∷ 6 ∷ 7 ∷ 8 ∷ 0 ∷ 0 ∷ 0 ∷ 1 ∷ []) ≡ none
-jtagg = refl
-
-io : reading (2 ∷ 1 ∷ 2 ∷ 8 ∷ 0 ∷ 1 ∷ 4 ∷ 0 ∷ 0 ∷ 1 ∷ 3 ∷ 1 ∷ []) ≡ none
-io = refl
-
-ff-sync-enable : reading (0 ∷ 1 ∷ 2 ∷ 0 ∷ 1 ∷ 3 ∷ 5 ∷ 0 ∷ 4 ∷ 2 ∷ 0 ∷ 1 ∷ 3 ∷ 0 ∷ 1 ∷ 3 ∷ 1 ∷ 0 ∷ 1 ∷ 0 ∷ 2 ∷ 6 ∷ 1 ∷ []) ≡ none
-ff-sync-enable = refl
-
-ram-depth-1 : reading (6 ∷ 1 ∷ 1 ∷ 1 ∷ 0 ∷ 0 ∷ 0 ∷ 0 ∷ 0 ∷ 0 ∷ 0 ∷ 0 ∷ 0 ∷ 0 ∷ 0 ∷ 0 ∷ 0 ∷ 0 ∷ 0 ∷ 1 ∷ 0 ∷ 0 ∷ 0 ∷ 0 ∷ 0 ∷ 0 ∷ 0 ∷ 0 ∷ 0 ∷ 0 ∷ 0 ∷ 0 ∷ 0 ∷ 0 ∷ 0 ∷ 0 ∷ 0 ∷ 0 ∷ 0 ∷ 0 ∷ 0 ∷ 0 ∷ 0 ∷ 0 ∷ 7 ∷ 0 ∷ 0 ∷ 0 ∷ 1 ∷ []) ≡ none
-ram-depth-1 = refl
-
-dram-second : reading (7 ∷ 0 ∷ 0 ∷ 0 ∷ 0 ∷ 0 ∷ 0 ∷ 0 ∷ 0 ∷ 0 ∷ 1 ∷ 0 ∷ 0 ∷ 0 ∷ 0 ∷ 0 ∷ 1 ∷ 2 ∷ 3 ∷ 0 ∷ 0 ∷ 1 ∷ 0 ∷ 0 ∷ 0 ∷ 1 ∷ []) ≡ none
-dram-second = refl
-
-ram-clock-differs : reading (6 ∷ 1 ∷ 1 ∷ 1 ∷ 0 ∷ 0 ∷ 0 ∷ 0 ∷ 0 ∷ 0 ∷ 0 ∷ 0 ∷ 0 ∷ 0 ∷ 0 ∷ 0 ∷ 0 ∷ 0 ∷ 0 ∷ 1 ∷ 0 ∷ 0 ∷ 0 ∷ 0 ∷ 0 ∷ 0 ∷ 0 ∷ 0 ∷ 0 ∷ 0 ∷ 0 ∷ 0 ∷ 0 ∷ 0 ∷ 0 ∷ 0 ∷ 0 ∷ 0 ∷ 0 ∷ 0 ∷ 0 ∷ 0 ∷ 1 ∷ 0 ∷ 7 ∷ 0 ∷ 0 ∷ 0 ∷ 0 ∷ 0 ∷ 0 ∷ 0 ∷ 0 ∷ 0 ∷ 0 ∷ 0 ∷ 0 ∷ 0 ∷ 0 ∷ 0 ∷ 1 ∷ 0 ∷ 0 ∷ 0 ∷ 0 ∷ 0 ∷ 0 ∷ 1 ∷ 0 ∷ 0 ∷ 8 ∷ 0 ∷ 0 ∷ 0 ∷ 1 ∷ []) ≡ some (6, 0)
-ram-clock-differs = refl
-
-ram-edge-differs : reading (6 ∷ 1 ∷ 1 ∷ 1 ∷ 0 ∷ 0 ∷ 0 ∷ 0 ∷ 0 ∷ 0 ∷ 0 ∷ 0 ∷ 0 ∷ 0 ∷ 0 ∷ 0 ∷ 0 ∷ 0 ∷ 0 ∷ 1 ∷ 0 ∷ 0 ∷ 0 ∷ 0 ∷ 0 ∷ 0 ∷ 0 ∷ 0 ∷ 0 ∷ 0 ∷ 0 ∷ 0 ∷ 0 ∷ 0 ∷ 0 ∷ 0 ∷ 0 ∷ 0 ∷ 0 ∷ 0 ∷ 0 ∷ 0 ∷ 1 ∷ 0 ∷ 7 ∷ 0 ∷ 0 ∷ 0 ∷ 0 ∷ 0 ∷ 0 ∷ 0 ∷ 0 ∷ 0 ∷ 0 ∷ 0 ∷ 0 ∷ 0 ∷ 0 ∷ 0 ∷ 1 ∷ 0 ∷ 0 ∷ 0 ∷ 0 ∷ 0 ∷ 0 ∷ 0 ∷ 1 ∷ 0 ∷ 8 ∷ 0 ∷ 0 ∷ 0 ∷ 1 ∷ []) ≡ some (6, 0)
-ram-edge-differs = refl
-
-six-before-seven : reading (0 ∷ 2 ∷ 2 ∷ 2 ∷ 6 ∷ 1 ∷ 1 ∷ 1 ∷ 0 ∷ 0 ∷ 0 ∷ 0 ∷ 0 ∷ 0 ∷ 0 ∷ 0 ∷ 0 ∷ 0 ∷ 0 ∷ 0 ∷ 0 ∷ 0 ∷ 0 ∷ 1 ∷ 0 ∷ 0 ∷ 0 ∷ 0 ∷ 0 ∷ 0 ∷ 0 ∷ 0 ∷ 0 ∷ 0 ∷ 0 ∷ 0 ∷ 0 ∷ 0 ∷ 0 ∷ 0 ∷ 0 ∷ 0 ∷ 0 ∷ 0 ∷ 0 ∷ 0 ∷ 1 ∷ 0 ∷ 7 ∷ 0 ∷ 0 ∷ 0 ∷ 0 ∷ 0 ∷ 0 ∷ 0 ∷ 0 ∷ 0 ∷ 0 ∷ 0 ∷ 0 ∷ 0 ∷ 0 ∷ 0 ∷ 1 ∷ 0 ∷ 0 ∷ 0 ∷ 0 ∷ 0 ∷ 0 ∷ 0 ∷ 1 ∷ 0 ∷ 8 ∷ 0 ∷ 1 ∷ 4 ∷ 1 ∷ []) ≡ some (6, 0)
-six-before-seven = refl
-
-pll-more-feedback : reading (0 ∷ 1 ∷ 2 ∷ 10 ∷ 2 ∷ 1 ∷ 2 ∷ 3 ∷ 2 ∷ 1 ∷ 2 ∷ 0 ∷ 1 ∷ 3 ∷ 1 ∷ []) ≡ none
-pll-more-feedback = refl
+pub rows-hold : map (λ (r : Row). reading (r .words)) rows ≡ map (λ (r : Row). r .refused) rows
+rows-hold = refl

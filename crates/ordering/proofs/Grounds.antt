@@ -17,11 +17,10 @@ use Rattle.settle.specs.Walk.{Way}
 use Rattle.settle.specs.Ground.{Grounded, ground, no-loop→grounded, grounded→no-loop, below, mem-below, length-below}
 use Rattle.settle.specs.Loop.{Reads, Under, DepsUnder, NoLoops, LowestOnLoop, lowest-on-loop, lowest-on-loop-only}
 use Rattle.settle.specs.Tests.{and-left, and-right}
-use Rattle.settle.specs.Model.{AtLast, getD-last}
 use Rattle.simulation.specs.Wellformed.{wide, earlier, widthSum, inRange, exprFits}
 use Rattle.simulation.specs.Tick.{given, assigns, joinedReads, readsExpr, readsAll, readsBy, depends, looped}
 use Rattle.simulation.specs.Sound.{AllFrom, Sound, signalWidths, exprWidths}
-use Rattle.simulation.proofs.Settles.{length-reads}
+use Rattle.simulation.proofs.Settles.{AtLast, getD-last, length-reads}
 use Rattle.simulation.proofs.Bounds.{reads-there, reads-under}
 use Rattle.ordering.specs.Order.{listed, needsOf, needs, Needs}
 use Rattle.ordering.specs.Marks.{readsIt}

@@ -16,7 +16,7 @@ use Rattle.bits.specs.Bits.{pick}
 use Rattle.recorder.specs.Record.{Expr, Stmt, Model}
 use Rattle.recorder.specs.Record.{const, read, concat, not, and, or, xor, mux, eq, mul, assign, reg}
 use Rattle.settle.specs.Ground.{Grounded, ground}
-use Rattle.settle.specs.Tests.{all, all-in, all-out, all-fails, clash, and-left, and-right, not-true→false, answer}
+use Rattle.settle.specs.Tests.{all, all-in, all-out, clash, and-left, and-right, not-true→false, answer}
 use Rattle.simulation.specs.Wellformed.{wide, orElse, suits, stmtFits, broad, resetFits, enableFits}
 use Rattle.simulation.specs.Tick.{target, given, assigns, looped}
 use Rattle.simulation.specs.Run.{exprWidth}

@@ -9,8 +9,8 @@ use native.Mathlib.Omega.{arith}
 use lib.ListN.{length, getD, length-append, List·getD-append}
 use lib.Seq.{getD-append-seam}
 use Rattle.bits.specs.Bits.{Bits}
-use Rattle.recorder.specs.Record.{Signal, Expr, Stmt}
-use Rattle.recorder.specs.Writer.{Event, exprsOf, Count, further, End, End.ok, End.no, Out, Writer, pure, refuse, declare, emit, state, after, _>>=_}
+use Rattle.recorder.specs.Record.{Signal, Expr}
+use Rattle.recorder.specs.Writer.{Event, exprsOf, Count, further, End, End.ok, End.no, Out, Writer, pure, refuse, declare, emit, after, _>>=_}
 use Rattle.recorder.specs.Evaluate.{Signals, Values, valueOf, evalExpr, evalAll}
 use Rattle.recorder.specs.Meaning.{Is, Keeps, Base, Ends, Makes, Means}
 use Rattle.recorder.proofs.Events.{exprs-append}
@@ -61,10 +61,6 @@ module _ {σ : Signals} {env : Values} where
   pub makes-declare : {s : Signal} {P : ℕ → Values → Type 0} → ((i : ℕ) → P i env) → Makes σ env (declare s) P
   unfolding evalAll
   makes-declare h = record { makes = λ n q. h (n .signals) }
-
-  pub makes-state : {t : Stmt} {P : Unit {0} → Values → Type 0} → P tt env → Makes σ env (state t) P
-  unfolding evalAll
-  makes-state h = record { makes = λ n q. h }
 
   -- an expression means the value of its record
   pub means-emit : {x : Expr} {v : Bits} → evalExpr σ env x ≡ v → Means σ env (emit x) v

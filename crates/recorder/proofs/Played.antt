@@ -9,8 +9,8 @@ use native.Mathlib.Nat.{add-zero}
 use native.Mathlib.Numerals.{add-one}
 use native.Mathlib.Omega.{arith}
 use lib.Dec.{leb}
-use lib.ListN.{length, take, drop, replicate, length-append, length-replicate}
-use lib.Seq.{sets, sets-eq, take-append-seam, drop-append-seam, drop-append-add, append-snoc}
+use lib.ListN.{length, drop, replicate, length-append, length-replicate}
+use lib.Seq.{sets, sets-eq, take-append-seam, drop-append-add, append-snoc}
 use borrow.Author.Tests.{le-leb, lt-leb, leb-true, leb-false}
 use Rattle.bits.specs.Bits.{pick}
 use Rattle.recorder.specs.declared.Tape.{Tape}
@@ -44,13 +44,6 @@ drop-zeros (suc k) (suc n) = let e : n - k ≡ suc n - suc k = omega arith in dr
 
 pub length-holding : (len : ℕ) (ws : List ℕ) → length ws ≤ len → length (holding len ws) ≡ len
 length-holding len ws h = omega (arith, length-append ws (replicate (len - length ws) 0), length-replicate {A = ℕ} (len - length ws) 0)
-
--- the words used, and the zeros behind them
-pub holding-words : (len : ℕ) (ws : List ℕ) → take (length ws) (holding len ws) ≡ ws
-holding-words len ws = take-append-seam ws (replicate (len - length ws) 0)
-
-pub holding-zeros : (len : ℕ) (ws : List ℕ) → drop (length ws) (holding len ws) ≡ replicate (len - length ws) 0
-holding-zeros len ws = drop-append-seam ws (replicate (len - length ws) 0)
 
 -- words laid behind those that are there
 holding-more : (len : ℕ) (ws vs : List ℕ) → length ws + length vs ≤ len → over (holding len ws) (length ws) vs ≡ holding len (ws ++ vs)
@@ -249,11 +242,4 @@ module _ (a b c : ℕ) where
       ⊎-elim
       (λ h. let p = played-fit es h in (h, cc, cc))
       (λ f. let p = played-full es (f .2) in let z : _≡_ {A = ℕ} 0 1 = cc in absurd (omega arith))
-      (fit-or-filled es)
-
-  pub full-filled : (es : List Event) {i : ℕ} {l : Lists} → play (blank a b c) unwritten es ≡ full i l → Filled a b c es i l
-  full-filled es {i} {l} q =
-      ⊎-elim
-      (λ h. let p = played-fit es h in let z : _≡_ {A = ℕ} 0 1 = cc in absurd (omega arith))
-      (λ f. let g = f .2 in let p = played-full es g in record { done = g .done; next = g .next; rest = g .rest; events = g .events; fit = g .fit; unfit = g .unfit; list = cc; held = cc })
       (fit-or-filled es)

@@ -1,21 +1,20 @@
 -- Words and records, both ways: the words of a model split and read back as the model, and what is read of words has those words.
 -- Assumes nothing.
 use Prim.Native.Nat.{ℕ, zero, suc, _+_, _≤_, _<_}
-use mathlib.Core.Path.{_≡_, refl, sym, _∙_, ap, subst}
+use mathlib.Core.Path.{_≡_, refl, sym, _∙_, ap}
 use mathlib.Core.Bool.{Bool, true, false}
 use mathlib.Core.List.{List, [], _∷_, _++_, map, tail}
 use mathlib.Core.Option.{Option, none, some}
 use native.Mathlib.Omega.{arith}
 use native.Mathlib.Nat.{not-suc-le-zero}
 use lib.Dec.{eqb, leb}
-use lib.ListN.{length, getD, take, drop, length-append, length-drop, length-map, take-append-drop}
-use lib.Seq.{take-append-seam, drop-append-seam, length-take-le}
-use borrow.Author.Tests.{le-leb, lt-leb, leb-true, eqb-true}
+use lib.ListN.{length, getD, take, drop, length-append, length-drop, length-map}
+use lib.Seq.{take-append-seam, drop-append-seam}
+use borrow.Author.Tests.{le-leb, lt-leb, eqb-true}
 use Rattle.recorder.specs.Record.{Signal, Expr, RegReset, RegEnable, Stmt, Model, sized, signalWords, exprWords, stmtWords, resetWords, enableWords}
 use Rattle.recorder.specs.Record.{const, read, concat, not, and, or, xor, mux, eq, mul, assign, reg}
-use Rattle.recorder.specs.Lists.{Lists, lists}
 use Rattle.recorder.specs.Read.{Cut, none-left, stopped, before, cut, split, one, two, three, only, withReset, withEnable, readReg, readSignal, readExpr, readStmt, readAll, modelOf}
-use Rattle.recorder.specs.Words.{listWords, wordsOf, rawOf, Reads, EachReads, Readable, AllReadable}
+use Rattle.recorder.specs.Words.{listWords, wordsOf, rawOf, Reads}
 
 -- THE STEPS OF A SPLIT: what a loop over the words does
 
@@ -71,35 +70,12 @@ split-sized r ws =
 abbrev all-whole : List (List ℕ) → Cut
 all-whole rs = record { records = rs; whole = true }
 
--- the words of one kind of record, f, and what reads its fields, g: each undoes the other
+-- the words of one kind of record, f, and what reads its fields, g
 pub record Kind {A : Type 0} (f : A → List ℕ) (g : List ℕ → Option A) : Type 0 where
   -- a record is its length and its fields
   pub is-sized : (a : A) → f a ≡ sized (tail (f a))
   -- what was written is read
   pub back : (a : A) → g (tail (f a)) ≡ some a
-  -- what was read was written
-  pub said : (r : List ℕ) {a : A} → g r ≡ some a → f a ≡ sized r
-
--- a list that splits is its records' words
-pub cut-words : (k : ℕ) (ws : List ℕ) → length ws ≤ k → cut k ws .whole ≡ true → listWords sized (cut k ws .records) ≡ ws
-cut-words zero [] h q = refl
-cut-words zero (w ∷ ws) h q = absurd (not-suc-le-zero h)
-cut-words (suc k) [] h q = refl
-cut-words (suc k) (zero ∷ ws) h q = let z : _≡_ {A = ℕ} 0 1 = cc in absurd (omega arith)
-cut-words (suc k) (suc n ∷ ws) h q = go (leb n (length ws)) refl q (cut-words k (drop n ws) (simp length-drop (omega arith)))
-  where
-    go : (b : Bool) → leb n (length ws) ≡ b → elim b as (λ (x : Bool). Cut) [ true ↦ before (take n ws) (cut k (drop n ws)) | false ↦ stopped ] .whole ≡ true → (cut k (drop n ws) .whole ≡ true → listWords sized (cut k (drop n ws) .records) ≡ drop n ws)
-        → listWords sized (elim b as (λ (x : Bool). Cut) [ true ↦ before (take n ws) (cut k (drop n ws)) | false ↦ stopped ] .records) ≡ suc n ∷ ws
-    go true e q ih =
-        let m : 1 + length (take n ws) ≡ suc n = omega (arith, length-take-le n ws (leb-true _ _ e)) in
-        ap (λ (x : ℕ). x ∷ (take n ws ++ listWords sized (cut k (drop n ws) .records))) m
-        ∙ ap (λ (x : List ℕ). suc n ∷ (take n ws ++ x)) (ih q)
-        ∙ ap (λ (x : List ℕ). suc n ∷ x) (take-append-drop n ws)
-    go false e q ih = let z : _≡_ {A = ℕ} 0 1 = cc in absurd (omega arith)
-
-pub split-words : (ws : List ℕ) → split ws .whole ≡ true → listWords sized (split ws .records) ≡ ws
-unfolding split
-split-words ws q = cut-words (length ws) ws (omega arith) q
 
 module _ {A : Type 0} {f : A → List ℕ} {g : List ℕ → Option A} (kind : Kind f g) where
   -- the words of records split into them
@@ -117,27 +93,6 @@ module _ {A : Type 0} {f : A → List ℕ} {g : List ℕ → Option A} (kind : K
   -- and are read back
   pub words-read : (l : List A) → readAll g (split (listWords f l) .records) ≡ l
   words-read l = ap (λ (c : Cut). readAll g (c .records)) (words-split l) ∙ fields-read l
-
-  fields-each : (l : List A) → EachReads g (map (λ a. tail (f a)) l)
-  fields-each [] = tt
-  fields-each (a ∷ l) = (record { as-this = a; reads = kind .back a }, fields-each l)
-
-  pub words-readable : (l : List A) → Readable g (listWords f l)
-  words-readable l = record { whole = ap (λ (c : Cut). c .whole) (words-split l); each = subst (λ (c : Cut). EachReads g (c .records)) (sym (words-split l)) (fields-each l) }
-
-  read-some : (r : List ℕ) (rs : List (List ℕ)) {a : A} → g r ≡ some a → readAll g (r ∷ rs) ≡ a ∷ readAll g rs
-  read-some r rs q = rw (q, readAll)
-
-  read-written : (rs : List (List ℕ)) → EachReads g rs → listWords f (readAll g rs) ≡ listWords sized rs
-  read-written [] h = refl
-  read-written (r ∷ rs) h =
-      ap (listWords f) (read-some r rs (h .0 .reads))
-      ∙ ap (λ (x : List ℕ). x ++ listWords f (readAll g rs)) (kind .said r (h .0 .reads))
-      ∙ ap (λ (x : List ℕ). sized r ++ x) (read-written rs (h .1))
-
-  -- writing what was read gives the words again
-  pub readable-words : {ws : List ℕ} → Readable g ws → listWords f (readAll g (split ws .records)) ≡ ws
-  readable-words {ws} h = read-written (split ws .records) (h .each) ∙ split-words ws (h .whole)
 
 -- WHAT WAS READ WAS WRITTEN, by the number of fields
 
@@ -223,7 +178,7 @@ stmt-said (suc (suc k) ∷ l) q = clash q
 -- THE THREE KINDS
 
 pub signal-kind : Kind signalWords readSignal
-signal-kind = record { is-sized = λ s. refl; back = λ s. refl; said = signal-said }
+signal-kind = record { is-sized = λ s. refl; back = λ s. refl }
 
 expr-sized : (e : Expr) → exprWords e ≡ sized (tail (exprWords e))
 expr-sized (const w v) = refl
@@ -250,7 +205,7 @@ expr-back (eq a b) = refl
 expr-back (mul a b) = refl
 
 pub expr-kind : Kind exprWords readExpr
-expr-kind = record { is-sized = expr-sized; back = expr-back; said = expr-said }
+expr-kind = record { is-sized = expr-sized; back = expr-back }
 
 stmt-sized : (s : Stmt) → stmtWords s ≡ sized (tail (stmtWords s))
 stmt-sized (assign t e) = refl
@@ -266,19 +221,10 @@ stmt-back (reg t n c d none e) = enable-back (reg t n c d none) e
 stmt-back (reg t n c d (some r) e) = enable-back (reg t n c d (some r)) e
 
 pub stmt-kind : Kind stmtWords readStmt
-stmt-kind = record { is-sized = stmt-sized; back = stmt-back; said = stmt-said }
+stmt-kind = record { is-sized = stmt-sized; back = stmt-back }
 
 -- ALL THREE LISTS
-
--- a model's words can be read, and are read back as the model
-pub model-readable : (m : Model) → AllReadable (wordsOf m)
-model-readable m = record { signals = words-readable signal-kind (m .signals); exprs = words-readable expr-kind (m .exprs); stmts = words-readable stmt-kind (m .stmts) }
 
 pub model-read : (m : Model) → modelOf (rawOf (wordsOf m)) ≡ m
 unfolding modelOf
 model-read m = λ i. record { signals = words-read signal-kind (m .signals) i; exprs = words-read expr-kind (m .exprs) i; stmts = words-read stmt-kind (m .stmts) i }
-
--- lists that can be read are the words of the model that is read of them
-pub lists-read : {l : Lists} → AllReadable l → wordsOf (modelOf (rawOf l)) ≡ l
-unfolding modelOf
-lists-read h = λ i. lists (readable-words signal-kind (h .signals) i) (readable-words expr-kind (h .exprs) i) (readable-words stmt-kind (h .stmts) i)

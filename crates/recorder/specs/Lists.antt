@@ -141,6 +141,9 @@ WroteExprs e t w r e′ = (s m : List ℕ) → Wrote (lists s e m) t w r (lists 
 abbrev pub WroteStmts : {A : Type 0} → List ℕ → Tapes → Writer A → Answer A → List ℕ → Type 0
 WroteStmts m t w r m′ = (s e : List ℕ) → Wrote (lists s e m) t w r (lists s e m′)
 
+abbrev pub WroteBoth : {A : Type 0} → List ℕ → List ℕ → Tapes → Writer A → Answer A → List ℕ → List ℕ → Type 0
+WroteBoth e m t w r e′ m′ = (s : List ℕ) → Wrote (lists s e m) t w r (lists s e′ m′)
+
 -- of a call that was handed the words of some record
 abbrev pub PushedSignal : List ℕ → List ℕ → Tapes → Answer ℕ → List ℕ → Type 0
 PushedSignal ws s t r s′ = (x : Signal) → signalWords x ≡ ws → WroteSignals s t (declare x) r s′

@@ -1,6 +1,6 @@
 -- Whole lists: the words of records one after the other, and lists of given lengths that hold a model's records.
 use Prim.Native.Nat.{ℕ, _+_, _-_, _≤_, min}
-use mathlib.Core.Bool.{Bool, true, false}
+use mathlib.Core.Bool.{Bool, false}
 use mathlib.Core.List.{List, [], _∷_, _++_}
 use mathlib.Core.Option.{Option, none, some}
 use mathlib.Core.Path.{_≡_}
@@ -10,7 +10,7 @@ use Rattle.recorder.specs.declared.Tapes.{Tapes}
 use Rattle.recorder.specs.Record.{Signal, Expr, Stmt, Model, signalWords, exprWords, stmtWords}
 use Rattle.recorder.specs.Writer.{Event, Event.signal, Event.expr, Event.stmt, modelOf}
 use Rattle.recorder.specs.Lists.{Lists, lists, tapes, listOf}
-use Rattle.recorder.specs.Read.{Cut, Raw, split, readSignal, readExpr, readStmt}
+use Rattle.recorder.specs.Read.{Cut, Raw, split}
 
 abbrev pub listWords : {A : Type 0} → (A → List ℕ) → List A → List ℕ
 listWords f [] = []
@@ -35,16 +35,6 @@ abbrev pub EachReads : {A : Type 0} → (List ℕ → Option A) → List (List �
 EachReads g [] = Unit {0}
 EachReads {A} g (r ∷ rs) = Reads g r × EachReads g rs
 
--- a list of words splits, and each of its records can be read
-pub record Readable {A : Type 0} (g : List ℕ → Option A) (ws : List ℕ) : Type 0 where
-  pub whole : split ws .whole ≡ true
-  pub each : EachReads g (split ws .records)
-
-pub record AllReadable (l : Lists) : Type 0 where
-  pub signals : Readable readSignal (l .signals)
-  pub exprs : Readable readExpr (l .exprs)
-  pub stmts : Readable readStmt (l .stmts)
-
 -- LISTS WITH ROOM
 
 -- a list of len words: these, and zeros behind them
@@ -64,6 +54,10 @@ tapesOf m = tapes (tapeOf signalWords (m .signals)) (tapeOf exprWords (m .exprs)
 
 abbrev pub nothing : Model
 nothing = record { signals = []; exprs = []; stmts = [] }
+
+-- zeros in the place of a list's words
+abbrev pub zeroed : List ℕ → List ℕ
+zeroed l = replicate (length l) 0
 
 -- lists of zeros, and their tapes
 abbrev pub blank : ℕ → ℕ → ℕ → Lists

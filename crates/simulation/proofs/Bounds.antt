@@ -18,11 +18,11 @@ use Rattle.recorder.specs.Evaluate.{Signals, joinedParts, evalExpr, evalAll}
 use Rattle.recorder.proofs.Makes.{length-all}
 use Rattle.settle.specs.Loop.{DepsUnder}
 use Rattle.settle.specs.Tests.{and-left, and-right}
-use Rattle.settle.specs.Model.{getD-last}
 use Rattle.simulation.specs.Wellformed.{wide, inRange, earlier, widthSum, exprFits}
 use Rattle.simulation.specs.Tick.{given, assigns, joinedReads, readsExpr, readsAll, readsBy, depends}
 use Rattle.simulation.specs.Run.{exprWidth}
 use Rattle.simulation.specs.Sound.{AllFrom, Sound, signalWidths, exprWidths}
+use Rattle.simulation.proofs.Settles.{getD-last}
 
 -- WHAT IS READ IS THERE
 

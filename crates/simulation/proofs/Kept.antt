@@ -8,7 +8,7 @@ use mathlib.Core.Option.{Option, none, some, Option·none-ne-some, Option·some-
 use native.Mathlib.Omega.{arith}
 use native.Mathlib.Nat.{not-suc-le-zero, zero-add}
 use lib.Dec.{eqb, leb, ltb}
-use lib.ListN.{length, getD, take, drop, length-append, length-drop, length-map, replicate}
+use lib.ListN.{length, getD, take, drop, length-append, length-drop, length-map}
 use lib.Seq.{length-take-le, take-at, drop-at}
 use borrow.Author.Tests.{eqb-true, ltb-true, ltb-false}
 use Rattle.bits.specs.Bits.{pick, Bits, digit}
@@ -40,12 +40,6 @@ fits-at [] t h i q = absurd (not-suc-le-zero q)
 fits-at (s ∷ ss) [] h i q = absurd h
 fits-at (s ∷ ss) (v ∷ t) h zero q = h .0
 fits-at (s ∷ ss) (v ∷ t) h (suc i) q = fits-at ss t (h .1) i (omega arith)
-
-pub fits-length : (ss : List Signal) (t : List Bits) → Fits ss t → length t ≡ length ss
-fits-length [] [] h = refl
-fits-length [] (v ∷ t) h = absurd h
-fits-length (s ∷ ss) [] h = absurd h
-fits-length (s ∷ ss) (v ∷ t) h = ap suc (fits-length ss t (h .1))
 
 fits-tab : (ss : List Signal) (g : ℕ → Bits) (k : ℕ) → ((i : ℕ) → i < length ss → length (g (k + i)) ≡ getD (widthsOf ss) i 0) → Fits ss (tabFrom g k (length ss))
 fits-tab [] g k h = tt
@@ -255,12 +249,6 @@ ends-settled widest c e =
     let old : List Bits = commit m (firing (c .fired)) (settle m (setInputs (m .signals) (map isOne (c .ticks)) (stateBefore c))) in
     (old, refl, settle-settled m old under (subst (LowestOnLoop (length (m .signals)) (depends m)) (g .loopless) (looped-says m old under)))
 
--- each assigned signal has its expression's value
-pub assignments-hold : (widest : ℕ) (c : Call) → answer widest c ≡ none → (s e : ℕ) → s < length (callModel c .signals) → given assigns (callModel c .stmts) s ≡ some e → getD (valuesIn (callModel c) (stateAfter c)) e [] ≡ getD (stateAfter c) s []
-assignments-hold widest c a s e q g =
-    let r = ends-settled widest c a in
-    ap (λ (o : Option ℕ). become (valuesIn (callModel c) (stateAfter c)) o (getD (r .0) s [])) (sym g) ∙ r .2 s q
-
 -- THE NEXT CALL FINDS WHAT THIS ONE LEFT
 isOne-digit : (b : Bool) → isOne (digit b) ≡ b
 isOne-digit true = refl
@@ -285,11 +273,7 @@ left-behind widest c e =
     (ap (perSignal (callModel c .signals)) (back-bits (flat (stateAfter c)) (drop (signalBytes (callModel c)) (c .bytes)))
     ∙ cut-flat (callModel c .signals) (stateAfter c) (map isOne (drop (signalBytes (callModel c)) (c .bytes))) (after-fits widest c (accepted-good widest c e)))
 
--- a refused call leaves the signal bytes, and every call zeroes the works
+-- a refused call leaves the signal bytes
 pub refused-keeps : (widest : ℕ) (c : Call) (r : ℕ × ℕ) → answer widest c ≡ some r → run widest c .bytes ≡ c .bytes
 unfolding run
 refused-keeps widest c r e = rw e
-
-pub works-zeroed : (widest : ℕ) (c : Call) → (run widest c .workBits ≡ replicate (length (c .workBits)) 0) × (run widest c .workExprs ≡ replicate (length (c .workExprs)) 0) × (run widest c .workSignals ≡ replicate (length (c .workSignals)) 0)
-unfolding run
-works-zeroed widest c = (refl, refl, refl)

@@ -1,5 +1,5 @@
--- Later records change no earlier value, values depend only on what is read, and a model with no loop is settled after as many
--- sweeps as it has signals; any settled state is that one. Assumes nothing.
+-- Values depend only on what is read, and a model with no loop is settled after as many sweeps as it has signals; any settled
+-- state is that one. Assumes nothing.
 use Prim.Native.Nat.{ℕ, zero, suc, _+_, _*_, _≤_, _<_}
 use mathlib.Core.Path.{_≡_, refl, sym, _∙_, ap, ap₂}
 use mathlib.Core.Bool.{Bool, true, false, _&&_, _||_}
@@ -8,27 +8,30 @@ use mathlib.Core.List.{List, [], _∷_, _++_, List·Memᴰ as Mem, List·Memᴰ�
 use mathlib.Core.Option.{Option, none, some}
 use native.Mathlib.Omega.{arith}
 use native.Mathlib.Decide.{decLt, ℕ-discrete}
-use lib.ListN.{length, getD, length-append}
-use lib.Seq.{ext-getD}
+use lib.ListN.{length, getD, length-append, List·getD-append, List·getD-eq-default}
+use lib.Seq.{ext-getD, getD-append-seam}
 use Rattle.bits.specs.Bits.{pick, Bits, binary, number, lowest, window, differ, sameBits}
 use Rattle.recorder.specs.Record.{Expr, Model}
 use Rattle.recorder.specs.Record.{const, read, concat, not, and, or, xor, mux, eq, mul}
 use Rattle.recorder.specs.Evaluate.{Signals, valueOf, bitOf, joinedParts, evalExpr, evalAll}
 use Rattle.recorder.specs.Meaning.{Is}
-use Rattle.recorder.proofs.Makes.{eval-append, keeps-all, length-all}
 use Rattle.settle.specs.Settle.{Respects, iterate, settles, settled-unique}
 use Rattle.settle.specs.Ground.{below, length-below, mem-below}
 use Rattle.settle.specs.Loop.{Reads, DepsUnder, NoLoops, Under, LowestOnLoop, lowest-on-loop}
 use Rattle.settle.specs.Table.{at, tabFrom, rounds-at, length-tab}
-use Rattle.settle.specs.Model.{AtLast, getD-last}
 use Rattle.simulation.specs.Tick.{valuesIn, given, assigns, become, setBy, sweep, settle, joinedReads, readsExpr, readsAll, readsBy, depends, looped}
 use Rattle.simulation.specs.Settled.{driven, IsSettled}
 
--- records appended later do not change an earlier value
-pub values-prefix : (es fs : List Expr) (v : Signals) (i : ℕ) → i < length es → getD (evalAll v [] (es ++ fs)) i [] ≡ getD (evalAll v [] es) i []
-values-prefix es fs v i h =
-    ap (λ (l : List Bits). getD l i []) (eval-append v es fs [])
-    ∙ keeps-all v fs (evalAll v [] es) i (getD (evalAll v [] es) i []) (record { there = omega (arith, length-all v es []); value = refl }) .value
+-- a cell of a list with one more at its end
+abbrev pub AtLast : {T : Type 0} (l : List T) (a d : T) → ℕ → Type 0
+AtLast l a d i = (i < length l → getD (l ++ (a ∷ [])) i d ≡ getD l i d) × (i ≡ length l → getD (l ++ (a ∷ [])) i d ≡ a) × (length l < i → getD (l ++ (a ∷ [])) i d ≡ d)
+
+pub getD-last : {T : Type 0} (l : List T) (a d : T) (i : ℕ) → AtLast l a d i
+getD-last l a d i = (
+  λ h. List·getD-append l (a ∷ []) d i h,
+  λ e. ap (λ (k : ℕ). getD (l ++ (a ∷ [])) k d) e ∙ getD-append-seam l a [] d,
+  λ h. List·getD-eq-default (l ++ (a ∷ [])) d (simp length-append (omega arith)),
+)
 
 pub length-reads : (es : List Expr) (rs : List (List ℕ)) → length (readsAll rs es) ≡ length rs + length es
 unfolding readsAll

@@ -13,12 +13,11 @@ use lib.ListN.{length, getD, set, length-set}
 use lib.Seq.{ext-getD, getD-set-same, getD-set-other}
 use borrow.Author.Tests.{eqb-true, eqb-false}
 use Rattle.recorder.specs.Record.{Signal, Expr, Stmt, Model}
-use Rattle.settle.specs.Settle.{iterate}
 use Rattle.settle.specs.Table.{at, tabFrom, length-tab, getD-tab}
 use Rattle.settle.specs.Tests.{and-right}
 use Rattle.simulation.specs.Wellformed.{countOf, orElse, inRange, statements, signalFits}
 use Rattle.bits.specs.Bits.{pick, Bits}
-use Rattle.simulation.specs.Tick.{valuesIn, target, given, assigns, Firing, loads, become, setBy, sweep, settle, commit}
+use Rattle.simulation.specs.Tick.{valuesIn, target, given, Firing, loads, become, setBy, commit}
 use Rattle.simulation.specs.Sound.{AllFrom, Sound, on, drivers}
 
 abbrev pub store : List Bits → Option ℕ → ℕ → List Bits → List Bits
@@ -104,23 +103,6 @@ pub stores-is-commit : (m : Model) → OneEach m → (f : Firing) (t : List Bits
 unfolding commit
 stores-is-commit m h f t l = stores-is-set m h (loads f (at [] t)) t t l
 
--- EARLY END
-iterate-add : {X : Type 0} (j k : ℕ) (g : X → X) (v : X) → iterate (j + k) g v ≡ iterate j g (iterate k g v)
-iterate-add zero k g v = ap (λ (n : ℕ). iterate n g v) (zero-add k)
-iterate-add (suc j) k g v = ap (λ (n : ℕ). iterate n g v) (native.Mathlib.Nat.suc-add j k) ∙ ap g (iterate-add j k g v)
-
-iterate-fixed : {X : Type 0} (j : ℕ) (g : X → X) (u : X) → g u ≡ u → iterate j g u ≡ u
-iterate-fixed zero g u h = refl
-iterate-fixed (suc j) g u h = ap g (iterate-fixed j g u h) ∙ h
-
--- after k sweeps, no more than there are signals, one more changes nothing: settled
-pub settle-early : (m : Model) (t : List Bits) (k : ℕ) → k ≤ length (m .signals) → sweep m t (iterate k (sweep m t) t) ≡ iterate k (sweep m t) t → settle m t ≡ iterate k (sweep m t) t
-unfolding settle
-settle-early m t k h e =
-    let n : ℕ = length (m .signals) in
-    let split : n ≡ (n - k) + k = omega arith in
-    ap (λ (j : ℕ). iterate j (sweep m t) t) split ∙ iterate-add (n - k) k (sweep m t) t ∙ iterate-fixed (n - k) (sweep m t) (iterate k (sweep m t) t) e
-
 -- FROM SOUNDNESS
 all-at : (p : ℕ → Signal → Bool) (n : ℕ) (l : List Signal) (d : Signal) → AllFrom p n l → (i : ℕ) → i < length l → p (n + i) (getD l i d) ≡ true
 all-at p n [] d h i q = absurd (not-suc-le-zero q)
@@ -140,30 +122,3 @@ one-each widest m h i q =
     let e = all-at (λ n. signalFits widest (drivers m n)) 0 (m .signals) d (h .signals-fit) i q in
     let k = eqb-true (drivers m (0 + i)) (statements (s .label)) (and-right (leb (s .label) 15 && inRange widest (s .width)) (eqb (drivers m (0 + i)) (statements (s .label))) e) in
     omega (arith, at-most-one (s .label), ap (drivers m) (sym (zero-add i)) ∙ k)
-
--- one sweep of the settling, stored over what the sweeps before it left
-abbrev pub Unassigned : Model → List Bits → List Bits → Type 0
-Unassigned m old now = (i : ℕ) → i < length (m .signals) → given assigns (m .stmts) i ≡ none → getD now i [] ≡ getD old i []
-
-sweep-at : (m : Model) (old now : List Bits) (i : ℕ) → i < length (m .signals) → getD (sweep m old now) i [] ≡ become (valuesIn m now) (given assigns (m .stmts) i) (getD old i [])
-sweep-at m old now i q =
-    getD-tab (λ s. become (valuesIn m now) (given assigns (m .stmts) s) (getD old s [])) [] 0 (length (m .signals)) i q
-    ∙ ap (λ (s : ℕ). become (valuesIn m now) (given assigns (m .stmts) s) (getD old s [])) (zero-add i)
-
-pub unassigned-kept : (m : Model) (old now : List Bits) → Unassigned m old (sweep m old now)
-unassigned-kept m old now i q e = sweep-at m old now i q ∙ ap (λ (o : Option ℕ). become (valuesIn m now) o (getD old i [])) e
-
-pub stores-is-sweep : (m : Model) → OneEach m → (old now : List Bits) → length now ≡ length (m .signals) → Unassigned m old now → stores assigns (valuesIn m now) (m .stmts) now ≡ sweep m old now
-stores-is-sweep m h old now l u =
-    stores-is-set m h assigns now now l
-    ∙ ext-getD [] (sweep m now now) (sweep m old now) (length-tab (λ s. become (valuesIn m now) (given assigns (m .stmts) s) (getD now s [])) 0 n ∙ sym (length-tab (λ s. become (valuesIn m now) (given assigns (m .stmts) s) (getD old s [])) 0 n)) (λ i q. same i (omega (arith, length-tab (λ s. become (valuesIn m now) (given assigns (m .stmts) s) (getD now s [])) 0 n)))
-  where
-    n : ℕ
-    n = length (m .signals)
-
-    go : (i : ℕ) (o : Option ℕ) → (o ≡ none → getD now i [] ≡ getD old i []) → become (valuesIn m now) o (getD now i []) ≡ become (valuesIn m now) o (getD old i [])
-    go i none k = k refl
-    go i (some e) k = refl
-
-    same : (i : ℕ) → i < length (m .signals) → getD (sweep m now now) i [] ≡ getD (sweep m old now) i []
-    same i q = sweep-at m now now i q ∙ go i (given assigns (m .stmts) i) (u i q) ∙ sym (sweep-at m old now i q)

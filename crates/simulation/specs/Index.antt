@@ -5,30 +5,15 @@ use mathlib.Core.List.{List, [], _∷_, map}
 use mathlib.Core.Option.{Option, none, some}
 use mathlib.Core.Bool.{Bool, _&&_}
 use lib.Dec.{eqb}
-use lib.ListN.{length, getD, take, drop, set}
+use lib.ListN.{length, getD, set}
 use Rattle.bits.specs.Bits.{pick}
-use Rattle.recorder.specs.declared.Cut.{Cut}
-use Rattle.recorder.specs.declared.Cut.the-variants.{Record, End, Broken}
 use Rattle.recorder.specs.Record.{Stmt}
 use Rattle.recorder.specs.Read.{split, readStmt, readAll}
-use Rattle.recorder.specs.Standing.{cutAt}
+pub use Rattle.recorder.specs.Standing.{sizeOf, sizeAt, fieldsAt}
 use Rattle.simulation.specs.declared.Driver.{Driver}
 use Rattle.simulation.specs.declared.Driver.the-variants.{None, By}
 use Rattle.simulation.specs.Wellformed.{widths}
 use Rattle.simulation.specs.Tick.{given, assigns}
-
--- the length of what stands at an index, 0 for no whole record
-abbrev pub sizeOf : Cut → ℕ
-sizeOf (Record n) = n + 1
-sizeOf End = 0
-sizeOf Broken = 0
-
-abbrev pub sizeAt : List ℕ → ℕ → ℕ
-sizeAt list at = sizeOf (cutAt list at)
-
--- the fields of a record at an index, which stand behind its length
-abbrev pub fieldsAt : List ℕ → ℕ → ℕ → List ℕ
-fieldsAt list at size = take (size - 1) (drop (at + 1) list)
 
 abbrev pub recordsIn : List ℕ → List (List ℕ)
 recordsIn list = split list .records

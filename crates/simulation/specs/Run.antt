@@ -5,14 +5,16 @@ use mathlib.Core.Bool.{Bool, true, false, _&&_}
 use mathlib.Core.List.{List, [], _∷_, _++_, map}
 use mathlib.Core.Option.{Option, none, some}
 use lib.Dec.{eqb, leb, ltb}
-use lib.ListN.{length, take, drop, replicate}
+use lib.ListN.{length, take, drop}
 use Rattle.bits.specs.Bits.{pick, Bits, digit}
+pub use Rattle.bits.specs.Bits.{flat}
 use Rattle.refusal.specs.Refusal.{numberOf, placeOf}
 use Rattle.recorder.specs.Record.{Signal, Expr, Model}
 use Rattle.recorder.specs.Record.{const, read, concat, not, and, or, xor, mux, eq, mul}
 use Rattle.recorder.specs.Lists.{Lists}
 use Rattle.recorder.specs.Read.{only, modelOf}
 use Rattle.recorder.specs.Words.{rawOf}
+pub use Rattle.recorder.specs.Words.{zeroed}
 use Rattle.simulation.specs.declared.Fired.{Fired}
 use Rattle.simulation.specs.declared.Fired.the-variants.{Nothing, Edge}
 use Rattle.simulation.specs.declared.Ran.{Ran}
@@ -137,10 +139,6 @@ abbrev pub perSignal : List Signal → Bits → List Bits
 perSignal [] bs = []
 perSignal (s ∷ ss) bs = take (s .width) bs ∷ perSignal ss (drop (s .width) bs)
 
-abbrev pub flat : {A : Type 0} → List (List A) → List A
-flat [] = []
-flat (l ∷ ls) = l ++ flat ls
-
 abbrev pub isOne : ℕ → Bool
 isOne b = eqb b 1
 
@@ -160,9 +158,6 @@ ticked c = map digit (flat (stateAfter c)) ++ drop (signalBytes (callModel c)) (
 abbrev pub bytesAfter : Call → Option (ℕ × ℕ) → List ℕ
 bytesAfter c none = ticked c
 bytesAfter c (some r) = c .bytes
-
-abbrev pub zeroed : List ℕ → List ℕ
-zeroed l = replicate (length l) 0
 
 -- 12 comes first
 abbrev pub verdict : Model → Call → Option ℕ → Option (ℕ × ℕ)

@@ -11,6 +11,7 @@ use Rattle.settle.specs.Table.{at, tabFrom}
 use Rattle.settle.specs.Loop.{lowestOnLoop}
 use Rattle.recorder.specs.Record.{Signal, Expr, RegReset, RegEnable, Stmt, Model}
 use Rattle.recorder.specs.Record.{const, read, concat, not, and, or, xor, mux, eq, mul, assign, reg}
+pub use Rattle.recorder.specs.Record.{target}
 use Rattle.recorder.specs.Read.{only}
 use Rattle.recorder.specs.Evaluate.{Signals, evalAll}
 use Rattle.simulation.specs.Wellformed.{orElse}
@@ -20,10 +21,6 @@ use Rattle.simulation.specs.Wellformed.{orElse}
 -- the value of each expression
 abbrev pub valuesIn : Model → List Bits → List Bits
 valuesIn m now = evalAll (at [] now) [] (m .exprs)
-
-abbrev pub target : Stmt → ℕ
-target (assign t e) = t
-target (reg t n c d r e) = t
 
 -- the expression that the statements on signal s give it, by a rule for each statement
 abbrev pub given : (Stmt → Option ℕ) → List Stmt → ℕ → Option ℕ

@@ -14,9 +14,9 @@ use Rattle.recorder.specs.declared.Tapes.{Tapes}
 use Rattle.recorder.specs.Record.{Signal, Model}
 use Rattle.recorder.specs.Lists.{Lists}
 use Rattle.recorder.specs.Read.{modelOf}
-use Rattle.recorder.specs.Words.{rawOf, wordsOf}
+use Rattle.recorder.specs.Words.{rawOf, wordsOf, blank}
 use Rattle.recorder.proofs.Roundtrip.{model-read}
-use Rattle.lowering.specs.Lower.{blank, Lowered, Accepted, Refused, Lowering, lowered, loweredRead, lowerWords}
+use Rattle.lowering.specs.Lower.{Lowered, Accepted, Refused, Lowering, lowered, loweredRead, lowerWords}
 use Rattle.behaviour.specs.Behaviour.{start, NoWireLoop}
 use Rattle.simulation.specs.Wellformed.{largest, malformed}
 use Rattle.simulation.specs.Run.{zeroed, signalBytes, firstOf}

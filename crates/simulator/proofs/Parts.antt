@@ -13,7 +13,8 @@ use Rattle.netlist.specs.Netlist.{Netlist}
 use Rattle.netlist.specs.Reader.{base, netlist, refused, readWords, Read}
 use Rattle.recorder.specs.declared.Tapes.{Tapes}
 use Rattle.recorder.specs.Lists.{Lists, lists, Answer, Answer.Done, Answer.Failed, writing}
-use Rattle.lowering.specs.Lower.{start, blank, Lowered, Accepted, Refused, Lowering, overdrivenFrom, lowerNetlist, judged, ended, lowered, loweredRead, lowerWords}
+use Rattle.recorder.specs.Words.{blank}
+use Rattle.lowering.specs.Lower.{start, Lowered, Accepted, Refused, Lowering, overdrivenFrom, lowerNetlist, judged, ended, lowered, loweredRead, lowerWords}
 use Rattle.behaviour.specs.Behaviour.{NoWireLoop}
 use Rattle.simulation.specs.declared.Ran as ran
 use Rattle.simulation.specs.Wellformed.{largest}

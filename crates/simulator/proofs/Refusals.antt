@@ -14,9 +14,9 @@ use Rattle.recorder.specs.declared.Tapes.{Tapes}
 use Rattle.recorder.specs.Record.{Model}
 use Rattle.recorder.specs.Lists.{Lists}
 use Rattle.recorder.specs.Read.{only, modelOf}
-use Rattle.recorder.specs.Words.{rawOf, wordsOf}
+use Rattle.recorder.specs.Words.{rawOf, wordsOf, blank}
 use Rattle.recorder.proofs.Roundtrip.{model-read}
-use Rattle.lowering.specs.Lower.{blank, Lowered, Accepted, Refused, Lowering, lowered, loweredRead, lowerWords}
+use Rattle.lowering.specs.Lower.{Lowered, Accepted, Refused, Lowering, lowered, loweredRead, lowerWords}
 use Rattle.behaviour.specs.Behaviour.{NoWireLoop}
 use Rattle.simulation.specs.Wellformed.{largest, malformed, orElse}
 use Rattle.simulation.specs.Tick.{looped}

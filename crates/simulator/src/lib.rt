@@ -6,24 +6,13 @@ use recorder::Tapes;
 use runner::run_list;
 use simulation::Ran;
 use simulation::zero::zero_bytes;
-ghost use mathlib.Core.Path.{_≡_};
+use simulation::zero::zero_longs;
 ghost use mathlib.Core.List.{[], _∷_};
 ghost use Rattle.netlist.specs.Reader.{base};
 ghost use Rattle.recorder.specs.Lists.{lists};
-ghost use Rattle.simulation.specs.Run.{zeroed};
 ghost use Rattle.runner.specs.Calls.{RunsList};
 ghost use Rattle.runner.specs.Whole.{listCall};
 ghost use Rattle.simulator.specs.Entry.{simulation, Simulates, Zeroed, StaysZero, Cut, onUsed, Concludes, RunsAccepted, RunsLowered};
-
-fn zero_longs(table: &mut [u64])
-    ensures { λ _. ⌜ now (table .exit) ≡ zeroed (now (table .entry)) ⌝ }
-{
-    let mut i = 0;
-    while i < table.len() {
-        table[i] = 0;
-        i += 1;
-    }
-}
 
 // So many words of a list, at most all of them.
 fn cut(list: &[u32], n: usize) -> usize

@@ -17,12 +17,11 @@ use Rattle.behaviour.specs.Banks.{collectFlipFlopBanks}
 use Rattle.recorder.specs.declared.Tapes.{Tapes}
 use Rattle.recorder.specs.declared.Stated as r
 use Rattle.recorder.specs.Writer.{Writer, refuse, _>>=_, _>>_}
-use Rattle.recorder.specs.Lists.{Lists, lists, stated, Answer, Wrote, WroteSignals}
+use Rattle.recorder.specs.Lists.{Lists, lists, stated, Answer, Wrote, WroteSignals, WroteBoth}
 use Rattle.recorder.proofs.Wrote.{then-done, then-stop, then-same, wrote-as}
 use Rattle.wires.specs.declared.Constants.{Constants}
 use Rattle.wires.specs.Wires.{Wires, noWires, wiresOf}
 use Rattle.wires.specs.Expressions.{roomy}
-use Rattle.cells.specs.Answers.{WroteBoth}
 use Rattle.lowering.specs.Tables.{mapped}
 use Rattle.lowering.specs.Reserve.{reservePorts, reserveCells, reserveFlipFlopBanks}
 use Rattle.lowering.specs.Reserves.{Room, Reserves, ReservesPorts, ReservesCells, Fitting}

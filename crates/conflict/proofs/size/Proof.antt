@@ -1,5 +1,5 @@
 use Rattle.recorder.proofs.Reading.{record-within}
-use Rattle.conflict.specs.Counting.{sizeOf}
+use Rattle.recorder.specs.Standing.{sizeOf}
 use native.Mathlib.Omega.{arith}
 use mathlib.Core.Path.{_≡_, refl, sym, ap, _∙_}
 use borrow.Author.Needs.{needs}

@@ -5,7 +5,7 @@ use Rattle.simulator.proofs.zero_outputs.Tie as tie
 use Rattle.simulator.proofs.zero_outputs.Reads as reads
 use Rattle.simulator.proofs.zero_outputs.Lts as lts
 use Rattle.simulation.proofs.zero.zero_bytes.Reads as zero-bytes-reads
-use Rattle.simulator.proofs.zero_longs.Reads as zero-longs-reads
+use Rattle.simulation.proofs.zero.zero_longs.Reads as zero-longs-reads
 
 -- src/lib.rt:154:5
 zero-bytes-requires : tie.Need-zero-bytes-requires

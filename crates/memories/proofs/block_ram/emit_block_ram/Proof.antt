@@ -1,4 +1,5 @@
-use Rattle.memories.specs.Rams.{workOf, ramAt}
+use Rattle.netlist.specs.Fields.{ramAt}
+use Rattle.memories.specs.Rams.{workOf}
 use Rattle.wires.proofs.Laws.{roomy-yes, roomy-no}
 use Rattle.recorder.proofs.Wrote.{wrote-as, wrote-refuse}
 use Rattle.recorder.specs.Writer.{refuse}

@@ -1,7 +1,8 @@
+use Rattle.netlist.specs.Fields.{ramAt}
 use Rattle.memories.proofs.BlockLaws.{body-writing}
 use Rattle.memories.proofs.RamLaws.{filled-stop}
 use Rattle.memories.specs.Steps.{secondAt, ramReads}
-use Rattle.memories.specs.Rams.{portOf, secondOf, lastOf, wordsFrom, reach, filled, ramAt}
+use Rattle.memories.specs.Rams.{portOf, secondOf, lastOf, wordsFrom, reach, filled}
 use Rattle.wires.specs.Wires.{wiresOf}
 use Rattle.recorder.proofs.Wrote.{wrote-as, then-done}
 use Rattle.recorder.specs.declared.Stated.{Stated}

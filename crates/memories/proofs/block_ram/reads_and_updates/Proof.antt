@@ -1,6 +1,7 @@
+use Rattle.netlist.specs.Fields.{ramAt}
 use Rattle.memories.proofs.ReadLaws.{reading-as}
 use Rattle.memories.specs.Steps.{ramReads}
-use Rattle.memories.specs.Rams.{wordsOf, ramAt}
+use Rattle.memories.specs.Rams.{wordsOf}
 use Rattle.wires.specs.Wires.{wiresOf}
 use Rattle.recorder.proofs.Wrote.{wrote-as, then-done, then-same}
 use Rattle.recorder.specs.Lists.{stated}

@@ -1,7 +1,8 @@
+use Rattle.netlist.specs.Fields.{ramAt}
 use Rattle.memories.proofs.BlockLaws.{le-same, room-address, room-depth, room-width, block-split, body-same}
 use Rattle.memories.proofs.ReadLaws.{signal-known, signal-refused}
 use Rattle.memories.specs.Steps.{secondAt}
-use Rattle.memories.specs.Rams.{portOf, secondOf, ported, seconded, ramAt}
+use Rattle.memories.specs.Rams.{portOf, secondOf, ported, seconded}
 use Rattle.memories.specs.declared.Seconded.{Seconded}
 use Rattle.memories.specs.declared.Ported.{Ported}
 use Rattle.wires.proofs.Laws.{reads-as}

@@ -5,10 +5,10 @@ use Prim.Native.Nat.{ℕ, _-_, _≤_}
 use lib.ListN.{length, set, drop, replicate, length-set, drop-of-length-le}
 use borrow.Author.Needs.{needs}
 use borrow.Author.Fill.{fill-none, fill-more}
-use Rattle.capi.proofs.hand.zero_longs.Statement.{statement}
-use Rattle.capi.proofs.hand.zero_longs.Tie as tie
-use Rattle.capi.proofs.hand.zero_longs.Reads as reads
-use Rattle.capi.proofs.hand.zero_longs.Lts as lts
+use Rattle.simulation.proofs.zero.zero_longs.Statement.{statement}
+use Rattle.simulation.proofs.zero.zero_longs.Tie as tie
+use Rattle.simulation.proofs.zero.zero_longs.Reads as reads
+use Rattle.simulation.proofs.zero.zero_longs.Lts as lts
 
 abbrev Inv-loop : tie.InvT-loop
 Inv-loop table₀ i₀ table i = (i ≤ length table₀) × (length table ≡ length table₀) × (table ≡ replicate i 0 ++ drop i table₀)
@@ -16,35 +16,35 @@ Inv-loop table₀ i₀ table i = (i ≤ length table₀) × (length table ≡ le
 abbrev μ-loop : tie.MeasureT-loop
 μ-loop table₀ i₀ table i = length table₀ - i
 
--- src/whole.rt:34:5
+-- src/zero.rt:34:5
 loop-holds : tie.Need-loop-holds Inv-loop μ-loop
 loop-holds c = (omega arith, refl, fill-none _ 0)
 
--- src/whole.rt:35:9
+-- src/zero.rt:35:9
 mul-table : tie.Need-mul-table Inv-loop μ-loop
 mul-table c = omega (arith, c .before .before .good .0 .1)
 
--- src/whole.rt:35:9
+-- src/zero.rt:35:9
 slice-write-table : tie.Need-slice-write-table Inv-loop μ-loop
 slice-write-table c = search needs
 
--- src/whole.rt:36:9
+-- src/zero.rt:36:9
 add-i : tie.Need-add-i Inv-loop μ-loop
 add-i c = search needs
 
--- src/whole.rt:34:5
+-- src/zero.rt:34:5
 loop-less : tie.Need-loop-less Inv-loop μ-loop
 loop-less c = omega arith
 
--- src/whole.rt:34:5
+-- src/zero.rt:34:5
 loop-again : tie.Need-loop-again Inv-loop μ-loop
 loop-again c = (omega arith, simp length-set (c .before .loop .inv .1), ap (λ (l : List ℕ). set l (c .before .loop .i) 0) (c .before .loop .inv .2) ∙ fill-more (c .before .loop .i) 0 (c .before .before .args .table .now) (omega arith))
 
--- src/whole.rt:30:1
+-- src/zero.rt:30:1
 same-length : tie.Need-same-length Inv-loop μ-loop
 same-length c = c .before .loop .inv .1
 
--- src/whole.rt:30:1
+-- src/zero.rt:30:1
 returns : tie.Need-returns Inv-loop μ-loop
 returns c = let e : c .before .loop .i ≡ length (c .before .before .args .table .now) = omega arith in let h : length (c .before .before .args .table .now) ≤ c .before .loop .i = omega arith in c .before .loop .inv .2 ∙ ap (λ (l : List ℕ). replicate (c .before .loop .i) 0 ++ l) (drop-of-length-le (c .before .before .args .table .now) h) ∙ append-nil _ ∙ ap (λ (n : ℕ). replicate n 0) e
 

@@ -1,12 +1,12 @@
 use native.Mathlib.Omega.{arith}
-use mathlib.Core.Path.{sym, _∙_}
-use Rattle.listing.proofs.Reached.{words-as}
+use mathlib.Core.Path.{sym, ap, _∙_}
+use Rattle.recorder.specs.Standing.{sizeOf}
 use Rattle.recorder.proofs.Reading.{record-within}
 use borrow.Author.Needs.{needs}
-use Rattle.listing.proofs.words_at.Statement.{statement}
-use Rattle.listing.proofs.words_at.Tie as tie
-use Rattle.listing.proofs.words_at.Reads as reads
-use Rattle.listing.proofs.words_at.Lts as lts
+use Rattle.listing.proofs.size.Statement.{statement}
+use Rattle.listing.proofs.size.Tie as tie
+use Rattle.listing.proofs.size.Reads as reads
+use Rattle.listing.proofs.size.Lts as lts
 use Rattle.recorder.proofs.read.cut.Reads as cut-reads
 
 -- src/lib.rt:19:11
@@ -31,18 +31,18 @@ enum-told-2 c = search needs
 
 -- src/lib.rt:16:1
 returns : tie.Need-returns
-returns c = words-as _ _ (sym (c .before .n .given .1) ∙ c .before .before .before .cut .ensures)
+returns c = ap sizeOf (sym (c .before .n .given .1) ∙ c .before .before .before .cut .ensures)
 
 -- src/lib.rt:16:1
 returns-2 : tie.Need-returns-2
-returns-2 c = words-as _ _ (sym (c .enum-told .given .1) ∙ c .before .before .cut .ensures)
+returns-2 c = ap sizeOf (sym (c .enum-told .given .1) ∙ c .before .before .cut .ensures)
 
 -- src/lib.rt:16:1
 returns-3 : tie.Need-returns-3
-returns-3 c = words-as _ _ (sym (c .enum-told2 .given .1) ∙ c .before .before .cut .ensures)
+returns-3 c = ap sizeOf (sym (c .enum-told2 .given .1) ∙ c .before .before .cut .ensures)
 
-pub words-at-spec : {M : Type 1} → statement M
-words-at-spec =
+pub size-spec : {M : Type 1} → statement M
+size-spec =
     tie.close
     (tie.spec
     cut-requires
