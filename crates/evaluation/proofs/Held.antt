@@ -1,12 +1,12 @@
 -- Laws of bytes that hold values: where a value's bytes stand, and what writing one leaves. Assumes nothing.
 use Prim.Native.Nat.{ℕ, zero, suc, _+_, _≤_, _<_}
-use mathlib.Core.Path.{_≡_, refl, sym, _∙_, ap, ap₂, subst}
-use mathlib.Core.Bool.{Bool, true, false}
+use mathlib.Core.Path.{_≡_, refl, sym, _∙_, ap, ap₂}
+use mathlib.Core.Bool.{false}
 use mathlib.Core.List.{List, [], _∷_, _++_, map, append-assoc}
 use native.Mathlib.Omega.{arith}
 use native.Mathlib.Nat.{not-suc-le-zero, add-zero, add-suc, suc-add}
 use lib.ListN.{length, getD, take, drop, set, length-append, length-map, List·getD-map}
-use lib.Seq.{sets, sets-eq, take-append-le, drop-append-le, ext-getD}
+use lib.Seq.{sets-eq, take-append-le, drop-append-le, ext-getD}
 use Rattle.bits.specs.Bits.{Bits, digit, window}
 use Rattle.recorder.specs.Lists.{over}
 use Rattle.simulation.specs.Run.{flat}
@@ -85,9 +85,6 @@ module _ {ws : List ℕ} {vs : List Bits} {rest bytes : List ℕ} (h : Holds ws 
 
   pub holds-room : (i : ℕ) → i < length ws → offset ws i + getD ws i 0 ≤ length bytes
   holds-room i q = omega (arith, room i q, ap length (h .begin), length-append (map digit (flat vs)) rest)
-
-  pub holds-total : offset ws (length ws) ≤ length bytes
-  holds-total = omega (arith, digits, flat-total ws vs (h .wide), ap length (h .begin), length-append (map digit (flat vs)) rest)
 
   -- the bytes of value i
   pub holds-part : (i : ℕ) → i < length ws → part bytes (offset ws i) (getD ws i 0) ≡ map digit (getD vs i [])

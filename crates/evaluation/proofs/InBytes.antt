@@ -1,21 +1,21 @@
 -- Laws of copies, tests and numbers in bytes. Assumes nothing.
 use Prim.Native.Nat.{ℕ, zero, suc, _+_, _-_, _*_, _/_, _%_, _^_, _≤_, _<_}
-use mathlib.Core.Path.{_≡_, refl, sym, _∙_, ap, ap₂, subst}
+use mathlib.Core.Path.{_≡_, refl, sym, _∙_, ap, ap₂}
 use mathlib.Core.Logic.{_⊎_, inl, inr, _≢_}
 use mathlib.Core.Bool.{Bool, true, false, _&&_, _||_, not}
 use mathlib.Core.List.{List, [], _∷_, _++_, map}
 use mathlib.Core.Option.{none, some, Option·some-ne-none}
 use native.Mathlib.Omega.{arith}
 use native.Mathlib.Numerals.{add-one}
-use native.Mathlib.Nat.{add-zero, add-suc, not-suc-le-zero, zero-add, add-mul, mul-add, mul-assoc, mul-comm, mul-mul-mul-comm, mul-le-mul}
+use native.Mathlib.Nat.{add-zero, not-suc-le-zero, add-mul, mul-add, mul-assoc, mul-comm, mul-mul-mul-comm, mul-le-mul}
 use lib.Bits.{bitAnd, bitOr, bitXor}
 use lib.Dec.{eqb, leb}
-use lib.ListN.{length, getD, take, drop, set, length-set, length-map, length-drop, drop-of-length-le}
-use lib.Seq.{sets, getD-take, getD-drop, getD-set-other, getD-set-same, drop-cons, length-take-le}
-use borrow.Author.Tests.{eq-eqb, ne-eqb, eqb-true, eqb-false, leb-true}
+use lib.ListN.{length, getD, take, drop, set, length-map, length-drop, drop-of-length-le}
+use lib.Seq.{sets, getD-take, getD-drop, getD-set-other, drop-cons, length-take-le}
+use borrow.Author.Tests.{eq-eqb, ne-eqb, leb-true}
 use Rattle.bits.specs.Bits.{pick, Bits, digit, number, binary, same, sameBits, differ}
 use Rattle.recorder.specs.Lists.{over}
-use Rattle.recorder.proofs.Room.{copy-start, copy-step, copy-end, length-over}
+use Rattle.recorder.proofs.Room.{copy-step, copy-end}
 use Rattle.simulation.specs.Run.{isOne, noBit}
 use Rattle.evaluation.specs.Bytes.{part, sameBytes, gateOf}
 

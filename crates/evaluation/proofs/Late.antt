@@ -3,7 +3,7 @@ use Prim.Native.Nat.{ℕ, zero, suc, _+_, _≤_, _<_}
 use mathlib.Core.Path.{_≡_, refl, sym, _∙_, ap, ap₂, subst, fun-ext}
 use mathlib.Core.Bool.{Bool, true, false, _&&_}
 use mathlib.Core.Logic.{_⊎_, inl, inr}
-use mathlib.Core.List.{List, [], _∷_, map}
+use mathlib.Core.List.{List, [], _∷_}
 use mathlib.Core.Option.{Option, none, some}
 use native.Mathlib.Omega.{arith}
 use native.Mathlib.Nat.{zero-add, not-suc-le-zero}
@@ -12,13 +12,13 @@ use lib.Dec.{eqb}
 use lib.ListN.{length, getD, take, drop}
 use Rattle.bits.specs.Bits.{Bits, pick}
 use Rattle.settle.specs.Table.{at as signalsAt, tabFrom, length-tab, getD-tab}
-use Rattle.recorder.specs.Record.{Signal, RegReset, RegEnable, Expr, Stmt, Model, assign, reg}
+use Rattle.recorder.specs.Record.{Signal, RegReset, RegEnable, Stmt, Model, assign, reg}
 use Rattle.recorder.specs.Read.{only}
 use Rattle.recorder.specs.Evaluate.{Signals, evalExpr}
 use Rattle.simulation.specs.Wellformed.{orElse}
 use Rattle.simulation.specs.Tick.{Firing, target, given, assigns, asserted, resetLoads, enabled, loads, become, valuesIn, settle, commit, setInputs, tick, looped}
 use Rattle.simulation.specs.Sound.{Sound}
-use Rattle.evaluation.specs.Consistent.{assigned, stored, computed, exprAt, Consistent}
+use Rattle.evaluation.specs.Consistent.{assigned, stored, exprAt, Consistent}
 use Rattle.evaluation.specs.Loads.{marked, resetValue}
 use Rattle.evaluation.specs.Late.{SameFree, Output, Late, Asks, resetSignal, enableSignal}
 use Rattle.evaluation.proofs.Consistent.{consistent-settles, settled-consistent}
@@ -31,9 +31,6 @@ beyond (x ∷ l) (suc s) h = beyond l s (omega arith)
 
 pub free-sym : {m : Model} {a b : List Bits} → SameFree m a b → SameFree m b a
 free-sym f = record { as-many = sym (f .as-many); free = λ s q. sym (f .free s q) }
-
-pub free-trans : {m : Model} {a b c : List Bits} → SameFree m a b → SameFree m b c → SameFree m a c
-free-trans f g = record { as-many = f .as-many ∙ g .as-many; free = λ s q. f .free s q ∙ g .free s q }
 
 -- SETTLING
 

@@ -120,9 +120,6 @@ module _ (signals exprs stmts : List ℕ) where
     pub marks-long : length marks ≡ length marks₀
 
 module _ {signals exprs stmts bytes : List ℕ} where
-  pub named-same : {values values′ : List ℕ} → values′ ≡ values → SettlesNamed signals exprs stmts bytes values → SettlesNamed signals exprs stmts bytes values′
-  named-same z s = subst (λ (l : List ℕ). SettlesNamed signals exprs stmts bytes l) (sym z) s
-
   pub passing-start : {n : ℕ} {values marks : List ℕ} → RightOn signals exprs stmts (InMarks marks) bytes values → Passing signals exprs stmts n bytes values marks values marks false 0
   passing-start {marks = marks} r = record { right = r; within = omega arith; fewer = λ z. absurd (false≢true z); no-more = omega arith; quiet = λ z. quiet-none (modelIn signals exprs stmts) marks; values-long = refl; marks-long = refl }
 

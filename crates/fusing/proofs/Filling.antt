@@ -6,7 +6,7 @@ use native.Mathlib.Omega.{arith}
 use native.Mathlib.Nat.{not-suc-le-zero, add-zero}
 use native.Mathlib.Decide.{decLt}
 use lib.ListN.{length, getD, set, take, drop, length-set}
-use lib.Seq.{sets, length-sets, getD-set-same, getD-set-other, drop-at, drop-length, length-take-le}
+use lib.Seq.{sets, getD-set-same, getD-set-other, drop-at, drop-length, length-take-le}
 use borrow.Rule.Slice.PartMut.{postOf, putMid, post-is}
 use Rattle.simulation.specs.Index.{recordsIn, widthsIn, offset, clipped}
 use Rattle.simulation.proofs.Offsets.{clipped-sum}
@@ -45,9 +45,6 @@ sets-at (a ∷ vs) l i (suc j) h q =
 -- ONE EXPRESSION MORE
 
 module _ {e own : ℕ} {z : Lut} {forms forms′ : List ℕ} (p : Puts e own z forms forms′) where
-  pub puts-length : length forms′ ≡ length forms
-  puts-length = ap length (p .stored) ∙ length-sets forms (6 * e) (p .table ∷ own ∷ z .a ∷ z .b ∷ z .c ∷ z .d ∷ [])
-
   kept-before : (i : ℕ) → i < 6 * e → getD forms′ i 0 ≡ getD forms i 0
   kept-before i h = ap (λ (l : List ℕ). getD l i 0) (p .stored) ∙ sets-before (p .table ∷ own ∷ z .a ∷ z .b ∷ z .c ∷ z .d ∷ []) forms (6 * e) i h
 

@@ -2,30 +2,25 @@
 use mathlib.Core.Path.{_≡_, refl, ap, ap₂, sym, _∙_, subst}
 use mathlib.Core.Bool.{Bool, true, false, _&&_}
 use mathlib.Core.List.{List, [], _∷_, _++_, append-nil}
-use Prim.Native.Nat.{ℕ, zero, suc, _+_, _≤_, _<_, min}
+use Prim.Native.Nat.{ℕ, suc, _+_, _≤_, _<_, min}
 use native.Mathlib.Nat.{add-zero, add-suc, suc-add}
 use native.Mathlib.Numerals.{add-one}
 use native.Mathlib.Omega.{arith}
 use lib.Dec.{leb}
 use lib.ListN.{length, getD, drop, set, length-append, drop-of-length-le}
-use lib.Seq.{sets, length-sets, drop-cons}
+use lib.Seq.{sets, drop-cons}
 use borrow.Author.Tests.{le-leb, lt-leb}
-use Rattle.bits.specs.Bits.{pick}
 use Rattle.recorder.specs.declared.Tape.{Tape}
 use Rattle.recorder.specs.declared.Tapes.{Tapes}
 use Rattle.recorder.specs.declared.Put.{Put}
 use Rattle.recorder.specs.declared.Put.the-variants.{At, Full}
 use Rattle.recorder.specs.declared.AsyncReset.{AsyncReset}
 use Rattle.recorder.specs.declared.Enable.{Enable}
-use Rattle.recorder.specs.Record.{Signal, Expr, Stmt, Stmt.reg, sized, signalWords, exprWords, stmtWords}
-use Rattle.recorder.specs.Lists.{fits, over, behind, putOf, putIn, Recorded, PushedSignal, PushedExpr, PushedStmt, resetOf, enableOf}
+use Rattle.recorder.specs.Record.{Stmt.reg, sized, signalWords, exprWords, stmtWords}
+use Rattle.recorder.specs.Lists.{fits, over, behind, Recorded, PushedSignal, PushedExpr, PushedStmt, resetOf, enableOf}
 use Rattle.recorder.proofs.Wrote.{signalAnswer, exprAnswer, stmtAnswer, wrote-signal, wrote-expr, wrote-stmt}
 
 -- WORDS OVER A LIST
-
-pub length-over : (l : List ℕ) (i : ℕ) (ws : List ℕ) → length (over l i ws) ≡ length l
-unfolding over
-length-over l i ws = length-sets l i ws
 
 pub over-over : (vs ws l : List ℕ) (i : ℕ) → over (over l i vs) (i + length vs) ws ≡ over l i (vs ++ ws)
 unfolding over

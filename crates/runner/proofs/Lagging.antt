@@ -1,5 +1,5 @@
 -- Ticks by a plan: inputs, registers and outputs make a tick, late; and the list of them. Assumes nothing.
-use Prim.Native.Nat.{ℕ, zero, suc, _+_, _-_, _*_, _/_, _≤_, _<_, min}
+use Prim.Native.Nat.{ℕ, suc, _+_, _-_, _*_, _/_, _≤_, _<_, min}
 use mathlib.Core.Path.{_≡_, refl, sym, _∙_, ap, ap₂, subst}
 use mathlib.Core.Bool.{Bool, true, false, not, _||_, false≢true}
 use mathlib.Core.Logic.{_⊎_}
@@ -12,15 +12,15 @@ use lib.ListN.{length, getD, take, drop, length-map, length-append}
 use lib.Seq.{take-at, drop-at}
 use Rattle.bits.specs.Bits.{Bits, digit, pick}
 use Rattle.settle.specs.Table.{length-tab}
-use Rattle.recorder.specs.Record.{Signal, Model, assign}
+use Rattle.recorder.specs.Record.{Signal, Model}
 use Rattle.recorder.specs.Lists.{Lists, lists, over}
 use Rattle.recorder.specs.Read.{modelOf}
 use Rattle.recorder.specs.Words.{rawOf}
 use Rattle.simulation.specs.Wellformed.{largest, malformed, firstFault}
-use Rattle.simulation.specs.Tick.{Firing, given, assigns, settle, commit, setInputs, tick, looped}
+use Rattle.simulation.specs.Tick.{Firing, settle, commit, setInputs, tick, looped}
 use Rattle.simulation.specs.Run.{isOne, firing, inputWidth, total, tickBits, flat}
 use Rattle.simulation.specs.Shown.{shownBytes}
-use Rattle.simulation.specs.Index.{recordsIn, widthsIn, offset, stmtsIn}
+use Rattle.simulation.specs.Index.{recordsIn, widthsIn, offset}
 use Rattle.simulation.specs.Sound.{Sound}
 use Rattle.simulation.proofs.Flat.{Wide}
 use Rattle.simulation.proofs.Sound.{sound}
@@ -28,17 +28,17 @@ use Rattle.simulation.proofs.Found.{faultless, signals-wide, signals-count, stm
 use Rattle.simulation.proofs.Steps.{length-widths}
 use Rattle.evaluation.specs.Bytes.{Holds}
 use Rattle.evaluation.specs.Ready.{Prepared, modelIn}
-use Rattle.evaluation.specs.Ticks.{Filled, signalsIn, Inputs, Settled, Ticks, GoodTicks}
-use Rattle.evaluation.specs.Late.{Among, SameFree, Output, Late, Loaded, StoresListed, LoadsListed, TicksLate}
+use Rattle.evaluation.specs.Ticks.{Filled, signalsIn, Inputs, Settled, Ticks}
+use Rattle.evaluation.specs.Late.{SameFree, Output, Late, StoresListed, LoadsListed, TicksLate}
 use Rattle.evaluation.proofs.Held.{holds-length, map-append, flat-total}
 use Rattle.evaluation.proofs.Whole.{is-sound}
 use Rattle.evaluation.proofs.Calling.{holds-same, holds-state as state-of, holds-behind as behind-of, holds-ticked}
-use Rattle.evaluation.proofs.Late.{free-sym, settle-free, settle-long, settled-so, loaded-late, shown-late, tick-free, late-itself, late-free}
+use Rattle.evaluation.proofs.Late.{settle-free, settled-so, loaded-late, shown-late, tick-free, late-itself, late-free}
 use Rattle.coding.specs.Coded.{SettlesCode}
 use Rattle.runner.specs.declared.code.Code.{Code}
 use Rattle.runner.specs.Calls.{firedBy, outputWidth, answerWords}
-use Rattle.runner.specs.Plan.{registersAt, controlsAt, outputsAt, firstAt, secondAt, Planned, Planning}
-use Rattle.runner.specs.Parts.{afterTick, tickCauses, RunsTick, LoadsAfter, ShowsAfter, LateAfter, RunsLate, isMade, finished, Finishes, RunsTicks}
+use Rattle.runner.specs.Plan.{controlsAt, outputsAt, firstAt, secondAt, Planned, Planning}
+use Rattle.runner.specs.Parts.{tickCauses, RunsTick, LoadsAfter, ShowsAfter, RunsLate, isMade, finished, Finishes, RunsTicks}
 use Rattle.runner.proofs.Ticking.{good-ticks}
 use Rattle.runner.proofs.Running.{Running, running-start, running-end, running-step}
 
@@ -46,9 +46,6 @@ use Rattle.runner.proofs.Running.{Running, running-start, running-end, 
 
 pub code-fills : {signals exprs stmts order : List ℕ} {from k : ℕ} {bytes values′ : List ℕ} → Filled (widthsIn signals) bytes → SettlesCode signals exprs stmts order from k bytes values′ → Filled (widthsIn exprs) values′
 code-fills f s = let v = s .settles-code (f .values) (f .rest) (f .holds) in record { values = v .0; rest = v .1; holds = v .2 }
-
-pub stores-fill : {signals exprs stmts order : List ℕ} {from k : ℕ} {values bytes bytes′ : List ℕ} → Filled (widthsIn signals) bytes → Filled (widthsIn exprs) values → StoresListed signals exprs stmts order from k values bytes bytes′ → Filled (widthsIn signals) bytes′
-stores-fill f g s = let v = s .stores-listed (f .values) (g .values) (f .rest) (g .rest) (f .holds) (g .holds) in record { values = v .0; rest = f .rest; holds = v .1 }
 
 pub after-fills : {signals exprs stmts : List ℕ} {fires : Firing} {bytes bytes′ : List ℕ} → Filled (widthsIn signals) bytes → LoadsAfter signals exprs stmts fires bytes bytes′ → Filled (widthsIn signals) bytes′
 after-fills f s = let v = s .loads-after (f .values) (f .rest) (f .holds) in record { values = v .0; rest = f .rest; holds = v .1 }

@@ -4,7 +4,7 @@ use mathlib.Core.Path.{_≡_, refl, sym, _∙_, ap, ap₂, subst}
 use mathlib.Core.List.{List, [], _∷_, _++_, map}
 use mathlib.Core.Option.{Option, none, some}
 use native.Mathlib.Omega.{arith}
-use lib.ListN.{length, take, drop, length-map}
+use lib.ListN.{length, length-map}
 use borrow.Author.Tests.{le-ltb}
 use Rattle.bits.specs.Bits.{Bits, digit}
 use Rattle.recorder.specs.Record.{Model}
@@ -13,16 +13,16 @@ use Rattle.recorder.specs.Read.{modelOf}
 use Rattle.recorder.specs.Words.{rawOf}
 use Rattle.simulation.specs.Wellformed.{largest, firstFault, malformed}
 use Rattle.simulation.specs.Tick.{looped, tick}
-use Rattle.simulation.specs.Run.{Call, callModel, firing, inputWidth, total, signalBytes, tickBits, short, noBit, wrongCount, wrongFired, onLoop, firstOf, causes, refusal, verdict, answer, flat, isOne, stateBefore, ticked, bytesAfter, run}
+use Rattle.simulation.specs.Run.{Call, firing, inputWidth, total, signalBytes, tickBits, short, noBit, wrongCount, wrongFired, onLoop, firstOf, causes, refusal, verdict, answer, flat, isOne, ticked, bytesAfter, run}
 use Rattle.simulation.specs.Shown.{Entry, entryCall}
 use Rattle.simulation.specs.Index.{recordsIn, widthsIn}
 use Rattle.simulation.proofs.Found.{faultless, signals-count}
-use Rattle.simulation.proofs.Kept.{AllNone, all-none, short-none, count-none, accepted-good}
+use Rattle.simulation.proofs.Kept.{AllNone, all-none, count-none, accepted-good}
 use Rattle.simulation.proofs.Calls.{only-false}
 use Rattle.evaluation.specs.Bytes.{Holds}
 use Rattle.evaluation.specs.Ready.{modelIn}
-use Rattle.evaluation.specs.Ticks.{Filled, signalsIn, GoodTicks, Ticks}
-use Rattle.evaluation.proofs.Calling.{holds-same, holds-state, holds-behind, holds-enough, holds-bits, holds-ticked, bytes-hold}
+use Rattle.evaluation.specs.Ticks.{Filled, signalsIn, GoodTicks}
+use Rattle.evaluation.proofs.Calling.{holds-same, holds-state, holds-behind, holds-enough, holds-bits, holds-ticked}
 use Rattle.runner.specs.Parts.{tickCauses, afterTick, RunsTick, Enough}
 
 pub short-so : (n : ℕ) (l : List ℕ) → n ≤ length l → short n l ≡ none
@@ -40,12 +40,6 @@ good-ticks signals ticks fired count inputs e q =
     record { right-count = count-none inputs ticks (a .0) ∙ e; all-bits = a .1 .0 }
 
 module _ {signals exprs stmts ticks : List ℕ} {fired : Option (ℕ × ℕ)} {bytes : List ℕ} where
-  pub tick-refused : (r : ℕ × ℕ) → RunsTick signals exprs stmts ticks fired (some r) bytes bytes
-  tick-refused r = record { runs = λ old behind ho. ho }
-
-  pub tick-made : {bytes′ : List ℕ} → Ticks signals exprs stmts ticks (firing fired) bytes bytes′ → RunsTick signals exprs stmts ticks fired none bytes bytes′
-  tick-made t = record { runs = λ old behind ho. t .ticks-to old behind ho }
-
   pub tick-filled : {a : Option (ℕ × ℕ)} {bytes′ : List ℕ} → RunsTick signals exprs stmts ticks fired a bytes bytes′ → Filled (widthsIn signals) bytes → Filled (widthsIn signals) bytes′
   tick-filled {a} t f = record { values = afterTick (modelIn signals exprs stmts) ticks fired a (f .values); rest = f .rest; holds = t .runs (f .values) (f .rest) (f .holds) }
 
@@ -94,16 +88,3 @@ module _ (l : Lists) (h : malformed largest l ≡ none) (u : looped (modelOf (ra
       -- and leaves the same
       pub same-bytes : {bytes′ : List ℕ} → RunsTick (l .signals) (l .exprs) (l .stmts) (e .ticks) (e .fired) a bytes bytes′ → bytes′ ≡ run largest (entryCall l bytes e) .bytes
       same-bytes {bytes′} r = holds-same (subst (λ (o : Option (ℕ × ℕ)). Holds (widthsIn (l .signals)) (afterTick m (e .ticks) (e .fired) o old) behind bytes′) same-answer (r .runs old behind ho)) entry-holds
-
--- A CALL THAT IS NOT REFUSED BEFORE A LOOP IS LOOKED FOR
-
-module _ (c : Call) (h : malformed largest (c .lists) ≡ none) (q : firstOf (take 8 (causes (callModel c) c)) ≡ none) where
-  all : AllNone (take 8 (causes (callModel c) c))
-  all = all-none (take 8 (causes (callModel c) c)) q
-
-  pub call-holds : Holds (widthsIn (c .lists .signals)) (stateBefore c) (drop (signalBytes (callModel c)) (c .bytes)) (c .bytes)
-  call-holds = bytes-hold largest (c .lists) (faultless largest (c .lists) h) (short-none (signalBytes (callModel c)) (c .bytes) (all .0)) (all .1 .1 .1 .1 .0)
-
-  pub call-ticks : GoodTicks (c .lists .signals) (c .ticks)
-  unfolding modelOf
-  call-ticks = record { right-count = count-none (tickBits (callModel c)) (c .ticks) (all .1 .1 .1 .1 .1 .0); all-bits = all .1 .1 .1 .1 .1 .1 .0 }

@@ -28,16 +28,6 @@ ghost use Rattle.evaluation.specs.Ticks.{ReadSignals};
 ghost use Rattle.runner.specs.Calls.{listAnswer};
 ghost use Rattle.runner.specs.Whole.{listCall, shownCauses, faultCauses, listCheckedBy, ListUnrefused, Leaves, TriesList};
 
-pub fn zero_longs(table: &mut [u64])
-    ensures { λ _. ⌜ now (table .exit) ≡ zeroed (now (table .entry)) ⌝ }
-{
-    let mut i = 0;
-    while i < table.len() {
-        table[i] = 0;
-        i += 1;
-    }
-}
-
 pub fn zero_works(work_bits: &mut [u8], work_exprs: &mut [u8], work_signals: &mut [u8])
     ensures { λ _. ⌜ (now («work_bits» .exit) ≡ zeroed (now («work_bits» .entry))) × (now («work_exprs» .exit) ≡ zeroed (now («work_exprs» .entry))) × (now («work_signals» .exit) ≡ zeroed (now («work_signals» .entry))) ⌝ }
 {

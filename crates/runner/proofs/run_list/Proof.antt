@@ -8,7 +8,7 @@ use Rattle.runner.proofs.run_list.Tie as tie
 use Rattle.runner.proofs.run_list.Reads as reads
 use Rattle.runner.proofs.run_list.Lts as lts
 use Rattle.runner.proofs.whole.run_list_with.Reads as run-list-with-reads
-use Rattle.runner.proofs.whole.zero_longs.Reads as zero-longs-reads
+use Rattle.simulation.proofs.zero.zero_longs.Reads as zero-longs-reads
 use Rattle.runner.proofs.whole.zero_tables.Reads as zero-tables-reads
 use Rattle.runner.proofs.whole.zero_works.Reads as zero-works-reads
 use Rattle.simulation.proofs.zero.zero_bytes.Reads as zero-bytes-reads
