@@ -51,8 +51,8 @@ size_t reamerpoppy_run(
 
 /* A netlist and a list of ticks from signals of zeros. `heads` has three words a tick: how many bits, `fires`, `signal`; `bits` has the bits of all.
  * `answers` gets two numbers a tick, number and place of its refusal or zeros; `shown` the output ports' bits after each tick.
- * It is fast where wires and places have a word more than there are expressions, parts and values one more than signals, banks eight
- * for each expression, and work_bits a byte for each bit of all expressions and signals. */
+ * It is fast where wires and places have a word more than there are expressions, parts and values one more than signals, banks nine
+ * for each expression and three for each signal, and work_bits a byte for each bit of all expressions and signals. */
 size_t reamerpoppy_simulate(
     const uint32_t *words, size_t words_len,
     const uint32_t *heads, size_t heads_len,
