@@ -14,14 +14,13 @@ use text::flush;
 use text::put_byte;
 use words::words_of;
 ghost use Rattle.io.specs.Counts.{Counts};
+ghost use Rattle.recorder.specs.Lists.{lists};
+ghost use Rattle.lower.specs.Entry.{LowersWords, LowersBytes};
 
 // The model's lists, or the refusal. Works are this program's own.
-fn lower_words(
-    words: &[u32],
-    signals: &mut [u32],
-    exprs: &mut [u32],
-    stmts: &mut [u32],
-) -> Lowered {
+fn lower_words(words: &[u32], signals: &mut [u32], exprs: &mut [u32], stmts: &mut [u32]) -> Lowered
+    ensures { λ r. ⌜ LowersWords (now (words .entry)) (lists (now (signals .entry)) (now (exprs .entry)) (now (stmts .entry))) r (lists (now (signals .exit)) (now (exprs .exit)) (now (stmts .exit))) ⌝ }
+{
     let mut w0 = [0u32; 16384];
     let mut w1 = [0u32; 16384];
     let mut w2 = [0u32; 16384];
@@ -41,7 +40,9 @@ fn lower_words(
 }
 
 // A netlist has 65,536 bytes at most, in whole words.
-fn lower_bytes(bytes: &[u8], signals: &mut [u32], exprs: &mut [u32], stmts: &mut [u32]) -> Lowered {
+fn lower_bytes(bytes: &[u8], signals: &mut [u32], exprs: &mut [u32], stmts: &mut [u32]) -> Lowered
+    ensures { λ r. ⌜ LowersBytes (now (bytes .entry)) (lists (now (signals .entry)) (now (exprs .entry)) (now (stmts .entry))) r (lists (now (signals .exit)) (now (exprs .exit)) (now (stmts .exit))) ⌝ }
+{
     if 65536 < bytes.len() {
         return Lowered::Refused(Refusal::BadTrailer);
     }

@@ -6,11 +6,11 @@ use Rattle.lower.proofs.used.Tie as tie
 use Rattle.lower.proofs.used.Reads as reads
 use Rattle.lower.proofs.used.Lts as lts
 
--- src/main.rt:50:1
+-- src/main.rt:57:1
 returns : tie.Need-returns
 returns c = (c .if1 .taken, sym (length-take-le _ _ (c .if1 .taken)))
 
--- src/main.rt:50:1
+-- src/main.rt:57:1
 returns-2 : tie.Need-returns-2
 returns-2 c = search needs
 

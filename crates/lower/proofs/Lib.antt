@@ -1,0 +1,2 @@
+-- What the proofs of lower share.
+pub mod Laws

@@ -1,0 +1,2 @@
+-- The specs of lower.
+pub mod Entry
