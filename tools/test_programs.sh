@@ -1,5 +1,5 @@
 #!/bin/sh
-# What no contract says of the programs: input that is too long, or not in whole words. Needs `rt check`.
+# What the programs answer to input that is too long, or not in whole words. Needs `rt check`.
 set -eu
 cd "$(dirname "$0")/.."
 try() { # EXPECTED PROGRAM, bytes on standard input

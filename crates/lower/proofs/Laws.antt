@@ -1,17 +1,17 @@
 -- Laws of the program's call. Assumes nothing.
-use Prim.Native.Nat.{ℕ, _%_, _/_, _≤_, _<_, min}
-use mathlib.Core.Path.{_≡_, refl, sym, _∙_, ap, subst}
+use Prim.Native.Nat.{ℕ, _%_, _≤_, _<_}
+use mathlib.Core.Path.{_≡_, sym, _∙_, ap}
 use mathlib.Core.Bool.{Bool, true, false}
 use mathlib.Core.List.{List, _++_}
 use native.Mathlib.Omega.{arith}
-use lib.Dec.{leb, eqb}
+use lib.Dec.{eqb}
 use lib.ListN.{length, take, drop}
 use lib.Seq.{take-all, take-at}
 use borrow.Author.Tests.{le-leb, lt-leb, eq-eqb, ne-eqb}
 use Rattle.bits.specs.Bits.{pick}
 use Rattle.refusal.specs.declared.Refusal.the-variants.{BadTrailer}
 use Rattle.recorder.specs.Lists.{Lists}
-use Rattle.lowering.specs.Lower.{Refused, Lowering}
+use Rattle.lowering.specs.Lower.{Refused}
 use Rattle.converter.specs.declared.Lowered as c
 use Rattle.words.specs.Words.{wordsOf, Laid}
 use Rattle.words.proofs.Laws.{words-length}
