@@ -1,5 +1,5 @@
 #!/usr/bin/env python3
-"""Whether each must-fail edit, of crates/*/must-fail and of edits/, still fits: its `old:` text stands exactly once in the file it edits."""
+"""Whether each must-fail edit, of crates/*/must-fail and of edits/, still fits: its `old:` text, of one line, stands exactly once in the file it edits."""
 import pathlib, re, sys
 
 root = pathlib.Path(__file__).resolve().parent.parent
@@ -11,6 +11,9 @@ for edit in edits:
     for part in re.split(r'(?m)^(?=(?:file|old|new): )', edit.read_text()):
         key, _, text = part.partition(': ')
         text = text.rstrip('\n')
+        if key in ('old', 'new') and '\n' in text:
+            bad += 1
+            print(f'{edit.relative_to(root)}: more than one line')
         if key == 'file':
             file = root / 'crates' / crate / text
         elif key == 'old':
