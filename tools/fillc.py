@@ -1,10 +1,9 @@
 #!/usr/bin/env python3
-"""fillc CRATE: as fill, for many functions (sections `fn PATH`), from the generated places only (no types are asked for)."""
-import os, re, sys, glob
-os.environ.setdefault('RTX_CACHE', '/tmp/rtx-fill')
+"""fillc CRATE < ANSWERS: writes the answers of many functions' needs (sections `fn PATH`) into their proof files. Needs `rtx` on the PATH."""
+import re, shutil, sys
 from importlib.machinery import SourceFileLoader
 sys.dont_write_bytecode = True
-rtx = SourceFileLoader('rtx', '/work/shared/tools/rtx').load_module()
+rtx = SourceFileLoader('rtx', shutil.which('rtx') or sys.exit('fillc: rtx is not on the PATH')).load_module()
 crate = sys.argv[1]
 repo = rtx.find_repo()
 r = str(repo.root)

@@ -1,13 +1,15 @@
-import os,sys
-os.environ['RTX_CACHE']='/tmp/rtx-me'
+#!/usr/bin/env python3
+"""names CRATE FN NEED: the places from a need's `c` outward, one a line, with the names of their own facts. Needs `rtx` on the PATH."""
+import shutil, sys
 from importlib.machinery import SourceFileLoader
-sys.dont_write_bytecode=True
-rtx=SourceFileLoader('rtx','/work/shared/tools/rtx').load_module()
-crate,fn,need=sys.argv[1:4]
-repo=rtx.find_repo()
-with rtx.mirror(repo) as m: base,key=rtx.generated(m,crate)
-fs=[p for p in sorted(base.rglob('Lts*.antt')) if not p.parent.name.startswith('⟦') and str(p.parent.relative_to(base))==fn]
-lts=rtx.read_lts(fs[0])
-place=lts.needs[need]
-for n,at in enumerate(rtx.chain(lts,place)):
-    print(n,at,[f for f,t in lts.records[at] if f!='before'])
+
+sys.dont_write_bytecode = True
+found = shutil.which('rtx') or sys.exit('names: rtx is not on the PATH')
+rtx = SourceFileLoader('rtx', found).load_module()
+crate, fn, need = sys.argv[1:4]
+with rtx.mirror(rtx.find_repo()) as copy:
+    base, _ = rtx.generated(copy, crate)
+files = [p for p in sorted(base.rglob('Lts*.antt')) if not p.parent.name.startswith('⟦') and str(p.parent.relative_to(base)) == fn]
+lts = rtx.read_lts(files[0])
+for n, at in enumerate(rtx.chain(lts, lts.needs[need])):
+    print(n, at, [f for f, _ in lts.records[at] if f != 'before'])

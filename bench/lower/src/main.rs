@@ -17,7 +17,7 @@ use reamerpoppy::calls::{self, WORK};
 fn proved(words: &[u32], lists: &mut [Vec<u32>; 3], works: &mut [Vec<u32>; 5]) -> usize {
     let lists = lists.each_mut().map(Vec::as_mut_slice);
     let works = works.each_mut().map(Vec::as_mut_slice);
-    calls::lower(words, lists, works, &mut [])
+    calls::lower(words, lists, works, &mut [0; 8])
 }
 
 fn by_rust(words: &[u32]) -> Recording {
@@ -152,30 +152,36 @@ fn logic(cells: usize) -> Netlist {
     netlist
 }
 
-/// One block RAM of this depth, four bits wide, on one port.
-fn ram(depth: u32) -> Netlist {
+/// Block RAMs of this depth, four bits wide, on one port, which share their inputs.
+fn rams(count: u32, depth: u32) -> Netlist {
+    const READ: u32 = 40;
     let bit = |wire| Bit::Wire(wire);
-    let ports = vec![
+    let mut ports = vec![
         Port { direction: Direction::Input, bits: (0..34).map(bit).collect() },
         Port { direction: Direction::Input, bits: vec![bit(34)] },
-        Port { direction: Direction::Output, bits: (40..44).map(bit).collect() },
     ];
-    let cell = Cell::BlockRam(Box::new(BlockRam {
-        depth,
-        word_width: 4,
-        physical_width: 1,
-        write_address: std::array::from_fn(|i| bit(i as u32)),
-        write: Control { signal: bit(28), active_high: true },
-        read_address: std::array::from_fn(|i| bit(14 + i as u32)),
-        read_enable: None,
-        clock_enable: None,
-        clock: bit(34),
-        edge: Edge::Rising,
-        data: (29..33).map(bit).collect(),
-        read: (40..44).collect(),
-        second: None,
-    }));
-    Netlist { ports, cells: vec![cell] }
+    let reads = |at: u32| READ + 4 * at..READ + 4 * at + 4;
+    let cells = (0..count)
+        .map(|at| {
+            ports.push(Port { direction: Direction::Output, bits: reads(at).map(bit).collect() });
+            Cell::BlockRam(Box::new(BlockRam {
+                depth,
+                word_width: 4,
+                physical_width: 1,
+                write_address: std::array::from_fn(|i| bit(i as u32)),
+                write: Control { signal: bit(28), active_high: true },
+                read_address: std::array::from_fn(|i| bit(14 + i as u32)),
+                read_enable: None,
+                clock_enable: None,
+                clock: bit(34),
+                edge: Edge::Rising,
+                data: (29..33).map(bit).collect(),
+                read: reads(at).collect(),
+                second: None,
+            }))
+        })
+        .collect();
+    Netlist { ports, cells }
 }
 
 fn table(name: &str, sizes: &[u32], make: impl Fn(u32) -> Netlist) {
@@ -203,5 +209,7 @@ fn main() {
     recorder::keep(usize::MAX);
     table("cells", &[100, 500, 1_000, 2_000, 4_000], |cells| logic(cells as usize));
     println!();
-    table("RAM depth", &[1_024, 2_048, 4_096, 8_192, 16_384], ram);
+    table("RAM depth", &[16, 64, 128, 256, 512, 1_024, 2_048, 4_096, 8_192, 16_384], |depth| rams(1, depth));
+    println!();
+    table("RAMs of 16", &[25, 50, 100, 200], |count| rams(count, 16));
 }

@@ -46,6 +46,8 @@ const SORTS: &[Sort] = &[
     Sort { name: "logic", make: netlists::logic, sizes: SIZES, verilog: true },
     Sort { name: "carry", make: netlists::carry, sizes: SIZES, verilog: true },
     Sort { name: "RAM", make: netlists::rams, sizes: SIZES, verilog: true },
+    // one block RAM: cells are its words
+    Sort { name: "deep", make: netlists::deep, sizes: &[256, 1_024], verilog: true },
     // in the worst order for the search of an order
     Sort { name: "chain", make: netlists::chain, sizes: LARGE, verilog: false },
 ];
@@ -62,6 +64,8 @@ struct Row {
     verilator: Option<Times>,
     model: f64,
     one_tick: Option<f64>,
+    /// The program `simulate`, from its input to its output.
+    program: Option<f64>,
 }
 
 /// A netlist, what the Rust records of it, and the ticks.
@@ -98,7 +102,7 @@ fn measure(sort: &Sort, size: usize, folder: &Path) -> Row {
     let (model_time, by_model) = run_model(&recording, &ticks);
     assert!(shown.starts_with(&by_model), "{} {size}: the model in Rust shows the same", sort.name);
     let one_tick = run_one_by_one(&mut lent, &recording, &ticks, &shown);
-    let (mut icarus, mut verilator) = (None, None);
+    let (mut icarus, mut verilator, mut program) = (None, None, None);
     if sort.verilog {
         let folder = Folder::new(folder.join(format!("{}-{size}", sort.name)), &netlist, &ticks);
         let (times, by_icarus) = folder.icarus(TICKS);
@@ -107,6 +111,7 @@ fn measure(sort: &Sort, size: usize, folder: &Path) -> Row {
         let (times, by_verilator) = folder.verilator(TICKS);
         assert!(shown == by_verilator, "{} {size}: Verilator shows the same", sort.name);
         verilator = Some(times);
+        program = std::env::var("SIMULATE").ok().map(|path| folder.program(&path));
     }
     let expressions = recording.count[EXPRESSIONS];
     Row {
@@ -119,6 +124,7 @@ fn measure(sort: &Sort, size: usize, folder: &Path) -> Row {
         verilator,
         model: model_time,
         one_tick,
+        program,
     }
 }
 
@@ -232,6 +238,7 @@ fn print(rows: &[Row]) {
         "its start",
         "Rust model",
         "tick by tick",
+        "program",
     ]);
     for row in rows {
         let of = |times: &Option<Times>, pick: fn(&Times) -> f64| {
@@ -248,6 +255,7 @@ fn print(rows: &[Row]) {
             of(&row.icarus, |times| times.start),
             milliseconds(row.model),
             optional(row.one_tick, milliseconds),
+            optional(row.program, milliseconds),
         ]);
     }
     println!("\nRatios of the whole runs, and of the ticks alone (whole less start).\n");

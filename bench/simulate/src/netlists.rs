@@ -68,6 +68,35 @@ pub fn rams(size: usize) -> Netlist {
     build.finish(size)
 }
 
+/// One block RAM of this many words of eight bits, read and written where the inputs say.
+pub fn deep(size: usize) -> Netlist {
+    let mut build = Build::new(5, 1);
+    let width = netlist::address_width(size as u32) as usize;
+    let input = |at: usize| Bit::Wire(INPUTS.start + (at % DATA) as u32);
+    let address = |from: usize| {
+        std::array::from_fn(|at| if (3..3 + width).contains(&at) { input(from + at - 3) } else { Bit::Zero })
+    };
+    let read = build.wires(8);
+    build.cells.push(Cell::BlockRam(Box::new(BlockRam {
+        depth: size as u32,
+        word_width: 8,
+        physical_width: 9,
+        write_address: address(0),
+        write: Control { signal: input(31), active_high: true },
+        read_address: address(4),
+        read_enable: None,
+        clock_enable: None,
+        clock: CLOCK,
+        edge: Edge::Rising,
+        data: (0..8).map(|at| input(20 + at)).collect(),
+        read: (read..read + 8).collect(),
+        second: None,
+    })));
+    let shown = (read..read + 8).map(Bit::Wire);
+    let outputs = shown.chain((8..DATA).map(input)).collect();
+    build.ended(outputs)
+}
+
 /// Accumulators and counters of 16 bits: eight CCU2Cs and 16 flip-flops each. LUT4s fill up.
 pub fn carry(size: usize) -> Netlist {
     let mut build = Build::new(4, size);
@@ -381,6 +410,10 @@ impl Build {
         if !self.ordered {
             self.rng.shuffle(&mut self.cells);
         }
+        self.ended(outputs)
+    }
+
+    fn ended(self, outputs: Vec<Bit>) -> Netlist {
         let input = |bits| Port { direction: Direction::Input, bits };
         let ports = vec![
             input(vec![CLOCK]),

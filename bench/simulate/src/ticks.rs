@@ -49,6 +49,18 @@ impl Ticks {
         (&self.heads[3 * at..3 * at + 3], &self.bits[BITS * at..BITS * (at + 1)])
     }
 
+    /// What the program `simulate` reads: all ticks, and a netlist (docs/SIMULATE.md).
+    pub fn session(&self, words: &[u32]) -> Vec<u8> {
+        let lead = [self.len() as u32, self.bits.len() as u32];
+        let bytes = |words: &[u32]| words.iter().flat_map(|word| word.to_le_bytes()).collect::<Vec<_>>();
+        let mut session = bytes(&lead);
+        session.extend(bytes(&self.heads));
+        session.extend(&self.bits);
+        session.resize(session.len().next_multiple_of(4), 0);
+        session.extend(bytes(words));
+        session
+    }
+
     /// Output bits, a byte each, as words.
     pub fn words(&self, bits: &[u8]) -> Vec<u32> {
         let word = |bits: &[u8]| bits.iter().rev().fold(0, |word, &bit| word << 1 | u32::from(bit));

@@ -38,7 +38,15 @@ impl Folder {
         let words = ticks.inputs.iter().flat_map(|&(reset, data)| [u32::from(reset), data]);
         write("ticks.bin", &words.flat_map(u32::to_le_bytes).collect::<Vec<_>>());
         write("drive.cpp", include_bytes!("../drive.cpp"));
+        write("simulate.bin", &ticks.session(&netlist::write(netlist)));
         Self(path)
+    }
+
+    /// The time of the program `simulate` on the same netlist and ticks.
+    pub fn program(&self, simulate: &str) -> f64 {
+        times::processes(3, || {
+            self.run("sh", &["-c", &format!("'{simulate}' < simulate.bin > simulate.txt")]);
+        })
     }
 
     /// What a program writes.
