@@ -26,7 +26,7 @@ use Rattle.recorder.specs.Outcome.{none-yet, Ended, done, refused as turned, fi
 use Rattle.recorder.proofs.Outcomes.{wrote-ended}
 use Rattle.wires.specs.Wires.{entry, noWires, wiresOf}
 use Rattle.lowering.specs.Lower.{start, Lowered, Accepted, Refused, Lowering, overdrivenFrom, judged, ended, lowerNetlist, lowered, loweredRead, lowerWords}
-use Rattle.steps.specs.Steps.{Within, netlistBy, Checked, Unmapped, Roomy, RecordsNetlist}
+use Rattle.converter.specs.Steps.{Within, netlistBy, Checked, Unmapped, Roomy, RecordsNetlist}
 use Rattle.converter.specs.declared.Lowered as c
 use Rattle.converter.specs.Entry.{answerOf, kept, Ready, Attempts, AnswersTo}
 

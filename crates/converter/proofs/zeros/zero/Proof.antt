@@ -16,35 +16,27 @@ Inv-loop list₀ n i₀ list i = (i ≤ n) × (n ≡ length list₀) × (list �
 abbrev μ-loop : tie.MeasureT-loop
 μ-loop list₀ n i₀ list i = n - i
 
--- src/zeros.rt:13:5
 loop-holds : tie.Need-loop-holds Inv-loop μ-loop
 loop-holds c = (omega arith, refl, fill-none _ 0)
 
--- src/zeros.rt:14:9
 mul-list : tie.Need-mul-list Inv-loop μ-loop
 mul-list c = omega arith
 
--- src/zeros.rt:14:9
 slice-write-list : tie.Need-slice-write-list Inv-loop μ-loop
 slice-write-list c = let h = fill-length (c .before .loop .i) (c .before .loop .list) (c .before .before .args .list .now) (omega arith) (c .before .loop .inv .2) in omega arith
 
--- src/zeros.rt:15:9
 add-i : tie.Need-add-i Inv-loop μ-loop
 add-i c = omega arith
 
--- src/zeros.rt:13:5
 loop-less : tie.Need-loop-less Inv-loop μ-loop
 loop-less c = omega arith
 
--- src/zeros.rt:13:5
 loop-again : tie.Need-loop-again Inv-loop μ-loop
 loop-again c = (omega arith, refl, ap (λ (l : List ℕ). set l (c .before .loop .i) 0) (c .before .loop .inv .2) ∙ fill-more (c .before .loop .i) 0 _ (omega arith))
 
--- src/zeros.rt:8:1
 same-length : tie.Need-same-length Inv-loop μ-loop
 same-length c = fill-length (c .before .loop .i) (c .before .loop .list) (c .before .before .args .list .now) (omega arith) (c .before .loop .inv .2)
 
--- src/zeros.rt:8:1
 returns : tie.Need-returns Inv-loop μ-loop
 returns c = filled (c .before .loop .i) (c .before .loop .list) (c .before .before .args .list .now) (c .before .loop .inv .2) (omega arith)
 

@@ -1,0 +1,46 @@
+// The RAMs.
+use memories::distributed_ram::emit_distributed_ram;
+use netlist::fields::field;
+use netlist::fields::wide;
+use recorder::Stated;
+use recorder::Tapes;
+use refusal::Refusal;
+use wires::Constants;
+ghost use Rattle.wires.specs.Wires.{wiresOf};
+ghost use Rattle.recorder.specs.Lists.{lists};
+ghost use Rattle.netlist.specs.Fields.{distributedRamAt};
+ghost use Rattle.converter.specs.Emits.{EmitsDistributed};
+
+// One with a second port is refused (10).
+pub fn distributed_ram_cell(
+    sigs: &mut [u32],
+    exprs: &mut [u32],
+    stmts: &mut [u32],
+    parts: &mut [u32],
+    signals: &[u32],
+    places: &[u32],
+    t: Tapes,
+    constants: Constants,
+    owner: u32,
+    words: &[u32],
+    at: usize,
+) -> Stated
+    ensures { λ r. ⌜ EmitsDistributed (lists (now (sigs .entry)) (now (exprs .entry)) (now (stmts .entry))) (now (parts .entry)) t (wiresOf (now (signals .entry)) (now (places .entry))) constants owner (distributedRamAt (now (words .entry)) at) r (lists (now (sigs .exit)) (now (exprs .exit)) (now (stmts .exit))) ⌝ }
+{
+    if field(words, at, 21) == 1 {
+        return Stated::Refused(Refusal::UnsupportedTrueDualPortMemory(wide(owner)));
+    }
+    emit_distributed_ram(
+        sigs,
+        exprs,
+        stmts,
+        parts,
+        signals,
+        places,
+        t,
+        constants,
+        owner,
+        words,
+        at,
+    )
+}
