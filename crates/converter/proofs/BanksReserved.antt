@@ -49,37 +49,37 @@ module _ (words : List ℕ) (at n : ℕ) (banks : List ℕ) (count : ℕ) where
   left-end so m b h = ap (reserveFlipFlopBanks m b) (drop-of-length-le bs (banks-end so b h))
 
   -- a bank's members fit
-  bank-fits : {ss ps ss₀ ps₀ : List ℕ} → length ss ≡ length ss₀ → length ps ≡ length ps₀ → (b : ℕ) → b < count → (limits : Limits) → BanksFit ss₀ ps₀ words at n banks count limits → MembersFit ss ps (membersIn words banks (scan b)) limits
+  bank-fits : {wires places wires₀ places₀ : List ℕ} → length wires ≡ length wires₀ → length places ≡ length places₀ → (b : ℕ) → b < count → (limits : Limits) → BanksFit wires₀ places₀ words at n banks count limits → MembersFit wires places (membersIn words banks (scan b)) limits
   unfolding bankOf
-  bank-fits {ss} {ps} ks kp b h limits p =
-      subst (λ (ms : List Member). Room limits ss ps × Each (FitsWire limits) (outputsOf ms) × (length ms < 65536)) (sym (members-are (p .2) b))
+  bank-fits {wires} {places} ks kp b h limits p =
+      subst (λ (ms : List Member). Room limits wires places × Each (FitsWire limits) (outputsOf ms) × (length ms < 65536)) (sym (members-are (p .2) b))
       (room-keep ks kp (p .0 .0), outputs-fit (p .2) limits b h (p .0 .1), omega (arith, members-few (p .2) b h, p .1))
 
-  pub record BanksLoop (l₀ ss₀ ps₀ : List ℕ) (t₀ : Tapes) (l ss ps : List ℕ) (t : Tapes) (b : ℕ) : Type 0 where
-    pub goes : (limits : Limits) → BanksFit ss₀ ps₀ words at n banks count limits → (x y : List ℕ) → Going (lists l₀ x y) t₀ (reserveFlipFlopBanks (wiresOf ss₀ ps₀) 0 bs) (lists l x y) t (left (wiresOf ss ps) b)
-    pub kept-ss : length ss ≡ length ss₀
-    pub kept-ps : length ps ≡ length ps₀
+  pub record BanksLoop (l₀ wires₀ places₀ : List ℕ) (t₀ : Tapes) (l wires places : List ℕ) (t : Tapes) (b : ℕ) : Type 0 where
+    pub goes : (limits : Limits) → BanksFit wires₀ places₀ words at n banks count limits → (x y : List ℕ) → Going (lists l₀ x y) t₀ (reserveFlipFlopBanks (wiresOf wires₀ places₀) 0 bs) (lists l x y) t (left (wiresOf wires places) b)
+    pub kept-wires : length wires ≡ length wires₀
+    pub kept-places : length places ≡ length places₀
 
-  pub banks-start : (l ss ps : List ℕ) (t : Tapes) → BanksLoop l ss ps t l ss ps t 0
+  pub banks-start : (l wires places : List ℕ) (t : Tapes) → BanksLoop l wires places t l wires places t 0
   unfolding left
-  banks-start l ss ps t = record { goes = λ limits p x y. going-start refl; kept-ss = refl; kept-ps = refl }
+  banks-start l wires places t = record { goes = λ limits p x y. going-start refl; kept-wires = refl; kept-places = refl }
 
-  module _ {l₀ ss₀ ps₀ : List ℕ} {t₀ : Tapes} {l ss ps : List ℕ} {t : Tapes} {b : ℕ} (now : BanksLoop l₀ ss₀ ps₀ t₀ l ss ps t b) where
-    module _ (less : b < count) (r : Stated) (l′ ss′ ps′ : List ℕ) (h : ReservesBank l ss ps t words banks (scan b) b r l′ ss′ ps′) where
-      pub banks-step : length ss′ ≡ length ss → length ps′ ≡ length ps → {u : Tapes} → r ≡ S.Done u → BanksLoop l₀ ss₀ ps₀ t₀ l′ ss′ ps′ u (b + 1)
+  module _ {l₀ wires₀ places₀ : List ℕ} {t₀ : Tapes} {l wires places : List ℕ} {t : Tapes} {b : ℕ} (now : BanksLoop l₀ wires₀ places₀ t₀ l wires places t b) where
+    module _ (less : b < count) (r : Stated) (l′ wires′ places′ : List ℕ) (h : ReservesBank l wires places t words banks (scan b) b r l′ wires′ places′) where
+      pub banks-step : length wires′ ≡ length wires → length places′ ≡ length places → {u : Tapes} → r ≡ S.Done u → BanksLoop l₀ wires₀ places₀ t₀ l′ wires′ places′ u (b + 1)
       banks-step ks kp d = record {
         goes = λ limits p x y.
-            going-step (λ m₁. left m₁ (b + 1)) (now .goes limits p x y) (left-more (p .2) (wiresOf ss ps) b less) (h .so limits (bank-fits (now .kept-ss) (now .kept-ps) b less limits p) x y) (ap (λ (z : Stated). mapped z (wiresOf ss′ ps′)) d);
-        kept-ss = ks ∙ now .kept-ss;
-        kept-ps = kp ∙ now .kept-ps;
+            going-step (λ m₁. left m₁ (b + 1)) (now .goes limits p x y) (left-more (p .2) (wiresOf wires places) b less) (h .so limits (bank-fits (now .kept-wires) (now .kept-places) b less limits p) x y) (ap (λ (z : Stated). mapped z (wiresOf wires′ places′)) d);
+        kept-wires = ks ∙ now .kept-wires;
+        kept-places = kp ∙ now .kept-places;
       }
 
-      pub banks-stop : {x : Refusal} → r ≡ S.Refused x → Reserves (BanksFit ss₀ ps₀ words at n banks count) l₀ t₀ (reserveFlipFlopBanks (wiresOf ss₀ ps₀) 0 bs) r (wiresOf ss′ ps′) l′
+      pub banks-stop : {x : Refusal} → r ≡ S.Refused x → Reserves (BanksFit wires₀ places₀ words at n banks count) l₀ t₀ (reserveFlipFlopBanks (wiresOf wires₀ places₀) 0 bs) r (wiresOf wires′ places′) l′
       banks-stop d = record {
         so = λ limits p x y.
-            subst (λ (z : Stated). Wrote (lists l₀ x y) t₀ (reserveFlipFlopBanks (wiresOf ss₀ ps₀) 0 bs) (mapped z (wiresOf ss′ ps′)) (lists l′ x y)) (sym d)
-            (going-stop (λ m₁. left m₁ (b + 1)) (now .goes limits p x y) (left-more (p .2) (wiresOf ss ps) b less) (h .so limits (bank-fits (now .kept-ss) (now .kept-ps) b less limits p) x y) (ap (λ (z : Stated). mapped z (wiresOf ss′ ps′)) d));
+            subst (λ (z : Stated). Wrote (lists l₀ x y) t₀ (reserveFlipFlopBanks (wiresOf wires₀ places₀) 0 bs) (mapped z (wiresOf wires′ places′)) (lists l′ x y)) (sym d)
+            (going-stop (λ m₁. left m₁ (b + 1)) (now .goes limits p x y) (left-more (p .2) (wiresOf wires places) b less) (h .so limits (bank-fits (now .kept-wires) (now .kept-places) b less limits p) x y) (ap (λ (z : Stated). mapped z (wiresOf wires′ places′)) d));
       }
 
-    pub banks-done : count ≤ b → Reserves (BanksFit ss₀ ps₀ words at n banks count) l₀ t₀ (reserveFlipFlopBanks (wiresOf ss₀ ps₀) 0 bs) (S.Done t) (wiresOf ss ps) l
-    banks-done h = record { so = λ limits p x y. going-end (now .goes limits p x y) (left-end (p .2) (wiresOf ss ps) b h) wrote-pure }
+    pub banks-done : count ≤ b → Reserves (BanksFit wires₀ places₀ words at n banks count) l₀ t₀ (reserveFlipFlopBanks (wiresOf wires₀ places₀) 0 bs) (S.Done t) (wiresOf wires places) l
+    banks-done h = record { so = λ limits p x y. going-end (now .goes limits p x y) (left-end (p .2) (wiresOf wires places) b h) wrote-pure }

@@ -90,31 +90,31 @@ larger-both a b = go (ltb a b) refl
     go false e = (omega arith, omega (arith, ltb-false a b e))
 
 -- so far
-pub record Collecting (limits : Limits) (words : List ℕ) (at i count : ℕ) (banks first second : List ℕ) : Type 0 where
-  pub keyed : Keyed limits (leadersOf (cellsAt words at i)) first second count
+pub record Collecting (limits : Limits) (words : List ℕ) (at i count : ℕ) (banks parts values : List ℕ) : Type 0 where
+  pub keyed : Keyed limits (leadersOf (cellsAt words at i)) parts values count
   pub numbers : (k : ℕ) → k < i → getD banks k 0 ≡ numberIn (leadersOf (cellsAt words at i)) (cellAt words (endAt (cellEnd words) k at))
   pub low : (k : ℕ) → k < i → getD banks k 0 ≤ count
   pub few : count ≤ i
 
-pub collecting-start : (limits : Limits) (words : List ℕ) (at : ℕ) (banks first second : List ℕ) → Collecting limits words at 0 0 banks first second
+pub collecting-start : (limits : Limits) (words : List ℕ) (at : ℕ) (banks parts values : List ℕ) → Collecting limits words at 0 0 banks parts values
 unfolding leadersFrom flipFlopsFrom recordsAt
-collecting-start limits words at banks first second = record {
+collecting-start limits words at banks parts values = record {
   keyed = record { long = refl; clocks = λ b d h. absurd (omega arith); resets = λ b d h. absurd (omega arith); fits = λ b d h. absurd (omega arith) };
   numbers = λ k h. absurd (omega arith);
   low = λ k h. absurd (omega arith);
   few = omega arith;
 }
 
-module _ (limits : Limits) (words : List ℕ) (at i count : ℕ) (banks first second : List ℕ) (so : Collecting limits words at i count banks first second) where
+module _ (limits : Limits) (words : List ℕ) (at i count : ℕ) (banks parts values : List ℕ) (so : Collecting limits words at i count banks parts values) where
   abbrev ls : List Member
   ls = leadersOf (cellsAt words at i)
 
   abbrev x : Cell
   x = cellAt words (endAt (cellEnd words) i at)
 
-  pub collecting-step : (r : ℕ) (first′ second′ : List ℕ) → JoinedBank limits ls i x count r first′ second′ → i < length banks → Collecting limits words at (i + 1) (larger count r) (set banks i r) first′ second′
-  collecting-step r first′ second′ j inside = record {
-    keyed = subst (λ (y : List Member). Keyed limits y first′ second′ (larger count r)) (sym (leaders-more words at i)) (j .keyed);
+  pub collecting-step : (r : ℕ) (parts′ values′ : List ℕ) → JoinedBank limits ls i x count r parts′ values′ → i < length banks → Collecting limits words at (i + 1) (larger count r) (set banks i r) parts′ values′
+  collecting-step r parts′ values′ j inside = record {
+    keyed = subst (λ (y : List Member). Keyed limits y parts′ values′ (larger count r)) (sym (leaders-more words at i)) (j .keyed);
     numbers = λ k h. number k h (ℕ-discrete k i);
     low = λ k h. below k h (ℕ-discrete k i);
     few = omega (arith, j .keyed .long, with-long ls i x, so .keyed .long, so .few);
@@ -144,32 +144,32 @@ module _ (limits : Limits) (words : List ℕ) (at i count : ℕ) (banks first se
 
 -- THE LOOP
 
-pub record Gathers (words : List ℕ) (at n : ℕ) (banks₀ first₀ second₀ : List ℕ) (i count place : ℕ) (banks first second : List ℕ) : Type 0 where
-  pub so : (limits : Limits) → limits .wires < 1000000000 → Fitting (cellAt words) (cellEnd words) (FitsCell limits) (length words) n at → Work n banks₀ first₀ second₀
-      → Collecting limits words at i count banks first second × (place ≡ endAt (cellEnd words) i at)
+pub record Gathers (words : List ℕ) (at n : ℕ) (banks₀ parts₀ values₀ : List ℕ) (i count place : ℕ) (banks parts values : List ℕ) : Type 0 where
+  pub so : (limits : Limits) → limits .wires < 1000000000 → Fitting (cellAt words) (cellEnd words) (FitsCell limits) (length words) n at → Work n banks₀ parts₀ values₀
+      → Collecting limits words at i count banks parts values × (place ≡ endAt (cellEnd words) i at)
 
-module _ (words : List ℕ) (at n : ℕ) (banks₀ first₀ second₀ : List ℕ) where
-  pub gathers-start : Gathers words at n banks₀ first₀ second₀ 0 0 at banks₀ first₀ second₀
-  gathers-start = record { so = λ limits small fit work. (collecting-start limits words at banks₀ first₀ second₀, place-start (cellEnd words) at) }
+module _ (words : List ℕ) (at n : ℕ) (banks₀ parts₀ values₀ : List ℕ) where
+  pub gathers-start : Gathers words at n banks₀ parts₀ values₀ 0 0 at banks₀ parts₀ values₀
+  gathers-start = record { so = λ limits small fit work. (collecting-start limits words at banks₀ parts₀ values₀, place-start (cellEnd words) at) }
 
-  module _ {i count place : ℕ} {banks first second : List ℕ} (now : Gathers words at n banks₀ first₀ second₀ i count place banks first second) where
-    pub gathers-step : length banks ≡ length banks₀ → length first ≡ length first₀ → length second ≡ length second₀ → i < n → n < 4294967296
-        → {r count′ place′ j : ℕ} {banks′ first′ second′ : List ℕ} → Joins words place first second count r first′ second′ → j ≡ i → banks′ ≡ set banks j r → count′ ≡ larger count r → place′ ≡ min (cellEnd words place) (length words)
-        → Gathers words at n banks₀ first₀ second₀ (i + 1) count′ place′ banks′ first′ second′
-    gathers-step lb lf ls h big {r} {count′} {place′} {j} {banks′} {first′} {second′} join e b c p = record {
+  module _ {i count place : ℕ} {banks parts values : List ℕ} (now : Gathers words at n banks₀ parts₀ values₀ i count place banks parts values) where
+    pub gathers-step : length banks ≡ length banks₀ → length parts ≡ length parts₀ → length values ≡ length values₀ → i < n → n < 4294967296
+        → {r count′ place′ j : ℕ} {banks′ parts′ values′ : List ℕ} → Joins words place parts values count r parts′ values′ → j ≡ i → banks′ ≡ set banks j r → count′ ≡ larger count r → place′ ≡ min (cellEnd words place) (length words)
+        → Gathers words at n banks₀ parts₀ values₀ (i + 1) count′ place′ banks′ parts′ values′
+    gathers-step lb lf ls h big {r} {count′} {place′} {j} {banks′} {parts′} {values′} join e b c p = record {
       so = λ limits small fit work.
           let s = now .so limits small fit work in
           let few : count ≤ i = s .0 .few in
           let here : cellAt words place ≡ cellAt words (endAt (cellEnd words) i at) = ap (cellAt words) (s .1) in
           let fits : FitsCell limits (cellAt words place) = subst (FitsCell limits) (sym here) (fit .fit i h) in
           let done = join limits (leadersOf (cellsAt words at i)) i small fits (s .0 .keyed) (omega (arith, few, work .clocks)) (omega (arith, few, work .resets)) (omega (arith, few)) in
-          let now′ = subst (λ (x : Cell). JoinedBank limits (leadersOf (cellsAt words at i)) i x count r first′ second′) here done in (
-            subst (λ (k : ℕ). Collecting limits words at (i + 1) k banks′ first′ second′) (sym c)
-                (subst (λ (l : List ℕ). Collecting limits words at (i + 1) (larger count r) l first′ second′) (sym (b ∙ ap (λ (k : ℕ). set banks k r) e))
-                (collecting-step limits words at i count banks first second (s .0) r first′ second′ now′ (omega (arith, work .numbers)))),
+          let now′ = subst (λ (x : Cell). JoinedBank limits (leadersOf (cellsAt words at i)) i x count r parts′ values′) here done in (
+            subst (λ (k : ℕ). Collecting limits words at (i + 1) k banks′ parts′ values′) (sym c)
+                (subst (λ (l : List ℕ). Collecting limits words at (i + 1) (larger count r) l parts′ values′) (sym (b ∙ ap (λ (k : ℕ). set banks k r) e))
+                (collecting-step limits words at i count banks parts values (s .0) r parts′ values′ now′ (omega (arith, work .numbers)))),
             place-step (cellEnd words) fit h (s .1) p,
           );
     }
 
-    pub gathers-end : i ≤ n → n ≤ i → (limits : Limits) → limits .wires < 1000000000 → Fitting (cellAt words) (cellEnd words) (FitsCell limits) (length words) n at → Work n banks₀ first₀ second₀ → Collected words at n count banks
-    gathers-end h g limits small fit work = collecting-end limits words at i count banks first second (now .so limits small fit work .0) n h g
+    pub gathers-end : i ≤ n → n ≤ i → (limits : Limits) → limits .wires < 1000000000 → Fitting (cellAt words) (cellEnd words) (FitsCell limits) (length words) n at → Work n banks₀ parts₀ values₀ → Collected words at n count banks
+    gathers-end h g limits small fit work = collecting-end limits words at i count banks parts values (now .so limits small fit work .0) n h g

@@ -82,31 +82,31 @@ cells-each m z i [] = refl
 cells-each m z i (x ∷ xs) = ap (λ (k : Writer (Unit {0})). emitCell m z i x >>= λ u. k) (cells-each m z (suc i) xs)
 
 -- the map, the constants' signals, the words, and both works at entry
-module _ (m : Wires) (z : Constants) (words : List ℕ) (at n : ℕ) (parts₀ value₀ : List ℕ) where
+module _ (m : Wires) (z : Constants) (words : List ℕ) (at n : ℕ) (parts₀ values₀ : List ℕ) where
   abbrev pub CellsLoop : Lists → Tapes → Lists → Tapes → ℕ → Type 0
-  CellsLoop l₀ t₀ l t i = Emitting (emitCell m z) (cellAt words) (cellEnd words) n at (CellsFit parts₀ value₀ words at n) (emitCells m z 0 (cellsAt words at n)) l₀ t₀ l t i
+  CellsLoop l₀ t₀ l t i = Emitting (emitCell m z) (cellAt words) (cellEnd words) n at (CellsFit parts₀ values₀ words at n) (emitCells m z 0 (cellsAt words at n)) l₀ t₀ l t i
 
   -- where the code is
   abbrev pub CellIs : ℕ → ℕ → Type 0
-  CellIs i place = (limits : Limits) → CellsFit parts₀ value₀ words at n limits → place ≡ endAt (cellEnd words) i at
+  CellIs i place = (limits : Limits) → CellsFit parts₀ values₀ words at n limits → place ≡ endAt (cellEnd words) i at
 
   pub cells-start : (l₀ : Lists) (t₀ : Tapes) → CellsLoop l₀ t₀ l₀ t₀ 0
   cells-start l₀ t₀ = emitting-start (emitCell m z) (cellAt words) (cellEnd words) n at (cells-each m z 0 (cellsAt words at n))
 
   module _ {l₀ : Lists} {t₀ : Tapes} {l : Lists} {t : Tapes} {i : ℕ} (now : CellsLoop l₀ t₀ l t i) where
-    module _ {place : ℕ} (is : CellIs i place) (inside : i < n) (parts value : List ℕ) (in-parts : length parts ≡ length parts₀) (in-value : length value ≡ length value₀) (r : Stated) (l₁ : Lists) (h : EmitsCell l parts value t m z i (cellAt words place) r l₁) where
-      cells-one : (limits : Limits) → CellsFit parts₀ value₀ words at n limits → Wrote l t (emitCell m z i (cellAt words (endAt (cellEnd words) i at))) (stated r) l₁
+    module _ {place : ℕ} (is : CellIs i place) (inside : i < n) (parts values : List ℕ) (in-parts : length parts ≡ length parts₀) (in-values : length values ≡ length values₀) (r : Stated) (l₁ : Lists) (h : EmitsCell l parts values t m z i (cellAt words place) r l₁) where
+      cells-one : (limits : Limits) → CellsFit parts₀ values₀ words at n limits → Wrote l t (emitCell m z i (cellAt words (endAt (cellEnd words) i at))) (stated r) l₁
       cells-one limits p =
           subst (λ (k : ℕ). Wrote l t (emitCell m z i (cellAt words k)) (stated r) l₁) (is limits p)
-          (h .so limits (omega (arith, p .0, in-parts), omega (arith, p .1, in-value), subst (λ (k : ℕ). FitsCell limits (cellAt words k)) (sym (is limits p)) (p .2 .fit i inside)))
+          (h .so limits (omega (arith, p .0, in-parts), omega (arith, p .1, in-values), subst (λ (k : ℕ). FitsCell limits (cellAt words k)) (sym (is limits p)) (p .2 .fit i inside)))
 
       pub cells-step : {u : Tapes} → r ≡ S.Done u → CellsLoop l₀ t₀ l₁ u (i + 1)
       cells-step d = emitting-step (emitCell m z) (cellAt words) (cellEnd words) n at now inside r cells-one d
 
-      pub cells-stop : {x : Refusal} → r ≡ S.Refused x → EmitsCells l₀ parts₀ value₀ t₀ m z words at n r l₁
+      pub cells-stop : {x : Refusal} → r ≡ S.Refused x → EmitsCells l₀ parts₀ values₀ t₀ m z words at n r l₁
       cells-stop d = emitting-stop (emitCell m z) (cellAt words) (cellEnd words) n at now inside r cells-one d
 
-    pub cells-end : n ≤ i → EmitsCells l₀ parts₀ value₀ t₀ m z words at n (S.Done t) l
+    pub cells-end : n ≤ i → EmitsCells l₀ parts₀ values₀ t₀ m z words at n (S.Done t) l
     cells-end h = emitting-end (emitCell m z) (cellAt words) (cellEnd words) n at now h
 
 -- PORTS

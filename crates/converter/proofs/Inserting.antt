@@ -24,49 +24,49 @@ use Rattle.converter.specs.Reserved.{TabledWires, InsertsWires, MembersF
 -- THE WIRES
 
 -- so far: what is left inserts the rest
-pub record Inserting (ss₀ ps₀ ws : List ℕ) (s n : ℕ) (ss ps : List ℕ) (lsb : ℕ) (rest : List ℕ) : Type 0 where
-  pub so : TabledWires ss₀ ps₀ ws s n → insertWires (wiresOf ss₀ ps₀) s n 0 ws ≡ insertWires (wiresOf ss ps) s n lsb rest
-  pub tabled : TabledWires ss₀ ps₀ ws s n → Each (Tabled ss₀ ps₀) rest
+pub record Inserting (wires₀ places₀ ws : List ℕ) (s n : ℕ) (wires places : List ℕ) (lsb : ℕ) (rest : List ℕ) : Type 0 where
+  pub so : TabledWires wires₀ places₀ ws s n → insertWires (wiresOf wires₀ places₀) s n 0 ws ≡ insertWires (wiresOf wires places) s n lsb rest
+  pub tabled : TabledWires wires₀ places₀ ws s n → Each (Tabled wires₀ places₀) rest
   pub placed : lsb + length rest ≡ length ws
 
-module _ {ss₀ ps₀ ws : List ℕ} {s n : ℕ} where
-  pub inserting-start : {rest : List ℕ} → rest ≡ ws → Inserting ss₀ ps₀ ws s n ss₀ ps₀ 0 rest
+module _ {wires₀ places₀ ws : List ℕ} {s n : ℕ} where
+  pub inserting-start : {rest : List ℕ} → rest ≡ ws → Inserting wires₀ places₀ ws s n wires₀ places₀ 0 rest
   inserting-start {rest} e = record {
-    so = λ h. ap (insertWires (wiresOf ss₀ ps₀) s n 0) (sym e);
-    tabled = λ h. subst (Each (Tabled ss₀ ps₀)) (sym e) (h .tabled);
+    so = λ h. ap (insertWires (wiresOf wires₀ places₀) s n 0) (sym e);
+    tabled = λ h. subst (Each (Tabled wires₀ places₀)) (sym e) (h .tabled);
     placed = omega (arith, ap length e);
   }
 
-  module _ {ss ps : List ℕ} {lsb : ℕ} {rest : List ℕ} (now : Inserting ss₀ ps₀ ws s n ss ps lsb rest) where
-    module _ (in-ss : length ss ≡ length ss₀) (in-ps : length ps ≡ length ps₀) {w : ℕ} {more : List ℕ} (is : rest ≡ w ∷ more) (r : Inserted) (ss′ ps′ : List ℕ) (h : Inserts ss ps w s lsb n r ss′ ps′) where
+  module _ {wires places : List ℕ} {lsb : ℕ} {rest : List ℕ} (now : Inserting wires₀ places₀ ws s n wires places lsb rest) where
+    module _ (in-ss : length wires ≡ length wires₀) (in-ps : length places ≡ length places₀) {w : ℕ} {more : List ℕ} (is : rest ≡ w ∷ more) (r : Inserted) (wires′ places′ : List ℕ) (h : Inserts wires places w s lsb n r wires′ places′) where
       abbrev ref : WireRef
       ref = record { signal = s; lsb = lsb; width = n }
 
       abbrev after : Wires → Writer Wires
       after m = insertWires m s n (suc lsb) more
 
-      one : TabledWires ss₀ ps₀ ws s n → insertWire (wiresOf ss ps) (Wire w) ref ≡ quiet r (wiresOf ss′ ps′)
+      one : TabledWires wires₀ places₀ ws s n → insertWire (wiresOf wires places) (Wire w) ref ≡ quiet r (wiresOf wires′ places′)
       one t =
-          let q : Each (Tabled ss₀ ps₀) (w ∷ more) = subst (Each (Tabled ss₀ ps₀)) is (now .tabled t) in
+          let q : Each (Tabled wires₀ places₀) (w ∷ more) = subst (Each (Tabled wires₀ places₀)) is (now .tabled t) in
           h (omega (arith, q .0 .0), omega (arith, q .0 .1)) (record { numbered = t .numbered; placed = omega (arith, t .narrow, t .placed, now .placed, ap length is); narrow = t .narrow })
 
-      so-far : TabledWires ss₀ ps₀ ws s n → insertWires (wiresOf ss₀ ps₀) s n 0 ws ≡ (quiet r (wiresOf ss′ ps′) >>= after)
+      so-far : TabledWires wires₀ places₀ ws s n → insertWires (wiresOf wires₀ places₀) s n 0 ws ≡ (quiet r (wiresOf wires′ places′) >>= after)
       unfolding insertWires
-      so-far t = now .so t ∙ ap (insertWires (wiresOf ss ps) s n lsb) is ∙ ap (λ (x : Writer Wires). x >>= after) (one t)
+      so-far t = now .so t ∙ ap (insertWires (wiresOf wires places) s n lsb) is ∙ ap (λ (x : Writer Wires). x >>= after) (one t)
 
-      pub inserting-step : r ≡ I.Done → Inserting ss₀ ps₀ ws s n ss′ ps′ (lsb + 1) more
+      pub inserting-step : r ≡ I.Done → Inserting wires₀ places₀ ws s n wires′ places′ (lsb + 1) more
       inserting-step d = record {
-        so = λ t. so-far t ∙ ap (λ (x : Inserted). quiet x (wiresOf ss′ ps′) >>= after) d ∙ bind-pure (wiresOf ss′ ps′) after ∙ ap (λ (k : ℕ). insertWires (wiresOf ss′ ps′) s n k more) (sym (add-one lsb));
-        tabled = λ t. let q : Each (Tabled ss₀ ps₀) (w ∷ more) = subst (Each (Tabled ss₀ ps₀)) is (now .tabled t) in q .1;
+        so = λ t. so-far t ∙ ap (λ (x : Inserted). quiet x (wiresOf wires′ places′) >>= after) d ∙ bind-pure (wiresOf wires′ places′) after ∙ ap (λ (k : ℕ). insertWires (wiresOf wires′ places′) s n k more) (sym (add-one lsb));
+        tabled = λ t. let q : Each (Tabled wires₀ places₀) (w ∷ more) = subst (Each (Tabled wires₀ places₀)) is (now .tabled t) in q .1;
         placed = omega (arith, now .placed, ap length is);
       }
 
-      pub inserting-stop : {x : Refusal} → r ≡ I.Refused x → InsertsWires ss₀ ps₀ ws s n r ss′ ps′
-      inserting-stop {x} d = record { so = λ t. so-far t ∙ ap (λ (y : Inserted). quiet y (wiresOf ss′ ps′) >>= after) d ∙ bind-refuse _ _ after ∙ sym (ap (λ (y : Inserted). quiet y (wiresOf ss′ ps′)) d) }
+      pub inserting-stop : {x : Refusal} → r ≡ I.Refused x → InsertsWires wires₀ places₀ ws s n r wires′ places′
+      inserting-stop {x} d = record { so = λ t. so-far t ∙ ap (λ (y : Inserted). quiet y (wiresOf wires′ places′) >>= after) d ∙ bind-refuse _ _ after ∙ sym (ap (λ (y : Inserted). quiet y (wiresOf wires′ places′)) d) }
 
-    pub inserting-end : rest ≡ [] → InsertsWires ss₀ ps₀ ws s n I.Done ss ps
+    pub inserting-end : rest ≡ [] → InsertsWires wires₀ places₀ ws s n I.Done wires places
     unfolding insertWires
-    inserting-end e = record { so = λ t. now .so t ∙ ap (insertWires (wiresOf ss ps) s n lsb) e }
+    inserting-end e = record { so = λ t. now .so t ∙ ap (insertWires (wiresOf wires places) s n lsb) e }
 
 -- THE SIGNAL
 
@@ -79,9 +79,9 @@ pub bank-vector : (m : Wires) (owner : ℕ) (ms : List Member) {width : ℕ} →
 unfolding reserveVector
 bank-vector m owner ms e = ap (λ (k : ℕ). declare (signalOf 7 k owner) >>= λ s. insertWires m s k 0 (outputsOf ms)) (outputs-length ms ∙ sym e)
 
-room-each : {limits : Limits} {ss ps : List ℕ} → Room limits ss ps → (ws : List ℕ) → Each (FitsWire limits) ws → Each (Tabled ss ps) ws
+room-each : {limits : Limits} {wires places : List ℕ} → Room limits wires places → (ws : List ℕ) → Each (FitsWire limits) ws → Each (Tabled wires places) ws
 room-each h [] f = tt
 room-each h (w ∷ ws) f = (room-tabled h w (f .0), room-each h ws (f .1))
 
-pub bank-tabled : {limits : Limits} {ss ps : List ℕ} (ms : List Member) {s width : ℕ} → MembersFit ss ps ms limits → width ≡ length ms → s < 4294967295 → TabledWires ss ps (outputsOf ms) s width
+pub bank-tabled : {limits : Limits} {wires places : List ℕ} (ms : List Member) {s width : ℕ} → MembersFit wires places ms limits → width ≡ length ms → s < 4294967295 → TabledWires wires places (outputsOf ms) s width
 bank-tabled ms p e h = record { tabled = room-each (p .0) (outputsOf ms) (p .1); numbered = h; narrow = omega (arith, p .2, e); placed = omega (arith, e, outputs-length ms) }

@@ -189,20 +189,20 @@ module _ (p : ℕ → Bool) where
         e ∙ sym (add-zero i) ∙ sym (ap (λ (k : ℕ). i + firstWith p k i) z) ∙ so
 
 -- the key's place is the bank's
-module _ (limits : Limits) (first second : List ℕ) (f : FlipFlop) (fits : FitsFlipFlop limits f) where
-  scan : (ls : List Member) (j : ℕ) → ((b : ℕ) (d : Member) → b < length ls → getD first (j + b) 0 ≡ clockKey (getD ls b d .flop)) → ((b : ℕ) (d : Member) → b < length ls → getD second (j + b) 0 ≡ resetKey (getD ls b d .flop))
-      → ((b : ℕ) (d : Member) → b < length ls → FitsFlipFlop limits (getD ls b d .flop)) → findKey first second (clockKey f) (resetKey f) (length ls) j ≡ bankIn ls f
+module _ (limits : Limits) (parts values : List ℕ) (f : FlipFlop) (fits : FitsFlipFlop limits f) where
+  scan : (ls : List Member) (j : ℕ) → ((b : ℕ) (d : Member) → b < length ls → getD parts (j + b) 0 ≡ clockKey (getD ls b d .flop)) → ((b : ℕ) (d : Member) → b < length ls → getD values (j + b) 0 ≡ resetKey (getD ls b d .flop))
+      → ((b : ℕ) (d : Member) → b < length ls → FitsFlipFlop limits (getD ls b d .flop)) → findKey parts values (clockKey f) (resetKey f) (length ls) j ≡ bankIn ls f
   unfolding firstWith bankIn
   scan [] j p q r = refl
   scan (l ∷ ls) j p q r =
       ap₂ (λ (b : Bool) (k : ℕ). pick b 0 (suc k))
-      (ap₂ (λ (x y : ℕ). eqb x (clockKey f) && eqb y (resetKey f)) (ap (λ (k : ℕ). getD first k 0) (sym (add-zero j)) ∙ p 0 l (omega arith)) (ap (λ (k : ℕ). getD second k 0) (sym (add-zero j)) ∙ q 0 l (omega arith)) ∙ sym (same-keys limits (l .flop) f (r 0 l (omega arith)) fits))
-      (scan ls (suc j) (λ b d h. ap (λ (k : ℕ). getD first k 0) (suc-add j b ∙ sym (add-suc j b)) ∙ p (suc b) d (omega arith)) (λ b d h. ap (λ (k : ℕ). getD second k 0) (suc-add j b ∙ sym (add-suc j b)) ∙ q (suc b) d (omega arith)) (λ b d h. r (suc b) d (omega arith)))
+      (ap₂ (λ (x y : ℕ). eqb x (clockKey f) && eqb y (resetKey f)) (ap (λ (k : ℕ). getD parts k 0) (sym (add-zero j)) ∙ p 0 l (omega arith)) (ap (λ (k : ℕ). getD values k 0) (sym (add-zero j)) ∙ q 0 l (omega arith)) ∙ sym (same-keys limits (l .flop) f (r 0 l (omega arith)) fits))
+      (scan ls (suc j) (λ b d h. ap (λ (k : ℕ). getD parts k 0) (suc-add j b ∙ sym (add-suc j b)) ∙ p (suc b) d (omega arith)) (λ b d h. ap (λ (k : ℕ). getD values k 0) (suc-add j b ∙ sym (add-suc j b)) ∙ q (suc b) d (omega arith)) (λ b d h. r (suc b) d (omega arith)))
 
-  pub scan-finds : {ls : List Member} {count : ℕ} → Keyed limits ls first second count → findKey first second (clockKey f) (resetKey f) count 0 ≡ bankIn ls f
+  pub scan-finds : {ls : List Member} {count : ℕ} → Keyed limits ls parts values count → findKey parts values (clockKey f) (resetKey f) count 0 ≡ bankIn ls f
   scan-finds {ls} k =
-      ap (λ (n : ℕ). findKey first second (clockKey f) (resetKey f) n 0) (k .long)
-      ∙ scan ls 0 (λ b d h. ap (λ (i : ℕ). getD first i 0) (zero-add b) ∙ k .clocks b d h) (λ b d h. ap (λ (i : ℕ). getD second i 0) (zero-add b) ∙ k .resets b d h) (λ b d h. k .fits b d h)
+      ap (λ (n : ℕ). findKey parts values (clockKey f) (resetKey f) n 0) (k .long)
+      ∙ scan ls 0 (λ b d h. ap (λ (i : ℕ). getD parts i 0) (zero-add b) ∙ k .clocks b d h) (λ b d h. ap (λ (i : ℕ). getD values i 0) (zero-add b) ∙ k .resets b d h) (λ b d h. k .fits b d h)
 
 pub bank-most : (ls : List Member) (f : FlipFlop) → bankIn ls f ≤ length ls
 unfolding bankIn
@@ -248,13 +248,13 @@ module _ (words : List ℕ) (i : ℕ) {k : ℕ} (kind : k ≡ wordAt words (i + 
   a-flop h = ap (ofKind words i) (here ∙ h)
 
   -- no flip-flop: nothing changes
-  pub join-none : (k ≡ 5 → ⊥) → (limits : Limits) (ls : List Member) (c : ℕ) (first second : List ℕ) (count : ℕ) → Keyed limits ls first second count → JoinedBank limits ls c (cellAt words i) count 0 first second
+  pub join-none : (k ≡ 5 → ⊥) → (limits : Limits) (ls : List Member) (c : ℕ) (parts values : List ℕ) (count : ℕ) → Keyed limits ls parts values count → JoinedBank limits ls c (cellAt words i) count 0 parts values
   unfolding leadersFrom
-  join-none h limits ls c first second count keyed =
+  join-none h limits ls c parts values count keyed =
       let e : withCell ls c (cellAt words i) ≡ ls = ap (λ (o : Option FlipFlop). leadersFrom ls (also o c [])) (no-flop h) in
       record {
         number = sym (ap (numberOf (withCell ls c (cellAt words i))) (no-flop h));
-        keyed = subst (λ (x : List Member). Keyed limits x first second (larger count 0)) (sym e) (subst (Keyed limits ls first second) (sym (larger-left count 0 (omega arith))) keyed);
+        keyed = subst (λ (x : List Member). Keyed limits x parts values (larger count 0)) (sym e) (subst (Keyed limits ls parts values) (sym (larger-left count 0 (omega arith))) keyed);
       }
 
   module _ (flop : k ≡ 5) (limits : Limits) (small : limits .wires < 1000000000) (fits : FitsCell limits (cellAt words i)) where
@@ -269,7 +269,7 @@ module _ (words : List ℕ) (i : ℕ) {k : ℕ} (kind : k ≡ wordAt words (i + 
         h .is (bit-small limits w small (subst (λ (n : ℕ). FitsBit limits (bitOf n)) (sym p) (fit .clock))) (subst (λ (n : ℕ). n < 2) (sym q) (fit .edge))
         ∙ ap₂ (λ (m n : ℕ). m * 2 + n) (p ∙ sym (word-of-bit (wordAt words (i + 3)))) q
 
-    module _ (ls : List Member) (c : ℕ) (first second : List ℕ) (count : ℕ) (keyed : Keyed limits ls first second count) where
+    module _ (ls : List Member) (c : ℕ) (parts values : List ℕ) (count : ℕ) (keyed : Keyed limits ls parts values count) where
       abbrev m : Member
       m = record { cell = c; flop = f }
 
@@ -280,32 +280,32 @@ module _ (words : List ℕ) (i : ℕ) {k : ℕ} (kind : k ≡ wordAt words (i + 
       number-is : (ls′ : List Member) → numberIn ls′ (cellAt words i) ≡ suc (bankIn ls′ f)
       number-is ls′ = ap (numberIn ls′) (a-flop flop)
 
-      module _ {a b bank : ℕ} (ka : a ≡ clockKey f) (kb : b ≡ resetKey f) (found : bank ≡ findKey first second a b count 0) where
+      module _ {a b bank : ℕ} (ka : a ≡ clockKey f) (kb : b ≡ resetKey f) (found : bank ≡ findKey parts values a b count 0) where
         bank-is : bank ≡ bankIn ls f
-        bank-is = found ∙ ap₂ (λ (x y : ℕ). findKey first second x y count 0) ka kb ∙ scan-finds limits first second f fit keyed
+        bank-is = found ∙ ap₂ (λ (x y : ℕ). findKey parts values x y count 0) ka kb ∙ scan-finds limits parts values f fit keyed
 
         pub bank-small : bank ≤ count
         bank-small = omega (arith, bank-is, bank-most ls f, keyed .long)
 
         -- its bank is there
-        pub join-there : (bank ≡ count → ⊥) → JoinedBank limits ls c (cellAt words i) count (bank + 1) first second
+        pub join-there : (bank ≡ count → ⊥) → JoinedBank limits ls c (cellAt words i) count (bank + 1) parts values
         join-there n =
             let lt : bankIn ls f < length ls = omega (arith, bank-is, bank-most ls f, keyed .long, n) in
             let e : withCell ls c (cellAt words i) ≡ ls = with-is ∙ ap (λ (t : Bool). pick t ls (ls ++ (m ∷ []))) (lt-ltb (bankIn ls f) (length ls) lt) in
             record {
               number = add-one bank ∙ ap suc bank-is ∙ sym (ap (λ (x : List Member). numberIn x (cellAt words i)) e ∙ number-is ls);
-              keyed = subst (λ (x : List Member). Keyed limits x first second (larger count (bank + 1))) (sym e) (subst (Keyed limits ls first second) (sym (larger-left count (bank + 1) (omega (arith, bank-is, lt, keyed .long)))) keyed);
+              keyed = subst (λ (x : List Member). Keyed limits x parts values (larger count (bank + 1))) (sym e) (subst (Keyed limits ls parts values) (sym (larger-left count (bank + 1) (omega (arith, bank-is, lt, keyed .long)))) keyed);
             }
 
         -- it founds one
-        pub join-new : bank ≡ count → count < length first → count < length second → JoinedBank limits ls c (cellAt words i) count (bank + 1) (set first count a) (set second count b)
+        pub join-new : bank ≡ count → count < length parts → count < length values → JoinedBank limits ls c (cellAt words i) count (bank + 1) (set parts count a) (set values count b)
         join-new n in-first in-second =
             record {
               number = add-one bank ∙ ap suc (n ∙ keyed .long ∙ sym (bank-end ls m (omega (arith, bank-is, n, keyed .long)))) ∙ sym (ap (λ (x : List Member). numberIn x (cellAt words i)) e ∙ number-is (ls ++ (m ∷ [])));
-              keyed = subst (λ (x : List Member). Keyed limits x (set first count a) (set second count b) (larger count (bank + 1))) (sym e) (record {
+              keyed = subst (λ (x : List Member). Keyed limits x (set parts count a) (set values count b) (larger count (bank + 1))) (sym e) (record {
                 long = larger-right count (bank + 1) (omega (arith, n)) ∙ ap (λ (x : ℕ). x + 1) (n ∙ keyed .long) ∙ sym (length-append ls (m ∷ []));
-                clocks = λ b′ d h. at-end (λ (x : FlipFlop). clockKey x) first a in-first ka (λ b″ d′. keyed .clocks b″ d′) b′ d h;
-                resets = λ b′ d h. at-end (λ (x : FlipFlop). resetKey x) second b in-second kb (λ b″ d′. keyed .resets b″ d′) b′ d h;
+                clocks = λ b′ d h. at-end (λ (x : FlipFlop). clockKey x) parts a in-first ka (λ b″ d′. keyed .clocks b″ d′) b′ d h;
+                resets = λ b′ d h. at-end (λ (x : FlipFlop). resetKey x) values b in-second kb (λ b″ d′. keyed .resets b″ d′) b′ d h;
                 fits = λ b′ d h. fits-end b′ d h (ℕ-discrete b′ (length ls));
               });
             }
@@ -333,10 +333,10 @@ module _ (words : List ℕ) (i : ℕ) {k : ℕ} (kind : k ≡ wordAt words (i + 
                 go (yes q) = ap (λ (k : ℕ). getD (set l count v) k 0) (q ∙ sym (keyed .long)) ∙ getD-set-same l count v 0 inside ∙ is ∙ sym (ap (λ (x : Member). key (x .flop)) (ap (λ (k : ℕ). getD (ls ++ (m ∷ [])) k d) q ∙ last-is d))
                 go (no q) = getD-set-other l count b′ v 0 (λ r. q (r ∙ keyed .long)) ∙ old b′ d (before b′ h q) ∙ sym (ap (λ (x : Member). key (x .flop)) (inner b′ d (before b′ h q)))
 
-        pub join-new-as : bank ≡ count → count < length first → count < length second → {j k : ℕ} → j ≡ count → k ≡ count → (first′ second′ : List ℕ) → first′ ≡ set first j a → second′ ≡ set second k b → JoinedBank limits ls c (cellAt words i) count (bank + 1) first′ second′
-        join-new-as n in-first in-second {j} {k} ej ek first′ second′ p q =
-            subst (λ (x : List ℕ). JoinedBank limits ls c (cellAt words i) count (bank + 1) x second′) (sym (p ∙ ap (λ (y : ℕ). set first y a) ej))
-            (subst (λ (x : List ℕ). JoinedBank limits ls c (cellAt words i) count (bank + 1) (set first count a) x) (sym (q ∙ ap (λ (y : ℕ). set second y b) ek)) (join-new n in-first in-second))
+        pub join-new-as : bank ≡ count → count < length parts → count < length values → {j k : ℕ} → j ≡ count → k ≡ count → (parts′ values′ : List ℕ) → parts′ ≡ set parts j a → values′ ≡ set values k b → JoinedBank limits ls c (cellAt words i) count (bank + 1) parts′ values′
+        join-new-as n in-first in-second {j} {k} ej ek parts′ values′ p q =
+            subst (λ (x : List ℕ). JoinedBank limits ls c (cellAt words i) count (bank + 1) x values′) (sym (p ∙ ap (λ (y : ℕ). set parts y a) ej))
+            (subst (λ (x : List ℕ). JoinedBank limits ls c (cellAt words i) count (bank + 1) (set parts count a) x) (sym (q ∙ ap (λ (y : ℕ). set values y b) ek)) (join-new n in-first in-second))
 
 -- STORING
 
@@ -347,9 +347,9 @@ set-past (x ∷ l) (suc i) v h = ap (λ (y : List ℕ). x ∷ y) (set-past l i v
 
 -- ONE KEY
 
-module _ (first second : List ℕ) (i a b : ℕ) {x : ℕ} (e : x ≡ getD first i 0) where
-  pub key-no : (x ≡ a → ⊥) → false ≡ keyIs first second i a b
-  key-no h = sym (ap (λ (t : Bool). t && eqb (getD second i 0) b) (ne-eqb (getD first i 0) a (λ q. h (e ∙ q))))
+module _ (parts values : List ℕ) (i a b : ℕ) {x : ℕ} (e : x ≡ getD parts i 0) where
+  pub key-no : (x ≡ a → ⊥) → false ≡ keyIs parts values i a b
+  key-no h = sym (ap (λ (t : Bool). t && eqb (getD values i 0) b) (ne-eqb (getD parts i 0) a (λ q. h (e ∙ q))))
 
-  pub key-yes : x ≡ a → {y : ℕ} → y ≡ getD second i 0 → eqb y b ≡ keyIs first second i a b
-  key-yes h f = ap (λ (k : ℕ). eqb k b) f ∙ sym (ap (λ (t : Bool). t && eqb (getD second i 0) b) (eq-eqb (getD first i 0) a (sym e ∙ h)))
+  pub key-yes : x ≡ a → {y : ℕ} → y ≡ getD values i 0 → eqb y b ≡ keyIs parts values i a b
+  key-yes h f = ap (λ (k : ℕ). eqb k b) f ∙ sym (ap (λ (t : Bool). t && eqb (getD values i 0) b) (eq-eqb (getD parts i 0) a (sym e ∙ h)))

@@ -111,7 +111,7 @@ module _ (m : Wires) (z : Constants) where
 
 -- ALL BANKS
 
-module _ (words : List ℕ) (at n : ℕ) (banks : List ℕ) (count : ℕ) (ss ps : List ℕ) (z : Constants) where
+module _ (words : List ℕ) (at n : ℕ) (banks : List ℕ) (count : ℕ) (wires places : List ℕ) (z : Constants) where
   abbrev bs : List Bank
   bs = collectFlipFlopBanks (cellsAt words at n)
 
@@ -120,47 +120,47 @@ module _ (words : List ℕ) (at n : ℕ) (banks : List ℕ) (count : ℕ) (ss ps
 
   -- what is left from bank b on
   unfoldable pub left : ℕ → Writer (Unit {0})
-  left b = emitBanks (wiresOf ss ps) z (drop b bs)
+  left b = emitBanks (wiresOf wires places) z (drop b bs)
 
-  left-more : (so : Collected words at n count banks) (b : ℕ) → b < count → left b ≡ (emitFlipFlopBank (wiresOf ss ps) z (bankOf so b) >>= λ u. left (b + 1))
+  left-more : (so : Collected words at n count banks) (b : ℕ) → b < count → left b ≡ (emitFlipFlopBank (wiresOf wires places) z (bankOf so b) >>= λ u. left (b + 1))
   unfolding left emitBanks
-  left-more so b h = ap (emitBanks (wiresOf ss ps) z) (bank-next so b h)
+  left-more so b h = ap (emitBanks (wiresOf wires places) z) (bank-next so b h)
 
   left-end : Collected words at n count banks → (b : ℕ) → count ≤ b → left b ≡ pure tt
   unfolding left emitBanks
-  left-end so b h = ap (emitBanks (wiresOf ss ps) z) (drop-of-length-le bs (banks-end so b h))
+  left-end so b h = ap (emitBanks (wiresOf wires places) z) (drop-of-length-le bs (banks-end so b h))
 
-  one-bank : (so : Collected words at n count banks) (b : ℕ) → b < count → {e s parts : List ℕ} {t : Tapes} {r : Stated} {e′ s′ : List ℕ} → n ≤ length parts → EmitsBank e s parts ss ps t z (membersIn words banks (scan b)) r e′ s′
-      → WroteBoth e s t (emitFlipFlopBank (wiresOf ss ps) z (bankOf so b)) (stated r) e′ s′
+  one-bank : (so : Collected words at n count banks) (b : ℕ) → b < count → {e s parts : List ℕ} {t : Tapes} {r : Stated} {e′ s′ : List ℕ} → n ≤ length parts → EmitsBank e s parts wires places t z (membersIn words banks (scan b)) r e′ s′
+      → WroteBoth e s t (emitFlipFlopBank (wiresOf wires places) z (bankOf so b)) (stated r) e′ s′
   unfolding bankOf
   one-bank so b h {parts = parts} room one x =
       let q = bank-is so b h .first in
       let are = members-are so b in
       let few : length (membersIn words banks (scan b)) ≤ length parts = omega (arith, ap length are, members-few so b h, room) in
       wrote-as
-      (ap (λ (ms : List Member). emitFlipFlopBank (wiresOf ss ps) z (record { leader = bankOf so b .leader; members = ms })) (sym are)
-      ∙ sym (roomy-yes (length (membersIn words banks (scan b))) parts (emitFlipFlopBank (wiresOf ss ps) z (record { leader = bankOf so b .leader; members = membersIn words banks (scan b) })) few))
+      (ap (λ (ms : List Member). emitFlipFlopBank (wiresOf wires places) z (record { leader = bankOf so b .leader; members = ms })) (sym are)
+      ∙ sym (roomy-yes (length (membersIn words banks (scan b))) parts (emitFlipFlopBank (wiresOf wires places) z (record { leader = bankOf so b .leader; members = membersIn words banks (scan b) })) few))
       (one .so (bankOf so b .leader) (q .0) (are ∙ q .1) x)
 
   pub record EmitsLoop (parts₀ e₀ s₀ : List ℕ) (t₀ : Tapes) (e s parts : List ℕ) (t : Tapes) (b : ℕ) : Type 0 where
-    pub goes : Collected words at n count banks → (x : List ℕ) → Going (lists x e₀ s₀) t₀ (roomy n parts₀ (emitBanks (wiresOf ss ps) z bs)) (lists x e s) t (left b)
+    pub goes : Collected words at n count banks → (x : List ℕ) → Going (lists x e₀ s₀) t₀ (roomy n parts₀ (emitBanks (wiresOf wires places) z bs)) (lists x e s) t (left b)
     pub room : n ≤ length parts₀
     pub kept : length parts ≡ length parts₀
 
   pub emits-start : (parts e s : List ℕ) (t : Tapes) → n ≤ length parts → EmitsLoop parts e s t e s parts t 0
   unfolding left
-  emits-start parts e s t h = record { goes = λ so x. going-start (roomy-yes n parts (emitBanks (wiresOf ss ps) z bs) h); room = h; kept = refl }
+  emits-start parts e s t h = record { goes = λ so x. going-start (roomy-yes n parts (emitBanks (wiresOf wires places) z bs) h); room = h; kept = refl }
 
   module _ {parts₀ e₀ s₀ : List ℕ} {t₀ : Tapes} {e s parts : List ℕ} {t : Tapes} {b : ℕ} (now : EmitsLoop parts₀ e₀ s₀ t₀ e s parts t b) where
-    module _ (less : b < count) (r : Stated) (e′ s′ : List ℕ) (h : EmitsBank e s parts ss ps t z (membersIn words banks (scan b)) r e′ s′) where
-      one : (so : Collected words at n count banks) → WroteBoth e s t (emitFlipFlopBank (wiresOf ss ps) z (bankOf so b)) (stated r) e′ s′
+    module _ (less : b < count) (r : Stated) (e′ s′ : List ℕ) (h : EmitsBank e s parts wires places t z (membersIn words banks (scan b)) r e′ s′) where
+      one : (so : Collected words at n count banks) → WroteBoth e s t (emitFlipFlopBank (wiresOf wires places) z (bankOf so b)) (stated r) e′ s′
       one so x = one-bank so b less (omega (arith, now .room, now .kept)) h x
 
       pub emits-step : {parts′ : List ℕ} → length parts′ ≡ length parts → {u : Tapes} → r ≡ S.Done u → EmitsLoop parts₀ e₀ s₀ t₀ e′ s′ parts′ u (b + 1)
       emits-step k d = record { goes = λ so x. going-step (λ u. left (b + 1)) (now .goes so x) (left-more so b less) (one so x) (ap stated d); room = now .room; kept = k ∙ now .kept }
 
-      pub emits-stop : {x : Refusal} → r ≡ S.Refused x → EmitsBanks e₀ s₀ parts₀ ss ps t₀ z words at n banks count r e′ s′
+      pub emits-stop : {x : Refusal} → r ≡ S.Refused x → EmitsBanks e₀ s₀ parts₀ wires places t₀ z words at n banks count r e′ s′
       emits-stop d = record { so = λ so x. going-same (λ u. left (b + 1)) (now .goes so x) (left-more so b less) (one so x) (ap stated d) }
 
-    pub emits-end : count ≤ b → EmitsBanks e₀ s₀ parts₀ ss ps t₀ z words at n banks count (S.Done t) e s
+    pub emits-end : count ≤ b → EmitsBanks e₀ s₀ parts₀ wires places t₀ z words at n banks count (S.Done t) e s
     emits-end h = record { so = λ so x. going-end (now .goes so x) (left-end so b h) wrote-pure }

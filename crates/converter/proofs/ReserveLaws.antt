@@ -36,30 +36,30 @@ use Rattle.converter.proofs.Reserving.{Reserving, reserving-start, rese
 -- list, tables and tapes at a call's entry; its answer, list and tables at its exit
 pub record Given : Type 0 where
   pub l : List ℕ
-  pub ss : List ℕ
-  pub ps : List ℕ
+  pub wires : List ℕ
+  pub places : List ℕ
   pub t : Tapes
 
 pub record Gave : Type 0 where
   pub r : Stated
   pub l : List ℕ
-  pub ss : List ℕ
-  pub ps : List ℕ
+  pub wires : List ℕ
+  pub places : List ℕ
 
 abbrev pub given : List ℕ → List ℕ → List ℕ → Tapes → Given
-given l ss ps t = record { l = l; ss = ss; ps = ps; t = t }
+given l wires places t = record { l = l; wires = wires; places = places; t = t }
 
 abbrev pub gave : Stated → List ℕ → List ℕ → List ℕ → Gave
-gave r l ss ps = record { r = r; l = l; ss = ss; ps = ps }
+gave r l wires places = record { r = r; l = l; wires = wires; places = places }
 
 abbrev pub wiresIn : Given → Wires
-wiresIn g = wiresOf (g .ss) (g .ps)
+wiresIn g = wiresOf (g .wires) (g .places)
 
 abbrev pub wiresBy : Gave → Wires
-wiresBy o = wiresOf (o .ss) (o .ps)
+wiresBy o = wiresOf (o .wires) (o .places)
 
 abbrev pub RoomIn : Limits → Given → Type 0
-RoomIn limits g = Room limits (g .ss) (g .ps)
+RoomIn limits g = Room limits (g .wires) (g .places)
 
 -- w was written
 abbrev pub Done : Given → Writer Wires → Gave → Type 0
@@ -69,58 +69,58 @@ abbrev pub Made : (Limits → Type 0) → Given → Writer Wires → Gave → Ty
 Made P g w o = Reserves P (g .l) (g .t) w (o .r) (wiresBy o) (o .l)
 
 abbrev pub Scalar : Given → ℕ → ℕ → ℕ → Gave → Type 0
-Scalar g label owner w o = ReservesScalar (g .l) (g .ss) (g .ps) (g .t) label owner w (o .r) (o .l) (o .ss) (o .ps)
+Scalar g label owner w o = ReservesScalar (g .l) (g .wires) (g .places) (g .t) label owner w (o .r) (o .l) (o .wires) (o .places)
 
 abbrev pub Scalars : Given → ℕ → ℕ → List ℕ → Gave → Type 0
-Scalars g label owner ws o = ReservesScalars (g .l) (g .ss) (g .ps) (g .t) label owner ws (o .r) (o .l) (o .ss) (o .ps)
+Scalars g label owner ws o = ReservesScalars (g .l) (g .wires) (g .places) (g .t) label owner ws (o .r) (o .l) (o .wires) (o .places)
 
 abbrev pub Unless : Given → ℕ → ℕ → ℕ → Gave → Type 0
-Unless g label owner w o = ReservesUnless (g .l) (g .ss) (g .ps) (g .t) label owner w (o .r) (o .l) (o .ss) (o .ps)
+Unless g label owner w o = ReservesUnless (g .l) (g .wires) (g .places) (g .t) label owner w (o .r) (o .l) (o .wires) (o .places)
 
 abbrev pub Absent : Given → ℕ → ℕ → List ℕ → Gave → Type 0
-Absent g label owner ws o = ReservesAbsent (g .l) (g .ss) (g .ps) (g .t) label owner ws (o .r) (o .l) (o .ss) (o .ps)
+Absent g label owner ws o = ReservesAbsent (g .l) (g .wires) (g .places) (g .t) label owner ws (o .r) (o .l) (o .wires) (o .places)
 
 abbrev pub Vector : Given → ℕ → ℕ → List Bit → ℕ → Gave → Type 0
-Vector g label owner bits n o = ReservesVector (g .l) (g .ss) (g .ps) (g .t) label owner bits n (o .r) (o .l) (o .ss) (o .ps)
+Vector g label owner bits n o = ReservesVector (g .l) (g .wires) (g .places) (g .t) label owner bits n (o .r) (o .l) (o .wires) (o .places)
 
 abbrev pub CellDone : Given → ℕ → Cell → Gave → Type 0
-CellDone g owner x o = ReservesCell (g .l) (g .ss) (g .ps) (g .t) owner x (o .r) (o .l) (o .ss) (o .ps)
+CellDone g owner x o = ReservesCell (g .l) (g .wires) (g .places) (g .t) owner x (o .r) (o .l) (o .wires) (o .places)
 
 abbrev pub PortDone : Given → ℕ → Port → Gave → Type 0
-PortDone g p x o = ReservesPort (g .l) (g .ss) (g .ps) (g .t) p x (o .r) (o .l) (o .ss) (o .ps)
+PortDone g p x o = ReservesPort (g .l) (g .wires) (g .places) (g .t) p x (o .r) (o .l) (o .wires) (o .places)
 
 -- LOOPS
 
 pub record Loop {A : Type 0} (P : Limits → Type 0) (whole : Writer Wires) (f : Wires → ℕ → A → Writer Wires) (value : ℕ → A) (next : ℕ → ℕ) (n at : ℕ) (g₀ g : Given) (i : ℕ) : Type 0 where
-  pub kept-ss : length (g .ss) ≡ length (g₀ .ss)
-  pub kept-ps : length (g .ps) ≡ length (g₀ .ps)
+  pub kept-wires : length (g .wires) ≡ length (g₀ .wires)
+  pub kept-places : length (g .places) ≡ length (g₀ .places)
   pub goes : Reserving P whole (g₀ .l) (g₀ .t) (left f value next n at (wiresIn g) i) (g .l) (g .t)
 
 module _ {A : Type 0} {P : Limits → Type 0} {whole : Writer Wires} {f : Wires → ℕ → A → Writer Wires} {value : ℕ → A} {next : ℕ → ℕ} {n at : ℕ} {g₀ : Given} where
   pub loop-start : whole ≡ eachOf f (wiresIn g₀) 0 (recordsAt value next n at) → Loop P whole f value next n at g₀ g₀ 0
-  loop-start e = record { kept-ss = refl; kept-ps = refl; goes = reserving-start (e ∙ left-all f value next n at (wiresIn g₀)) }
+  loop-start e = record { kept-wires = refl; kept-places = refl; goes = reserving-start (e ∙ left-all f value next n at (wiresIn g₀)) }
 
   module _ {g : Given} {i : ℕ} (now : Loop P whole f value next n at g₀ g i) where
     module _ (room : (limits : Limits) → P limits → RoomIn limits g₀) (inside : i < n) (o : Gave) (h : (limits : Limits) → P limits → RoomIn limits g → Done g (f (wiresIn g) i (value (endAt next i at))) o) where
       wrote : (limits : Limits) → P limits → Done g (f (wiresIn g) i (value (endAt next i at))) o
-      wrote limits p = h limits p (room-keep (now .kept-ss) (now .kept-ps) (room limits p))
+      wrote limits p = h limits p (room-keep (now .kept-wires) (now .kept-places) (room limits p))
 
-      pub loop-step : length (o .ss) ≡ length (g .ss) → length (o .ps) ≡ length (g .ps) → (u : Tapes) → o .r ≡ S.Done u → Loop P whole f value next n at g₀ (given (o .l) (o .ss) (o .ps) u) (i + 1)
-      loop-step a b u d = record { kept-ss = a ∙ now .kept-ss; kept-ps = b ∙ now .kept-ps; goes = reserving-step (now .goes) (λ m₁. left f value next n at m₁ (i + 1)) (left-more f value next n at (wiresIn g) i inside) (o .r) (wiresBy o) wrote d }
+      pub loop-step : length (o .wires) ≡ length (g .wires) → length (o .places) ≡ length (g .places) → (u : Tapes) → o .r ≡ S.Done u → Loop P whole f value next n at g₀ (given (o .l) (o .wires) (o .places) u) (i + 1)
+      loop-step a b u d = record { kept-wires = a ∙ now .kept-wires; kept-places = b ∙ now .kept-places; goes = reserving-step (now .goes) (λ m₁. left f value next n at m₁ (i + 1)) (left-more f value next n at (wiresIn g) i inside) (o .r) (wiresBy o) wrote d }
 
       pub loop-stop : {x : Refusal} → o .r ≡ S.Refused x → Made P g₀ whole o
       loop-stop d = reserving-stop (now .goes) (λ m₁. left f value next n at m₁ (i + 1)) (left-more f value next n at (wiresIn g) i inside) (o .r) (wiresBy o) wrote (wiresBy o) d
 
-    pub loop-end : n ≤ i → Made P g₀ whole (gave (S.Done (g .t)) (g .l) (g .ss) (g .ps))
+    pub loop-end : n ≤ i → Made P g₀ whole (gave (S.Done (g .t)) (g .l) (g .wires) (g .places))
     loop-end h = reserving-end (now .goes) (wiresIn g) (left-done f value next n at (wiresIn g) i h)
 
 -- wires
 module _ (words : List ℕ) (label owner at n : ℕ) (g₀ : Given) where
   abbrev pub ScalarsLoop : Given → ℕ → Type 0
-  ScalarsLoop g i = Loop (WiresFit (g₀ .ss) (g₀ .ps) (wiresAt words at n)) (reserveScalars (wiresIn g₀) label owner (wiresAt words at n)) (λ m j w. reserveScalar m label owner w) (wordAt words) after n at g₀ g i
+  ScalarsLoop g i = Loop (WiresFit (g₀ .wires) (g₀ .places) (wiresAt words at n)) (reserveScalars (wiresIn g₀) label owner (wiresAt words at n)) (λ m j w. reserveScalar m label owner w) (wordAt words) after n at g₀ g i
 
   abbrev pub AbsentLoop : Given → ℕ → Type 0
-  AbsentLoop g i = Loop (WiresFit (g₀ .ss) (g₀ .ps) (wiresAt words at n)) (reserveAbsent (wiresIn g₀) label owner (wiresAt words at n)) (λ m j w. reserveUnless (m w) m label owner w) (wordAt words) after n at g₀ g i
+  AbsentLoop g i = Loop (WiresFit (g₀ .wires) (g₀ .places) (wiresAt words at n)) (reserveAbsent (wiresIn g₀) label owner (wiresAt words at n)) (λ m j w. reserveUnless (m w) m label owner w) (wordAt words) after n at g₀ g i
 
   pub scalars-start : ScalarsLoop g₀ 0
   scalars-start = loop-start (scalars-each (wiresAt words at n) (wiresIn g₀) label owner 0)
@@ -133,30 +133,30 @@ module _ (words : List ℕ) (label owner at n : ℕ) (g₀ : Given) where
     is : w ≡ wordAt words (endAt after i at)
     is = e ∙ ap (wordAt words) (sym (end-after i at))
 
-    fit : (limits : Limits) → WiresFit (g₀ .ss) (g₀ .ps) (wiresAt words at n) limits → FitsWire limits w
+    fit : (limits : Limits) → WiresFit (g₀ .wires) (g₀ .places) (wiresAt words at n) limits → FitsWire limits w
     fit limits p = subst (FitsWire limits) (sym e) (wire-of-each words limits n at i (p .1) inside)
 
     module _ (g : Given) (o : Gave) where
-      pub scalars-one : Scalar g label owner w o → (limits : Limits) → WiresFit (g₀ .ss) (g₀ .ps) (wiresAt words at n) limits → RoomIn limits g → Done g (reserveScalar (wiresIn g) label owner (wordAt words (endAt after i at))) o
+      pub scalars-one : Scalar g label owner w o → (limits : Limits) → WiresFit (g₀ .wires) (g₀ .places) (wiresAt words at n) limits → RoomIn limits g → Done g (reserveScalar (wiresIn g) label owner (wordAt words (endAt after i at))) o
       scalars-one h limits p room = subst (λ (v : ℕ). Done g (reserveScalar (wiresIn g) label owner v) o) is (h (room-tabled room w (fit limits p)))
 
-      pub absent-one : Unless g label owner w o → (limits : Limits) → WiresFit (g₀ .ss) (g₀ .ps) (wiresAt words at n) limits → RoomIn limits g
+      pub absent-one : Unless g label owner w o → (limits : Limits) → WiresFit (g₀ .wires) (g₀ .places) (wiresAt words at n) limits → RoomIn limits g
           → Done g (reserveUnless (wiresIn g (wordAt words (endAt after i at))) (wiresIn g) label owner (wordAt words (endAt after i at))) o
       absent-one h limits p room = subst (λ (v : ℕ). Done g (reserveUnless (wiresIn g v) (wiresIn g) label owner v) o) is (h .so limits (room, fit limits p))
 
 -- cells and ports
 module _ (words : List ℕ) (at n : ℕ) (g₀ : Given) where
   abbrev pub CellsIn : Limits → Type 0
-  CellsIn limits = CellsFit (g₀ .ss) (g₀ .ps) words at n limits
+  CellsIn limits = CellsFit (g₀ .wires) (g₀ .places) words at n limits
 
   abbrev pub PortsIn : Limits → Type 0
-  PortsIn limits = PortsFit (g₀ .ss) (g₀ .ps) words at n limits
+  PortsIn limits = PortsFit (g₀ .wires) (g₀ .places) words at n limits
 
   abbrev pub CellsLoop : Given → ℕ → Type 0
-  CellsLoop g i = Loop (CellsFit (g₀ .ss) (g₀ .ps) words at n) (reserveCells (wiresIn g₀) 0 (cellsAt words at n)) reserveCellOutput (cellAt words) (cellEnd words) n at g₀ g i
+  CellsLoop g i = Loop (CellsFit (g₀ .wires) (g₀ .places) words at n) (reserveCells (wiresIn g₀) 0 (cellsAt words at n)) reserveCellOutput (cellAt words) (cellEnd words) n at g₀ g i
 
   abbrev pub PortsLoop : Given → ℕ → Type 0
-  PortsLoop g i = Loop (PortsFit (g₀ .ss) (g₀ .ps) words at n) (reservePorts (wiresIn g₀) 0 (portsAt words at n)) reservePort (portAt words) (portEnd words) n at g₀ g i
+  PortsLoop g i = Loop (PortsFit (g₀ .wires) (g₀ .places) words at n) (reservePorts (wiresIn g₀) 0 (portsAt words at n)) reservePort (portAt words) (portEnd words) n at g₀ g i
 
   -- where the code is
   abbrev pub CellIs : ℕ → ℕ → Type 0
@@ -188,14 +188,14 @@ entry-there : (n p : ℕ) (m : Wires) (label owner w : ℕ) → (n ≡ 0 → ⊥
 entry-there zero p m label owner w h = absurd (h refl)
 entry-there (suc n) p m label owner w h = refl
 
-module _ (g : Given) (label owner : ℕ) {w i s : ℕ} (at-w : i ≡ w) (e : s ≡ getD (g .ss) i 0) where
-  pub unless-there : (s ≡ 0 → ⊥) → Unless g label owner w (gave (S.Done (g .t)) (g .l) (g .ss) (g .ps))
+module _ (g : Given) (label owner : ℕ) {w i s : ℕ} (at-w : i ≡ w) (e : s ≡ getD (g .wires) i 0) where
+  pub unless-there : (s ≡ 0 → ⊥) → Unless g label owner w (gave (S.Done (g .t)) (g .l) (g .wires) (g .places))
   unfolding wiresOf
-  unless-there h = record { so = λ limits p a b. wrote-as (entry-there (getD (g .ss) w 0) (getD (g .ps) w 0) (wiresIn g) label owner w (λ z. h (e ∙ ap (λ (k : ℕ). getD (g .ss) k 0) at-w ∙ z))) wrote-pure }
+  unless-there h = record { so = λ limits p a b. wrote-as (entry-there (getD (g .wires) w 0) (getD (g .places) w 0) (wiresIn g) label owner w (λ z. h (e ∙ ap (λ (k : ℕ). getD (g .wires) k 0) at-w ∙ z))) wrote-pure }
 
   pub unless-not : s ≡ 0 → (o : Gave) → Scalar g label owner w o → Unless g label owner w o
   unfolding wiresOf
-  unless-not z o h = record { so = λ limits p a b. wrote-as (ap (λ (k : ℕ). reserveUnless (entry k (getD (g .ps) w 0)) (wiresIn g) label owner w) (sym (ap (λ (k : ℕ). getD (g .ss) k 0) at-w) ∙ sym e ∙ z)) (h (room-tabled (p .0) w (p .1)) a b) }
+  unless-not z o h = record { so = λ limits p a b. wrote-as (ap (λ (k : ℕ). reserveUnless (entry k (getD (g .places) w 0)) (wiresIn g) label owner w) (sym (ap (λ (k : ℕ). getD (g .wires) k 0) at-w) ∙ sym e ∙ z)) (h (room-tabled (p .0) w (p .1)) a b) }
 
 -- CELLS BY KIND
 
@@ -287,7 +287,7 @@ module _ (words : List ℕ) (at : ℕ) where
     unfolding reserveCellOutput
     cell-distributed cut h = record { so = λ limits p. vector-wires 9 (at + 15) 4 cut h limits (p .0) (p .1 .output .1) (omega arith) }
 
-  pub cell-flip-flop : (g : Given) (owner : ℕ) → CellDone g owner (flipFlopAt words at) (gave (S.Done (g .t)) (g .l) (g .ss) (g .ps))
+  pub cell-flip-flop : (g : Given) (owner : ℕ) → CellDone g owner (flipFlopAt words at) (gave (S.Done (g .t)) (g .l) (g .wires) (g .places))
   unfolding reserveCellOutput
   cell-flip-flop g owner = record { so = λ limits p a b. wrote-pure }
 
@@ -318,17 +318,17 @@ module _ (words : List ℕ) (owner at : ℕ) (g : Given) where
   pll-is = absent-append pins more (wiresIn g) 12 owner
 
   module _ {i : ℕ} (cut : i ≡ min (at + 2) (length words)) (o : Gave) (h : Absent g 12 owner (wiresAt words i 3) o) where
-    first : (limits : Limits) → CellFits (g .ss) (g .ps) (pllAt words at) limits → Done g (reserveAbsent (wiresIn g) 12 owner pins) o
+    first : (limits : Limits) → CellFits (g .wires) (g .places) (pllAt words at) limits → Done g (reserveAbsent (wiresIn g) 12 owner pins) o
     first limits p = subst (λ (ws : List ℕ). Absent g 12 owner ws o) (pins-are cut) h .so limits (p .0, (p .1 .feedback, (p .1 .output, (p .1 .locked, tt))))
 
     pub pll-stop : {x : Refusal} → o .r ≡ S.Refused x → CellDone g owner (pllAt words at) o
     pll-stop d = reserving-stop (reserving-start pll-is) (λ m. reserveAbsent m 12 owner more) refl (o .r) (wiresBy o) first (wiresBy o) d
 
-    pub pll-done : (u : Tapes) → o .r ≡ S.Done u → length (o .ss) ≡ length (g .ss) → length (o .ps) ≡ length (g .ps) → {j n : ℕ} → j ≡ min (at + 6) (length words) → n ≡ wordAt words (at + 5)
-        → (q : Gave) → Absent (given (o .l) (o .ss) (o .ps) u) 12 owner (wiresAt words j n) q → CellDone g owner (pllAt words at) q
+    pub pll-done : (u : Tapes) → o .r ≡ S.Done u → length (o .wires) ≡ length (g .wires) → length (o .places) ≡ length (g .places) → {j n : ℕ} → j ≡ min (at + 6) (length words) → n ≡ wordAt words (at + 5)
+        → (q : Gave) → Absent (given (o .l) (o .wires) (o .places) u) 12 owner (wiresAt words j n) q → CellDone g owner (pllAt words at) q
     pll-done u d a b {j} {n} cut₂ e q k =
         reserving-last (reserving-step (reserving-start pll-is) (λ m. reserveAbsent m 12 owner more) refl (o .r) (wiresBy o) first d) (q .r) (wiresBy q) refl
-        (λ limits p. subst (λ (ws : List ℕ). Absent (given (o .l) (o .ss) (o .ps) u) 12 owner ws q) (wires-ahead words (at + 6) cut₂ n ∙ ap (wiresAt words (at + 6)) e) k .so limits (room-keep a b (p .0), p .1 .more .1))
+        (λ limits p. subst (λ (ws : List ℕ). Absent (given (o .l) (o .wires) (o .places) u) 12 owner ws q) (wires-ahead words (at + 6) cut₂ n ∙ ap (wiresAt words (at + 6)) e) k .so limits (room-keep a b (p .0), p .1 .more .1))
 
 -- A BLOCK RAM
 
@@ -357,7 +357,7 @@ module _ (words : List ℕ) (owner at : ℕ) (g : Given) where
     cut′ : i ≡ min (at + (43 + width)) (length words)
     cut′ = cut ∙ ap (λ (k : ℕ). min (at + (43 + k)) (length words)) (off ∙ is)
 
-    first-port : (limits : Limits) → CellFits (g .ss) (g .ps) (blockRamAt words at) limits → Done g (reserveVector (wiresIn g) 8 owner (wiresAt words (at + (43 + width)) width)) o
+    first-port : (limits : Limits) → CellFits (g .wires) (g .places) (blockRamAt words at) limits → Done g (reserveVector (wiresIn g) 8 owner (wiresAt words (at + (43 + width)) width)) o
     first-port limits p = vector-wires words at g owner o 8 (at + (43 + width)) width cut′ (subst (λ (k : ℕ). Vector g 8 owner (heldBits words 1 i k) k o) is h) limits (p .0) (p .1 .output .1) (small (p .1 .width .1))
 
     pub ram-stop : {x : Refusal} → o .r ≡ S.Refused x → CellDone g owner (blockRamAt words at) o
@@ -367,7 +367,7 @@ module _ (words : List ℕ) (owner at : ℕ) (g : Given) where
       none-there : (m : Wires) → f ≡ 0 → reserveSecond m owner second ≡ pure m
       none-there m z = ap (λ (k : ℕ). reserveSecond m owner (whenSet k port)) (sym flag ∙ z)
 
-      pub ram-one : f ≡ 0 → CellDone g owner (blockRamAt words at) (gave (S.Done u) (o .l) (o .ss) (o .ps))
+      pub ram-one : f ≡ 0 → CellDone g owner (blockRamAt words at) (gave (S.Done u) (o .l) (o .wires) (o .places))
       ram-one z = reserving-end (reserving-step (reserving-start ram-is) (λ m. reserveSecond m owner second) refl (o .r) (wiresBy o) first-port d) (wiresBy o) (none-there (wiresBy o) z)
 
       there : (f ≡ 0 → ⊥) → second ≡ some port
@@ -376,11 +376,11 @@ module _ (words : List ℕ) (owner at : ℕ) (g : Given) where
       fits : (f ≡ 0 → ⊥) → (limits : Limits) → FitsOption (FitsSecond limits width) second → Each (FitsWire limits) (wiresAt words (at + firstSize words width + (24 + width)) width)
       fits nz limits x = (subst (FitsOption (FitsSecond limits width)) (there nz) x) .output .1
 
-      pub ram-two : (f ≡ 0 → ⊥) → length (o .ss) ≡ length (g .ss) → length (o .ps) ≡ length (g .ps) → {s k z : ℕ} → s ≡ min (at + firstSize words (wordAt words (at + 2))) (length words) → z ≡ v → k ≡ min (s + (24 + z)) (length words)
-          → (q : Gave) → Vector (given (o .l) (o .ss) (o .ps) u) 8 owner (heldBits words 1 k v) v q → CellDone g owner (blockRamAt words at) q
+      pub ram-two : (f ≡ 0 → ⊥) → length (o .wires) ≡ length (g .wires) → length (o .places) ≡ length (g .places) → {s k z : ℕ} → s ≡ min (at + firstSize words (wordAt words (at + 2))) (length words) → z ≡ v → k ≡ min (s + (24 + z)) (length words)
+          → (q : Gave) → Vector (given (o .l) (o .wires) (o .places) u) 8 owner (heldBits words 1 k v) v q → CellDone g owner (blockRamAt words at) q
       ram-two nz a b {s} {k} {z} start off₂ cut₂ q x =
           reserving-last (reserving-step (reserving-start ram-is) (λ m. reserveSecond m owner second) refl (o .r) (wiresBy o) first-port d) (q .r) (wiresBy q) (ap (reserveSecond (wiresBy o) owner) (there nz))
-          (λ limits p. vector-wires words at (given (o .l) (o .ss) (o .ps) u) owner q 8 (at + firstSize words width + (24 + width)) width cut-two (subst (λ (n : ℕ). Vector (given (o .l) (o .ss) (o .ps) u) 8 owner (heldBits words 1 k n) n q) is x) limits (room-keep a b (p .0)) (fits nz limits (p .1 .second)) (small (p .1 .width .1)))
+          (λ limits p. vector-wires words at (given (o .l) (o .wires) (o .places) u) owner q 8 (at + firstSize words width + (24 + width)) width cut-two (subst (λ (n : ℕ). Vector (given (o .l) (o .wires) (o .places) u) 8 owner (heldBits words 1 k n) n q) is x) limits (room-keep a b (p .0)) (fits nz limits (p .1 .second)) (small (p .1 .width .1)))
         where
           cut-two : k ≡ min (at + firstSize words width + (24 + width)) (length words)
           cut-two = let e : z ≡ width = off₂ ∙ is in omega (arith, start, cut₂, e)
@@ -424,7 +424,7 @@ module _ (words : List ℕ) (p at : ℕ) (g : Given) where
     out-wrote (D.Done x u) l₁ a b k = then-done k (λ x. pure (wiresIn g)) refl wrote-pure
     out-wrote (D.Refused x) l₁ a b k = then-stop k (λ x. pure (wiresIn g)) refl
 
-    pub port-output : d ≡ 1 → (q : Declared) (s : Stated) (l₁ : List ℕ) → WroteSignals (g .l) (g .t) (declare (signalOf 1 width p)) (declared q) l₁ → s ≡ undeclaredOf q → PortDone g p (portAt words at) (gave s l₁ (g .ss) (g .ps))
+    pub port-output : d ≡ 1 → (q : Declared) (s : Stated) (l₁ : List ℕ) → WroteSignals (g .l) (g .t) (declare (signalOf 1 width p)) (declared q) l₁ → s ≡ undeclaredOf q → PortDone g p (portAt words at) (gave s l₁ (g .wires) (g .places))
     port-output z q s l₁ h e = record { so = λ limits f a b. wrote-as (output-is z) (subst (λ (y : Stated). Wrote (lists (g .l) a b) (g .t) out (mapped y (wiresIn g)) (lists l₁ a b)) (sym e) (out-wrote q l₁ a b (h a b))) }
 
     pub port-input : (d ≡ 1 → ⊥) → {i : ℕ} → i ≡ min (at + 2) (length words) → (o : Gave) → Vector g 0 p (heldBits words 0 i width) width o → PortDone g p (portAt words at) o

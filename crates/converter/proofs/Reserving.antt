@@ -126,18 +126,18 @@ ports-each (x ∷ xs) m i = ap (λ (k : Wires → Writer Wires). reservePort m i
 
 -- TABLES WITH ROOM
 
-pub room-keep : {limits : Limits} {ss ps ss′ ps′ : List ℕ} → length ss′ ≡ length ss → length ps′ ≡ length ps → Room limits ss ps → Room limits ss′ ps′
-room-keep p q h = record { signals = omega (arith, h .signals); places = omega (arith, h .places); narrow = h .narrow }
+pub room-keep : {limits : Limits} {wires places wires′ places′ : List ℕ} → length wires′ ≡ length wires → length places′ ≡ length places → Room limits wires places → Room limits wires′ places′
+room-keep p q h = record { wires-long = omega (arith, h .wires-long); places-long = omega (arith, h .places-long); narrow = h .narrow }
 
-pub room-tabled : {limits : Limits} {ss ps : List ℕ} → Room limits ss ps → (w : ℕ) → FitsWire limits w → Tabled ss ps w
-room-tabled h w f = (omega (arith, h .signals), omega (arith, h .places))
+pub room-tabled : {limits : Limits} {wires places : List ℕ} → Room limits wires places → (w : ℕ) → FitsWire limits w → Tabled wires places w
+room-tabled h w f = (omega (arith, h .wires-long), omega (arith, h .places-long))
 
-room-bit : {limits : Limits} {ss ps : List ℕ} → Room limits ss ps → (b : Bit) → FitsBit limits b → TabledBit ss ps b
+room-bit : {limits : Limits} {wires places : List ℕ} → Room limits wires places → (b : Bit) → FitsBit limits b → TabledBit wires places b
 room-bit h Zero f = tt
 room-bit h One f = tt
 room-bit h (Wire w) f = room-tabled h w f
 
-pub room-bits : {limits : Limits} {ss ps : List ℕ} → Room limits ss ps → (bits : List Bit) → Each (FitsBit limits) bits → TabledBits ss ps bits
+pub room-bits : {limits : Limits} {wires places : List ℕ} → Room limits wires places → (bits : List Bit) → Each (FitsBit limits) bits → TabledBits wires places bits
 room-bits h [] f = tt
 room-bits h (b ∷ bits) f = (room-bit h b (f .0), room-bits h bits (f .1))
 

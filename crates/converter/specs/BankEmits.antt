@@ -41,10 +41,10 @@ abbrev pub clockBank : Wires → Constants → FlipFlop → ℕ → ℕ → Opti
 clockBank m z f target next reset = bitSignal m z (f .clock) >>= λ clock. state (reg target next clock (f .edge) reset none)
 
 -- the bank of these members
-pub record EmitsBank (e s parts ss ps : List ℕ) (t : Tapes) (z : Constants) (ms : List Member) (r : Stated) (e′ s′ : List ℕ) : Type 0 where
+pub record EmitsBank (e s parts wires places : List ℕ) (t : Tapes) (z : Constants) (ms : List Member) (r : Stated) (e′ s′ : List ℕ) : Type 0 where
   pub so : (m : Member) (more : List Member) → ms ≡ m ∷ more
-      → WroteBoth e s t (roomy (length ms) parts (emitFlipFlopBank (wiresOf ss ps) z (record { leader = m; members = ms }))) (stated r) e′ s′
+      → WroteBoth e s t (roomy (length ms) parts (emitFlipFlopBank (wiresOf wires places) z (record { leader = m; members = ms }))) (stated r) e′ s′
 
 -- all banks of n cells whose banks' numbers are noted
-pub record EmitsBanks (e s parts ss ps : List ℕ) (t : Tapes) (z : Constants) (words : List ℕ) (i n : ℕ) (banks : List ℕ) (count : ℕ) (r : Stated) (e′ s′ : List ℕ) : Type 0 where
-  pub so : Collected words i n count banks → WroteBoth e s t (roomy n parts (emitBanks (wiresOf ss ps) z (collectFlipFlopBanks (cellsAt words i n)))) (stated r) e′ s′
+pub record EmitsBanks (e s parts wires places : List ℕ) (t : Tapes) (z : Constants) (words : List ℕ) (i n : ℕ) (banks : List ℕ) (count : ℕ) (r : Stated) (e′ s′ : List ℕ) : Type 0 where
+  pub so : Collected words i n count banks → WroteBoth e s t (roomy n parts (emitBanks (wiresOf wires places) z (collectFlipFlopBanks (cellsAt words i n)))) (stated r) e′ s′

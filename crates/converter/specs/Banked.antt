@@ -53,7 +53,7 @@ pub record ResetKeyOf (words : List ℕ) (i r : ℕ) : Type 0 where
   pub is : (limits : Limits) → limits .wires < 1000000000 → FitsFlipFlop limits (flopAt words i) → r ≡ resetKey (flopAt words i)
 
 abbrev pub keyIs : List ℕ → List ℕ → ℕ → ℕ → ℕ → Bool
-keyIs first second i a b = eqb (getD first i 0) a && eqb (getD second i 0) b
+keyIs parts values i a b = eqb (getD parts i 0) a && eqb (getD values i 0) b
 
 -- the steps to the first of n numbers from i on that passes
 unfoldable pub firstWith : (ℕ → Bool) → ℕ → ℕ → ℕ
@@ -62,16 +62,16 @@ firstWith p (suc n) i = pick (p i) 0 (suc (firstWith p n (suc i)))
 
 -- to the first key that is a and b
 abbrev pub findKey : List ℕ → List ℕ → ℕ → ℕ → ℕ → ℕ → ℕ
-findKey first second a b n i = firstWith (λ j. keyIs first second j a b) n i
+findKey parts values a b n i = firstWith (λ j. keyIs parts values j a b) n i
 
 abbrev pub larger : ℕ → ℕ → ℕ
 larger a b = pick (ltb a b) b a
 
 -- the keys of the banks' first flip-flops are noted, and those fit
-pub record Keyed (limits : Limits) (ls : List Member) (first second : List ℕ) (count : ℕ) : Type 0 where
+pub record Keyed (limits : Limits) (ls : List Member) (parts values : List ℕ) (count : ℕ) : Type 0 where
   pub long : count ≡ length ls
-  pub clocks : (b : ℕ) (d : Member) → b < length ls → getD first b 0 ≡ clockKey (getD ls b d .flop)
-  pub resets : (b : ℕ) (d : Member) → b < length ls → getD second b 0 ≡ resetKey (getD ls b d .flop)
+  pub clocks : (b : ℕ) (d : Member) → b < length ls → getD parts b 0 ≡ clockKey (getD ls b d .flop)
+  pub resets : (b : ℕ) (d : Member) → b < length ls → getD values b 0 ≡ resetKey (getD ls b d .flop)
   pub fits : (b : ℕ) (d : Member) → b < length ls → FitsFlipFlop limits (getD ls b d .flop)
 
 -- 0, or 1 and the bank's number
@@ -87,13 +87,13 @@ abbrev pub withCell : List Member → ℕ → Cell → List Member
 withCell ls c x = leadersFrom ls (also (flipFlopOf x) c [])
 
 -- cell x finds its bank, or founds one
-pub record JoinedBank (limits : Limits) (ls : List Member) (c : ℕ) (x : Cell) (count r : ℕ) (first second : List ℕ) : Type 0 where
+pub record JoinedBank (limits : Limits) (ls : List Member) (c : ℕ) (x : Cell) (count r : ℕ) (parts values : List ℕ) : Type 0 where
   pub number : r ≡ numberIn (withCell ls c x) x
-  pub keyed : Keyed limits (withCell ls c x) first second (larger count r)
+  pub keyed : Keyed limits (withCell ls c x) parts values (larger count r)
 
 abbrev pub Joins : List ℕ → ℕ → List ℕ → List ℕ → ℕ → ℕ → List ℕ → List ℕ → Type 0
-Joins words i first second count r first′ second′ = (limits : Limits) (ls : List Member) (c : ℕ) → limits .wires < 1000000000 → FitsCell limits (cellAt words i) → Keyed limits ls first second count
-    → count < length first → count < length second → count < 4294967295 → JoinedBank limits ls c (cellAt words i) count r first′ second′
+Joins words i parts values count r parts′ values′ = (limits : Limits) (ls : List Member) (c : ℕ) → limits .wires < 1000000000 → FitsCell limits (cellAt words i) → Keyed limits ls parts values count
+    → count < length parts → count < length values → count < 4294967295 → JoinedBank limits ls c (cellAt words i) count r parts′ values′
 
 -- the bank of each of the n cells from an index on
 pub record Collected (words : List ℕ) (i n count : ℕ) (banks : List ℕ) : Type 0 where
@@ -101,10 +101,10 @@ pub record Collected (words : List ℕ) (i n count : ℕ) (banks : List ℕ) : T
   pub numbers : (k : ℕ) → k < n → getD banks k 0 ≡ numberIn (leadersOf (cellsAt words i n)) (cellAt words (endAt (cellEnd words) k i))
 
 -- work for so many
-pub record Work (n : ℕ) (banks first second : List ℕ) : Type 0 where
+pub record Work (n : ℕ) (banks parts values : List ℕ) : Type 0 where
   pub numbers : n ≤ length banks
-  pub clocks : n ≤ length first
-  pub resets : n ≤ length second
+  pub clocks : n ≤ length parts
+  pub resets : n ≤ length values
 
 abbrev pub Collects : List ℕ → ℕ → ℕ → List ℕ → List ℕ → List ℕ → ℕ → List ℕ → Type 0
-Collects words i n banks first second r banks′ = (limits : Limits) → limits .wires < 1000000000 → Fitting (cellAt words) (cellEnd words) (FitsCell limits) (length words) n i → Work n banks first second → Collected words i n r banks′
+Collects words i n banks parts values r banks′ = (limits : Limits) → limits .wires < 1000000000 → Fitting (cellAt words) (cellEnd words) (FitsCell limits) (length words) n i → Work n banks parts values → Collected words i n r banks′

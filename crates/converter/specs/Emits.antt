@@ -55,10 +55,10 @@ Work work = 16384 ≤ length work
 -- the lists and works at entry, the tapes, the wire map; the constants' signals and the cell's number; the cell; the answer, and the lists at exit
 
 abbrev pub CellFits : List ℕ → List ℕ → Cell → Limits → Type 0
-CellFits parts value x limits = Work parts × Work value × FitsCell limits x
+CellFits parts values x limits = Work parts × Work values × FitsCell limits x
 
 abbrev pub EmitsCell : Lists → List ℕ → List ℕ → Tapes → Wires → Constants → ℕ → Cell → Stated → Lists → Type 0
-EmitsCell l parts value t m z owner x r l′ = Emits (CellFits parts value x) l t (emitCell m z owner x) r l′
+EmitsCell l parts values t m z owner x r l′ = Emits (CellFits parts values x) l t (emitCell m z owner x) r l′
 
 -- one that takes one work
 abbrev pub OneFits : List ℕ → Cell → Limits → Type 0
@@ -81,10 +81,10 @@ EmitsSmall e s parts t m words at kind r e′ s′ =
 
 -- n cells that fit, from an index on
 abbrev pub CellsFit : List ℕ → List ℕ → List ℕ → ℕ → ℕ → Limits → Type 0
-CellsFit parts value words at n limits = Work parts × Work value × Fitting (cellAt words) (cellEnd words) (FitsCell limits) (length words) n at
+CellsFit parts values words at n limits = Work parts × Work values × Fitting (cellAt words) (cellEnd words) (FitsCell limits) (length words) n at
 
 abbrev pub EmitsCells : Lists → List ℕ → List ℕ → Tapes → Wires → Constants → List ℕ → ℕ → ℕ → Stated → Lists → Type 0
-EmitsCells l parts value t m z words at n r l′ = Emits (CellsFit parts value words at n) l t (emitCells m z 0 (cellsAt words at n)) r l′
+EmitsCells l parts values t m z words at n r l′ = Emits (CellsFit parts values words at n) l t (emitCells m z 0 (cellsAt words at n)) r l′
 
 -- A PORT
 -- the work has the widest port's width

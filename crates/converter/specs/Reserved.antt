@@ -19,26 +19,26 @@ use Rattle.converter.specs.Banked.{Collected}
 use Rattle.converter.specs.Members.{membersIn}
 
 -- the tables have the wires, and hold the signal's number and places
-pub record TabledWires (ss ps ws : List ℕ) (s n : ℕ) : Type 0 where
-  pub tabled : Each (Tabled ss ps) ws
+pub record TabledWires (wires places ws : List ℕ) (s n : ℕ) : Type 0 where
+  pub tabled : Each (Tabled wires places) ws
   pub numbered : s < 4294967295
   pub narrow : n < 65536
   pub placed : length ws ≤ n
 
-pub record InsertsWires (ss ps ws : List ℕ) (s n : ℕ) (r : Inserted) (ss′ ps′ : List ℕ) : Type 0 where
-  pub so : TabledWires ss ps ws s n → insertWires (wiresOf ss ps) s n 0 ws ≡ quiet r (wiresOf ss′ ps′)
+pub record InsertsWires (wires places ws : List ℕ) (s n : ℕ) (r : Inserted) (wires′ places′ : List ℕ) : Type 0 where
+  pub so : TabledWires wires places ws s n → insertWires (wiresOf wires places) s n 0 ws ≡ quiet r (wiresOf wires′ places′)
 
 abbrev pub MembersFit : List ℕ → List ℕ → List Member → Limits → Type 0
-MembersFit ss ps ms limits = Room limits ss ps × Each (FitsWire limits) (outputsOf ms) × (length ms < 65536)
+MembersFit wires places ms limits = Room limits wires places × Each (FitsWire limits) (outputsOf ms) × (length ms < 65536)
 
 abbrev pub ReservesBank : List ℕ → List ℕ → List ℕ → Tapes → List ℕ → List ℕ → Scan → ℕ → Stated → List ℕ → List ℕ → List ℕ → Type 0
-ReservesBank l ss ps t words banks s owner r l′ ss′ ps′ =
-    Reserves (MembersFit ss ps (membersIn words banks s)) l t (reserveVector (wiresOf ss ps) 7 owner (outputsOf (membersIn words banks s))) r (wiresOf ss′ ps′) l′
+ReservesBank l wires places t words banks s owner r l′ wires′ places′ =
+    Reserves (MembersFit wires places (membersIn words banks s)) l t (reserveVector (wiresOf wires places) 7 owner (outputsOf (membersIn words banks s))) r (wiresOf wires′ places′) l′
 
 -- the cells fit, and their banks' numbers are noted
 abbrev pub BanksFit : List ℕ → List ℕ → List ℕ → ℕ → ℕ → List ℕ → ℕ → Limits → Type 0
-BanksFit ss ps words at n banks count limits = CellsFit ss ps words at n limits × (n < 65536) × Collected words at n count banks
+BanksFit wires places words at n banks count limits = CellsFit wires places words at n limits × (n < 65536) × Collected words at n count banks
 
 abbrev pub ReservesBanks : List ℕ → List ℕ → List ℕ → Tapes → List ℕ → ℕ → ℕ → List ℕ → ℕ → Stated → List ℕ → List ℕ → List ℕ → Type 0
-ReservesBanks l ss ps t words at n banks count r l′ ss′ ps′ =
-    Reserves (BanksFit ss ps words at n banks count) l t (reserveFlipFlopBanks (wiresOf ss ps) 0 (collectFlipFlopBanks (cellsAt words at n))) r (wiresOf ss′ ps′) l′
+ReservesBanks l wires places t words at n banks count r l′ wires′ places′ =
+    Reserves (BanksFit wires places words at n banks count) l t (reserveFlipFlopBanks (wiresOf wires places) 0 (collectFlipFlopBanks (cellsAt words at n))) r (wiresOf wires′ places′) l′

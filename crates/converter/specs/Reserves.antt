@@ -16,9 +16,9 @@ use Rattle.lowering.specs.Reserve.{signalOf, insertBits, reserveScalars, reserv
 use Rattle.converter.specs.Tables.{mapped, heldBits}
 
 -- the tables have the wires, and hold the widths
-pub record Room (limits : Limits) (ss ps : List ℕ) : Type 0 where
-  pub signals : limits .wires ≤ length ss
-  pub places : limits .wires ≤ length ps
+pub record Room (limits : Limits) (wires places : List ℕ) : Type 0 where
+  pub wires-long : limits .wires ≤ length wires
+  pub places-long : limits .wires ≤ length places
   pub narrow : limits .width < 65536
 
 -- if P holds, w was written, and the map is then m
@@ -27,19 +27,19 @@ pub record Reserves (P : Limits → Type 0) (l : List ℕ) (t : Tapes) (w : Writ
 
 -- bits, wires, cells and ports that fit
 abbrev pub BitsFit : List ℕ → List ℕ → List Bit → ℕ → Limits → Type 0
-BitsFit ss ps bits n limits = Room limits ss ps × Each (FitsBit limits) bits × (n < 65536)
+BitsFit wires places bits n limits = Room limits wires places × Each (FitsBit limits) bits × (n < 65536)
 
 abbrev pub WireFits : List ℕ → List ℕ → ℕ → Limits → Type 0
-WireFits ss ps w limits = Room limits ss ps × FitsWire limits w
+WireFits wires places w limits = Room limits wires places × FitsWire limits w
 
 abbrev pub WiresFit : List ℕ → List ℕ → List ℕ → Limits → Type 0
-WiresFit ss ps ws limits = Room limits ss ps × Each (FitsWire limits) ws
+WiresFit wires places ws limits = Room limits wires places × Each (FitsWire limits) ws
 
 abbrev pub CellFits : List ℕ → List ℕ → Cell → Limits → Type 0
-CellFits ss ps x limits = Room limits ss ps × FitsCell limits x
+CellFits wires places x limits = Room limits wires places × FitsCell limits x
 
 abbrev pub PortFits : List ℕ → List ℕ → Port → Limits → Type 0
-PortFits ss ps x limits = Room limits ss ps × FitsPort limits x
+PortFits wires places x limits = Room limits wires places × FitsPort limits x
 
 -- n records that fit, from an index on, and end inside the words
 pub record Fitting {A : Type 0} (value : ℕ → A) (next : ℕ → ℕ) (fits : A → Type 0) (end n at : ℕ) : Type 0 where
@@ -47,37 +47,37 @@ pub record Fitting {A : Type 0} (value : ℕ → A) (next : ℕ → ℕ) (fits :
   pub inside : (k : ℕ) → k < n → next (endAt next k at) ≤ end
 
 abbrev pub CellsFit : List ℕ → List ℕ → List ℕ → ℕ → ℕ → Limits → Type 0
-CellsFit ss ps words at n limits = Room limits ss ps × Fitting (cellAt words) (cellEnd words) (FitsCell limits) (length words) n at
+CellsFit wires places words at n limits = Room limits wires places × Fitting (cellAt words) (cellEnd words) (FitsCell limits) (length words) n at
 
 abbrev pub PortsFit : List ℕ → List ℕ → List ℕ → ℕ → ℕ → Limits → Type 0
-PortsFit ss ps words at n limits = Room limits ss ps × Fitting (portAt words) (portEnd words) (FitsPort limits) (length words) n at
+PortsFit wires places words at n limits = Room limits wires places × Fitting (portAt words) (portEnd words) (FitsPort limits) (length words) n at
 
 -- the list, the tables and the tapes at entry; what was asked; the answer, and list and tables at exit
 
 abbrev pub ReservesVector : List ℕ → List ℕ → List ℕ → Tapes → ℕ → ℕ → List Bit → ℕ → Stated → List ℕ → List ℕ → List ℕ → Type 0
-ReservesVector l ss ps t label owner bits n r l′ ss′ ps′ =
-    Reserves (BitsFit ss ps bits n) l t (declare (signalOf label n owner) >>= λ s. insertBits (wiresOf ss ps) s n 0 bits) r (wiresOf ss′ ps′) l′
+ReservesVector l wires places t label owner bits n r l′ wires′ places′ =
+    Reserves (BitsFit wires places bits n) l t (declare (signalOf label n owner) >>= λ s. insertBits (wiresOf wires places) s n 0 bits) r (wiresOf wires′ places′) l′
 
 abbrev pub ReservesScalars : List ℕ → List ℕ → List ℕ → Tapes → ℕ → ℕ → List ℕ → Stated → List ℕ → List ℕ → List ℕ → Type 0
-ReservesScalars l ss ps t label owner ws r l′ ss′ ps′ = Reserves (WiresFit ss ps ws) l t (reserveScalars (wiresOf ss ps) label owner ws) r (wiresOf ss′ ps′) l′
+ReservesScalars l wires places t label owner ws r l′ wires′ places′ = Reserves (WiresFit wires places ws) l t (reserveScalars (wiresOf wires places) label owner ws) r (wiresOf wires′ places′) l′
 
 abbrev pub ReservesUnless : List ℕ → List ℕ → List ℕ → Tapes → ℕ → ℕ → ℕ → Stated → List ℕ → List ℕ → List ℕ → Type 0
-ReservesUnless l ss ps t label owner w r l′ ss′ ps′ = Reserves (WireFits ss ps w) l t (reserveUnless (wiresOf ss ps w) (wiresOf ss ps) label owner w) r (wiresOf ss′ ps′) l′
+ReservesUnless l wires places t label owner w r l′ wires′ places′ = Reserves (WireFits wires places w) l t (reserveUnless (wiresOf wires places w) (wiresOf wires places) label owner w) r (wiresOf wires′ places′) l′
 
 abbrev pub ReservesAbsent : List ℕ → List ℕ → List ℕ → Tapes → ℕ → ℕ → List ℕ → Stated → List ℕ → List ℕ → List ℕ → Type 0
-ReservesAbsent l ss ps t label owner ws r l′ ss′ ps′ = Reserves (WiresFit ss ps ws) l t (reserveAbsent (wiresOf ss ps) label owner ws) r (wiresOf ss′ ps′) l′
+ReservesAbsent l wires places t label owner ws r l′ wires′ places′ = Reserves (WiresFit wires places ws) l t (reserveAbsent (wiresOf wires places) label owner ws) r (wiresOf wires′ places′) l′
 
 abbrev pub ReservesCell : List ℕ → List ℕ → List ℕ → Tapes → ℕ → Cell → Stated → List ℕ → List ℕ → List ℕ → Type 0
-ReservesCell l ss ps t owner x r l′ ss′ ps′ = Reserves (CellFits ss ps x) l t (reserveCellOutput (wiresOf ss ps) owner x) r (wiresOf ss′ ps′) l′
+ReservesCell l wires places t owner x r l′ wires′ places′ = Reserves (CellFits wires places x) l t (reserveCellOutput (wiresOf wires places) owner x) r (wiresOf wires′ places′) l′
 
 abbrev pub ReservesCells : List ℕ → List ℕ → List ℕ → Tapes → List ℕ → ℕ → ℕ → Stated → List ℕ → List ℕ → List ℕ → Type 0
-ReservesCells l ss ps t words at n r l′ ss′ ps′ = Reserves (CellsFit ss ps words at n) l t (reserveCells (wiresOf ss ps) 0 (cellsAt words at n)) r (wiresOf ss′ ps′) l′
+ReservesCells l wires places t words at n r l′ wires′ places′ = Reserves (CellsFit wires places words at n) l t (reserveCells (wiresOf wires places) 0 (cellsAt words at n)) r (wiresOf wires′ places′) l′
 
 abbrev pub ReservesPort : List ℕ → List ℕ → List ℕ → Tapes → ℕ → Port → Stated → List ℕ → List ℕ → List ℕ → Type 0
-ReservesPort l ss ps t p x r l′ ss′ ps′ = Reserves (PortFits ss ps x) l t (reservePort (wiresOf ss ps) p x) r (wiresOf ss′ ps′) l′
+ReservesPort l wires places t p x r l′ wires′ places′ = Reserves (PortFits wires places x) l t (reservePort (wiresOf wires places) p x) r (wiresOf wires′ places′) l′
 
 abbrev pub ReservesPorts : List ℕ → List ℕ → List ℕ → Tapes → List ℕ → ℕ → ℕ → Stated → List ℕ → List ℕ → List ℕ → Type 0
-ReservesPorts l ss ps t words at n r l′ ss′ ps′ = Reserves (PortsFit ss ps words at n) l t (reservePorts (wiresOf ss ps) 0 (portsAt words at n)) r (wiresOf ss′ ps′) l′
+ReservesPorts l wires places t words at n r l′ wires′ places′ = Reserves (PortsFit wires places words at n) l t (reservePorts (wiresOf wires places) 0 (portsAt words at n)) r (wiresOf wires′ places′) l′
 
 -- the cell of a kind
 abbrev pub ofKind : List ℕ → ℕ → ℕ → Cell
@@ -85,4 +85,4 @@ ofKind words at kind = getD (kindsAt words at) kind (pllAt words at)
 
 -- one of a late kind
 abbrev pub ReservesLate : List ℕ → List ℕ → List ℕ → Tapes → ℕ → List ℕ → ℕ → ℕ → Stated → List ℕ → List ℕ → List ℕ → Type 0
-ReservesLate l ss ps t owner words at kind r l′ ss′ ps′ = 5 ≤ kind → ReservesCell l ss ps t owner (ofKind words at kind) r l′ ss′ ps′
+ReservesLate l wires places t owner words at kind r l′ wires′ places′ = 5 ≤ kind → ReservesCell l wires places t owner (ofKind words at kind) r l′ wires′ places′

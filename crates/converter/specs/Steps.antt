@@ -41,28 +41,28 @@ pub record Checked (limits : Limits) (words : List ℕ) (l : Layout) : Type 0 wh
   pub few : l .cells ≤ 16384
 
 -- tables that have the wires, and no wire yet
-pub record Unmapped (ss ps : List ℕ) : Type 0 where
-  pub signals : 16384 ≤ length ss
-  pub places : 16384 ≤ length ps
-  pub none-yet : wiresOf ss ps ≡ noWires
+pub record Unmapped (wires places : List ℕ) : Type 0 where
+  pub wires-long : 16384 ≤ length wires
+  pub places-long : 16384 ≤ length places
+  pub none-yet : wiresOf wires places ≡ noWires
 
 -- the bank of each cell was noted
 abbrev pub Noted : List ℕ → Layout → List ℕ → ℕ → Type 0
 Noted words l banks count = Collected words (l .start) (l .cells) count banks
 
 -- the list of signals, the tables, what was noted; the answer, the list and the tables at exit
-pub record ReservesNetlist (sigs ss ps words : List ℕ) (l : Layout) (banks : List ℕ) (count : ℕ) (r : r.Stated) (sigs′ ss′ ps′ : List ℕ) : Type 0 where
-  pub so : (limits : Limits) → Checked limits words l → Unmapped ss ps → Noted words l banks count → WroteSignals sigs start (reserveNetlist (netlistBy words l)) (mapped r (wiresOf ss′ ps′)) sigs′
+pub record ReservesNetlist (signals wires places words : List ℕ) (l : Layout) (banks : List ℕ) (count : ℕ) (r : r.Stated) (signals′ wires′ places′ : List ℕ) : Type 0 where
+  pub so : (limits : Limits) → Checked limits words l → Unmapped wires places → Noted words l banks count → WroteSignals signals start (reserveNetlist (netlistBy words l)) (mapped r (wiresOf wires′ places′)) signals′
 
 -- banks and outputs
 abbrev pub emitRest : Wires → Constants → Netlist → Writer (Unit {0})
 emitRest m z n = emitBanks m z (collectFlipFlopBanks (n .cells)) >> emitOutputs m 0 (n .ports)
 
-pub record EmitsRest (e s parts ss ps : List ℕ) (t : Tapes) (z : Constants) (words : List ℕ) (l : Layout) (banks : List ℕ) (count : ℕ) (r : r.Stated) (e′ s′ : List ℕ) : Type 0 where
-  pub so : (limits : Limits) → Checked limits words l → Noted words l banks count → 16384 ≤ length parts → (sigs : List ℕ) → Wrote (lists sigs e s) t (emitRest (wiresOf ss ps) z (netlistBy words l)) (stated r) (lists sigs e′ s′)
+pub record EmitsRest (e s parts wires places : List ℕ) (t : Tapes) (z : Constants) (words : List ℕ) (l : Layout) (banks : List ℕ) (count : ℕ) (r : r.Stated) (e′ s′ : List ℕ) : Type 0 where
+  pub so : (limits : Limits) → Checked limits words l → Noted words l banks count → 16384 ≤ length parts → (signals : List ℕ) → Wrote (lists signals e s) t (emitRest (wiresOf wires places) z (netlistBy words l)) (stated r) (lists signals e′ s′)
 
-pub record EmitsNetlist (l₀ : Lists) (parts values ss ps : List ℕ) (t : Tapes) (words : List ℕ) (l : Layout) (banks : List ℕ) (count : ℕ) (r : r.Stated) (l₁ : Lists) : Type 0 where
-  pub so : (limits : Limits) → Checked limits words l → Noted words l banks count → 16384 ≤ length parts → 16384 ≤ length values → Wrote l₀ t (emitNetlist (netlistBy words l) (wiresOf ss ps)) (stated r) l₁
+pub record EmitsNetlist (l₀ : Lists) (parts values wires places : List ℕ) (t : Tapes) (words : List ℕ) (l : Layout) (banks : List ℕ) (count : ℕ) (r : r.Stated) (l₁ : Lists) : Type 0 where
+  pub so : (limits : Limits) → Checked limits words l → Noted words l banks count → 16384 ≤ length parts → 16384 ≤ length values → Wrote l₀ t (emitNetlist (netlistBy words l) (wiresOf wires places)) (stated r) l₁
 
 -- works for the parts of records, for values and for the banks' numbers
 pub record Roomy (parts values banks : List ℕ) : Type 0 where
@@ -70,8 +70,8 @@ pub record Roomy (parts values banks : List ℕ) : Type 0 where
   pub values-long : 16384 ≤ length values
   pub banks-long : 16384 ≤ length banks
 
-pub record RecordsNetlist (l₀ : Lists) (ss ps parts values banks words : List ℕ) (l : Layout) (r : r.Stated) (l₁ : Lists) : Type 0 where
-  pub so : (limits : Limits) → Checked limits words l → Unmapped ss ps → Roomy parts values banks → Wrote l₀ start (lowerNetlist (netlistBy words l)) (stated r) l₁
+pub record RecordsNetlist (l₀ : Lists) (wires places parts values banks words : List ℕ) (l : Layout) (r : r.Stated) (l₁ : Lists) : Type 0 where
+  pub so : (limits : Limits) → Checked limits words l → Unmapped wires places → Roomy parts values banks → Wrote l₀ start (lowerNetlist (netlistBy words l)) (stated r) l₁
 
 -- a refusal handed on
 abbrev pub unstartedOf : s.Started → r.Stated

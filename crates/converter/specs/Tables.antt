@@ -31,16 +31,16 @@ mapped (S.Refused x) m = Failed (numberOf x) (placeOf x)
 
 -- the tables have the wire
 abbrev pub Tabled : List ℕ → List ℕ → ℕ → Type 0
-Tabled ss ps w = (w < length ss) × (w < length ps)
+Tabled wires places w = (w < length wires) × (w < length places)
 
 abbrev pub TabledBit : List ℕ → List ℕ → Bit → Type 0
-TabledBit ss ps Zero = Unit {0}
-TabledBit ss ps One = Unit {0}
-TabledBit ss ps (Wire w) = Tabled ss ps w
+TabledBit wires places Zero = Unit {0}
+TabledBit wires places One = Unit {0}
+TabledBit wires places (Wire w) = Tabled wires places w
 
 abbrev pub TabledBits : List ℕ → List ℕ → List Bit → Type 0
-TabledBits ss ps [] = Unit {0}
-TabledBits ss ps (b ∷ bs) = TabledBit ss ps b × TabledBits ss ps bs
+TabledBits wires places [] = Unit {0}
+TabledBits wires places (b ∷ bs) = TabledBit wires places b × TabledBits wires places bs
 
 -- and its entry can be written
 pub record Small (s lsb width : ℕ) : Type 0 where
@@ -49,10 +49,10 @@ pub record Small (s lsb width : ℕ) : Type 0 where
   pub narrow : width < 65536
 
 abbrev pub Inserts : List ℕ → List ℕ → ℕ → ℕ → ℕ → ℕ → Inserted → List ℕ → List ℕ → Type 0
-Inserts ss ps w s lsb width r ss′ ps′ = Tabled ss ps w → Small s lsb width → insertWire (wiresOf ss ps) (Wire w) (record { signal = s; lsb = lsb; width = width }) ≡ quiet r (wiresOf ss′ ps′)
+Inserts wires places w s lsb width r wires′ places′ = Tabled wires places w → Small s lsb width → insertWire (wiresOf wires places) (Wire w) (record { signal = s; lsb = lsb; width = width }) ≡ quiet r (wiresOf wires′ places′)
 
 abbrev pub InsertsBit : List ℕ → List ℕ → Bit → ℕ → ℕ → ℕ → Inserted → List ℕ → List ℕ → Type 0
-InsertsBit ss ps b s lsb width r ss′ ps′ = TabledBit ss ps b → Small s lsb width → insertWire (wiresOf ss ps) b (record { signal = s; lsb = lsb; width = width }) ≡ quiet r (wiresOf ss′ ps′)
+InsertsBit wires places b s lsb width r wires′ places′ = TabledBit wires places b → Small s lsb width → insertWire (wiresOf wires places) b (record { signal = s; lsb = lsb; width = width }) ≡ quiet r (wiresOf wires′ places′)
 
 -- the words hold bit words (0) or wires
 abbrev pub heldBit : List ℕ → ℕ → ℕ → Bit
@@ -63,10 +63,10 @@ abbrev pub heldBits : List ℕ → ℕ → ℕ → ℕ → List Bit
 heldBits words kind at n = recordsAt (heldBit words kind) after n at
 
 abbrev pub InsertsBits : List ℕ → List ℕ → List Bit → ℕ → ℕ → Inserted → List ℕ → List ℕ → Type 0
-InsertsBits ss ps bits s n r ss′ ps′ = TabledBits ss ps bits → s < 4294967295 → n < 65536 → insertBits (wiresOf ss ps) s n 0 bits ≡ quiet r (wiresOf ss′ ps′)
+InsertsBits wires places bits s n r wires′ places′ = TabledBits wires places bits → s < 4294967295 → n < 65536 → insertBits (wiresOf wires places) s n 0 bits ≡ quiet r (wiresOf wires′ places′)
 
 abbrev pub ReservesScalar : List ℕ → List ℕ → List ℕ → Tapes → ℕ → ℕ → ℕ → Stated → List ℕ → List ℕ → List ℕ → Type 0
-ReservesScalar l ss ps t label owner w r l′ ss′ ps′ = Tabled ss ps w → WroteSignals l t (reserveScalar (wiresOf ss ps) label owner w) (mapped r (wiresOf ss′ ps′)) l′
+ReservesScalar l wires places t label owner w r l′ wires′ places′ = Tabled wires places w → WroteSignals l t (reserveScalar (wiresOf wires places) label owner w) (mapped r (wiresOf wires′ places′)) l′
 
 -- refusals handed on
 abbrev pub undeclaredOf : Declared → Stated

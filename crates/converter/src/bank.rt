@@ -19,49 +19,49 @@ ghost use Rattle.converter.specs.Reserved.{InsertsWires, ReservesBank, R
 
 // A signal holds the outputs of a bank's members, the first in its lowest bit.
 fn insert_members(
-    signals: &mut [u32],
+    wires: &mut [u32],
     places: &mut [u32],
     words: &[u32],
-    bank_of: &[u32],
+    banks: &[u32],
     scan: Scan,
     signal: SignalId,
     width: u32,
 ) -> Inserted
-    ensures { λ r. ⌜ InsertsWires (now (signals .entry)) (now (places .entry)) (outputsOf (membersIn (now (words .entry)) (now («bank_of» .entry)) scan)) (signal .0) width r (now (signals .exit)) (now (places .exit)) ⌝ }
+    ensures { λ r. ⌜ InsertsWires (now (wires .entry)) (now (places .entry)) (outputsOf (membersIn (now (words .entry)) (now (banks .entry)) scan)) (signal .0) width r (now (wires .exit)) (now (places .exit)) ⌝ }
 {
     let mut lsb = 0;
-    let mut c = first_member(words, bank_of, scan);
+    let mut c = first_member(words, banks, scan);
     while c.cell < scan.n {
         let wire = field(words, c.place, 2);
-        let r = insert_wire(signals, places, wire, signal, lsb, width);
+        let r = insert_wire(wires, places, wire, signal, lsb, width);
         let Inserted::Done = r else {
             return r;
         };
         lsb += 1;
-        c = next_member(words, bank_of, scan, c);
+        c = next_member(words, banks, scan, c);
     }
     Inserted::Done
 }
 
 // The signal of one bank.
 fn reserve_flip_flop_bank(
-    list: &mut [u32],
     signals: &mut [u32],
+    wires: &mut [u32],
     places: &mut [u32],
     t: Tapes,
     words: &[u32],
-    bank_of: &[u32],
+    banks: &[u32],
     scan: Scan,
     owner: u32,
 ) -> Stated
-    ensures { λ r. ⌜ ReservesBank (now (list .entry)) (now (signals .entry)) (now (places .entry)) t (now (words .entry)) (now («bank_of» .entry)) scan owner r (now (list .exit)) (now (signals .exit)) (now (places .exit)) ⌝ }
+    ensures { λ r. ⌜ ReservesBank (now (signals .entry)) (now (wires .entry)) (now (places .entry)) t (now (words .entry)) (now (banks .entry)) scan owner r (now (signals .exit)) (now (wires .exit)) (now (places .exit)) ⌝ }
 {
-    let width = count_members(words, bank_of, scan);
-    let d = builder::signal(list, t, 7, width, owner);
+    let width = count_members(words, banks, scan);
+    let d = builder::signal(signals, t, 7, width, owner);
     let Declared::Done(s, next) = d else {
         return undeclared(d);
     };
-    let r = insert_members(signals, places, words, bank_of, scan, s, width);
+    let r = insert_members(wires, places, words, banks, scan, s, width);
     let Inserted::Done = r else {
         return not_inserted(r);
     };
@@ -70,17 +70,17 @@ fn reserve_flip_flop_bank(
 
 // The signals of all banks of n cells that stand from an index on.
 pub fn reserve_flip_flop_banks(
-    list: &mut [u32],
     signals: &mut [u32],
+    wires: &mut [u32],
     places: &mut [u32],
     t: Tapes,
     words: &[u32],
     at: usize,
     n: u32,
-    bank_of: &[u32],
+    banks: &[u32],
     count: u32,
 ) -> Stated
-    ensures { λ r. ⌜ ReservesBanks (now (list .entry)) (now (signals .entry)) (now (places .entry)) t (now (words .entry)) at n (now («bank_of» .entry)) count r (now (list .exit)) (now (signals .exit)) (now (places .exit)) ⌝ }
+    ensures { λ r. ⌜ ReservesBanks (now (signals .entry)) (now (wires .entry)) (now (places .entry)) t (now (words .entry)) at n (now (banks .entry)) count r (now (signals .exit)) (now (wires .exit)) (now (places .exit)) ⌝ }
 {
     let mut now = t;
     let mut b = 0;
@@ -90,7 +90,7 @@ pub fn reserve_flip_flop_banks(
             n,
             number: b + 1,
         };
-        let r = reserve_flip_flop_bank(list, signals, places, now, words, bank_of, scan, b);
+        let r = reserve_flip_flop_bank(signals, wires, places, now, words, banks, scan, b);
         let Stated::Done(next) = r else {
             return r;
         };

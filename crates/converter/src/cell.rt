@@ -12,14 +12,14 @@ ghost use Rattle.wires.specs.Wires.{wiresOf};
 ghost use Rattle.recorder.specs.Lists.{lists};
 ghost use Rattle.converter.specs.Emits.{EmitsCell, EmitsCells};
 
-// The cell at an index; `owner` is its number. Both works, `parts` and `value`, have 16,384 words or more.
+// The cell at an index; `owner` is its number. Both works, `parts` and `values`, have 16,384 words or more.
 fn emit_cell(
-    sigs: &mut [u32],
+    signals: &mut [u32],
     exprs: &mut [u32],
     stmts: &mut [u32],
     parts: &mut [u32],
-    value: &mut [u32],
-    signals: &[u32],
+    values: &mut [u32],
+    wires: &[u32],
     places: &[u32],
     t: Tapes,
     constants: Constants,
@@ -27,17 +27,17 @@ fn emit_cell(
     words: &[u32],
     at: usize,
 ) -> Stated
-    ensures { λ r. ⌜ EmitsCell (lists (now (sigs .entry)) (now (exprs .entry)) (now (stmts .entry))) (now (parts .entry)) (now (value .entry)) t (wiresOf (now (signals .entry)) (now (places .entry))) constants owner (cellAt (now (words .entry)) at) r (lists (now (sigs .exit)) (now (exprs .exit)) (now (stmts .exit))) ⌝ }
+    ensures { λ r. ⌜ EmitsCell (lists (now (signals .entry)) (now (exprs .entry)) (now (stmts .entry))) (now (parts .entry)) (now (values .entry)) t (wiresOf (now (wires .entry)) (now (places .entry))) constants owner (cellAt (now (words .entry)) at) r (lists (now (signals .exit)) (now (exprs .exit)) (now (stmts .exit))) ⌝ }
 {
     let kind = field(words, at, 0);
     match kind {
         6 => emit_block_ram(
-            sigs,
+            signals,
             exprs,
             stmts,
             parts,
-            value,
-            signals,
+            values,
+            wires,
             places,
             t,
             constants,
@@ -46,11 +46,11 @@ fn emit_cell(
             at,
         ),
         7 => distributed_ram_cell(
-            sigs,
+            signals,
             exprs,
             stmts,
             parts,
-            signals,
+            wires,
             places,
             t,
             constants,
@@ -58,18 +58,18 @@ fn emit_cell(
             words,
             at,
         ),
-        _ => emit_small(exprs, stmts, parts, signals, places, t, words, at, kind),
+        _ => emit_small(exprs, stmts, parts, wires, places, t, words, at, kind),
     }
 }
 
 // The n cells from an index on, numbered from 0.
 pub fn emit_cells(
-    sigs: &mut [u32],
+    signals: &mut [u32],
     exprs: &mut [u32],
     stmts: &mut [u32],
     parts: &mut [u32],
-    value: &mut [u32],
-    signals: &[u32],
+    values: &mut [u32],
+    wires: &[u32],
     places: &[u32],
     t: Tapes,
     constants: Constants,
@@ -77,19 +77,19 @@ pub fn emit_cells(
     at: usize,
     n: u32,
 ) -> Stated
-    ensures { λ r. ⌜ EmitsCells (lists (now (sigs .entry)) (now (exprs .entry)) (now (stmts .entry))) (now (parts .entry)) (now (value .entry)) t (wiresOf (now (signals .entry)) (now (places .entry))) constants (now (words .entry)) at n r (lists (now (sigs .exit)) (now (exprs .exit)) (now (stmts .exit))) ⌝ }
+    ensures { λ r. ⌜ EmitsCells (lists (now (signals .entry)) (now (exprs .entry)) (now (stmts .entry))) (now (parts .entry)) (now (values .entry)) t (wiresOf (now (wires .entry)) (now (places .entry))) constants (now (words .entry)) at n r (lists (now (signals .exit)) (now (exprs .exit)) (now (stmts .exit))) ⌝ }
 {
     let mut now = t;
     let mut place = at;
     let mut i = 0;
     while i < n {
         let r = emit_cell(
-            sigs,
+            signals,
             exprs,
             stmts,
             parts,
-            value,
-            signals,
+            values,
+            wires,
             places,
             now,
             constants,

@@ -1,6 +1,7 @@
 // Flip-flops of one clock, edge and asynchronous reset control make a bank, whose signal has a bit for each, in cell order.
 //
 // A bank is not stored: a word for each cell has its bank's number, counted from 1. Its members are found by scanning the cells.
+// While banks are collected, their keys stand in two works: clocks and edges in `parts`, resets in `values`.
 use netlist::fields::cell_end;
 use netlist::fields::field;
 use netlist::fields::wide;
@@ -35,22 +36,22 @@ fn reset_key(words: &[u32], at: usize) -> u32
     key(field(words, at, 9), field(words, at, 10)) + 1
 }
 
-fn key_is(first: &[u32], second: &[u32], i: usize, a: u32, b: u32) -> bool
-    ensures { λ r. ⌜ r ≡ keyIs (now (first .entry)) (now (second .entry)) i a b ⌝ }
+fn key_is(parts: &[u32], values: &[u32], i: usize, a: u32, b: u32) -> bool
+    ensures { λ r. ⌜ r ≡ keyIs (now (parts .entry)) (now (values .entry)) i a b ⌝ }
 {
-    if word(first, i) != a {
+    if word(parts, i) != a {
         return false;
     }
-    word(second, i) == b
+    word(values, i) == b
 }
 
 // The first of the banks that has a key; their number if none has it.
-fn find_key(first: &[u32], second: &[u32], count: u32, a: u32, b: u32) -> u32
-    ensures { λ r. ⌜ r ≡ findKey (now (first .entry)) (now (second .entry)) a b count 0 ⌝ }
+fn find_key(parts: &[u32], values: &[u32], count: u32, a: u32, b: u32) -> u32
+    ensures { λ r. ⌜ r ≡ findKey (now (parts .entry)) (now (values .entry)) a b count 0 ⌝ }
 {
     let mut i = 0;
     while i < count {
-        if key_is(first, second, wide(i), a, b) {
+        if key_is(parts, values, wide(i), a, b) {
             return i;
         }
         i += 1;
@@ -68,23 +69,23 @@ fn store(list: &mut [u32], i: usize, value: u32)
 
 // The bank of the cell at an index, counted from 1, among those whose keys are noted; 0 for a cell that is no flip-flop.
 // A new bank's key is noted.
-fn join_bank(words: &[u32], at: usize, first: &mut [u32], second: &mut [u32], count: u32) -> u32
-    ensures { λ r. ⌜ Joins (now (words .entry)) at (now (first .entry)) (now (second .entry)) count r (now (first .exit)) (now (second .exit)) ⌝ }
+fn join_bank(words: &[u32], at: usize, parts: &mut [u32], values: &mut [u32], count: u32) -> u32
+    ensures { λ r. ⌜ Joins (now (words .entry)) at (now (parts .entry)) (now (values .entry)) count r (now (parts .exit)) (now (values .exit)) ⌝ }
 {
     if field(words, at, 0) != 5 {
         return 0;
     }
     let a = key(field(words, at, 3), field(words, at, 4));
     let b = reset_key(words, at);
-    let bank = find_key(first, second, count, a, b);
+    let bank = find_key(parts, values, count, a, b);
     if 4294967294 < bank {
         return 0;
     }
     if bank != count {
         return bank + 1;
     }
-    store(first, wide(count), a);
-    store(second, wide(count), b);
+    store(parts, wide(count), a);
+    store(values, wide(count), b);
     bank + 1
 }
 
@@ -99,18 +100,18 @@ pub fn collect_flip_flop_banks(
     words: &[u32],
     at: usize,
     n: u32,
-    bank_of: &mut [u32],
-    first: &mut [u32],
-    second: &mut [u32],
+    banks: &mut [u32],
+    parts: &mut [u32],
+    values: &mut [u32],
 ) -> u32
-    ensures { λ r. ⌜ Collects (now (words .entry)) at n (now («bank_of» .entry)) (now (first .entry)) (now (second .entry)) r (now («bank_of» .exit)) ⌝ }
+    ensures { λ r. ⌜ Collects (now (words .entry)) at n (now (banks .entry)) (now (parts .entry)) (now (values .entry)) r (now (banks .exit)) ⌝ }
 {
     let mut count = 0;
     let mut place = at;
     let mut i = 0;
     while i < n {
-        let bank = join_bank(words, place, first, second, count);
-        store(bank_of, wide(i), bank);
+        let bank = join_bank(words, place, parts, values, count);
+        store(banks, wide(i), bank);
         count = larger(count, bank);
         place = cell_end(words, place);
         i += 1;

@@ -16,11 +16,11 @@ pub enum Started {
     Refused(Refusal),
 }
 
-fn constant_signals(sigs: &mut [u32], t: Tapes) -> Started
-    ensures { λ r. ⌜ WroteSignals (now (sigs .entry)) t constantSignals (started r) (now (sigs .exit)) ⌝ }
+fn constant_signals(signals: &mut [u32], t: Tapes) -> Started
+    ensures { λ r. ⌜ WroteSignals (now (signals .entry)) t constantSignals (started r) (now (signals .exit)) ⌝ }
 {
-    match builder::signal(sigs, t, 14, 1, 0) {
-        Declared::Done(zero, next) => match builder::signal(sigs, next, 15, 1, 0) {
+    match builder::signal(signals, t, 14, 1, 0) {
+        Declared::Done(zero, next) => match builder::signal(signals, next, 15, 1, 0) {
             Declared::Done(one, last) => Started::Done(Constants { zero, one }, last),
             Declared::Refused(x) => Started::Refused(x),
         },
@@ -48,10 +48,15 @@ fn constant_values(exprs: &mut [u32], stmts: &mut [u32], t: Tapes, constants: Co
     }
 }
 
-pub fn emit_constants(sigs: &mut [u32], exprs: &mut [u32], stmts: &mut [u32], t: Tapes) -> Started
-    ensures { λ r. ⌜ Wrote (lists (now (sigs .entry)) (now (exprs .entry)) (now (stmts .entry))) t emitConstants (started r) (lists (now (sigs .exit)) (now (exprs .exit)) (now (stmts .exit))) ⌝ }
+pub fn emit_constants(
+    signals: &mut [u32],
+    exprs: &mut [u32],
+    stmts: &mut [u32],
+    t: Tapes,
+) -> Started
+    ensures { λ r. ⌜ Wrote (lists (now (signals .entry)) (now (exprs .entry)) (now (stmts .entry))) t emitConstants (started r) (lists (now (signals .exit)) (now (exprs .exit)) (now (stmts .exit))) ⌝ }
 {
-    let r = constant_signals(sigs, t);
+    let r = constant_signals(signals, t);
     let Started::Done(constants, next) = r else {
         return r;
     };

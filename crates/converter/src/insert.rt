@@ -22,18 +22,18 @@ fn out_of_range() -> Inserted {
 }
 
 pub fn insert_wire(
-    signals: &mut [u32],
+    wires: &mut [u32],
     places: &mut [u32],
     wire: u32,
     signal: SignalId,
     lsb: u32,
     width: u32,
 ) -> Inserted
-    ensures { λ r. ⌜ Inserts (now (signals .entry)) (now (places .entry)) wire (signal .0) lsb width r (now (signals .exit)) (now (places .exit)) ⌝ }
+    ensures { λ r. ⌜ Inserts (now (wires .entry)) (now (places .entry)) wire (signal .0) lsb width r (now (wires .exit)) (now (places .exit)) ⌝ }
 {
     let i = wide(wire);
     let s = signal.0;
-    if signals.len() <= i {
+    if wires.len() <= i {
         return out_of_range();
     }
     if places.len() <= i {
@@ -48,29 +48,29 @@ pub fn insert_wire(
     if 4294967295 <= s {
         return out_of_range();
     }
-    if signals[i] != 0 {
+    if wires[i] != 0 {
         return Inserted::Refused(Refusal::DuplicateWire(i));
     }
-    signals[i] = s + 1;
+    wires[i] = s + 1;
     places[i] = lsb * 65536 + width;
     Inserted::Done
 }
 
 // A constant is no wire.
 fn insert_bit(
-    signals: &mut [u32],
+    wires: &mut [u32],
     places: &mut [u32],
     bit: Bit,
     signal: SignalId,
     lsb: u32,
     width: u32,
 ) -> Inserted
-    ensures { λ r. ⌜ InsertsBit (now (signals .entry)) (now (places .entry)) bit (signal .0) lsb width r (now (signals .exit)) (now (places .exit)) ⌝ }
+    ensures { λ r. ⌜ InsertsBit (now (wires .entry)) (now (places .entry)) bit (signal .0) lsb width r (now (wires .exit)) (now (places .exit)) ⌝ }
 {
     match bit {
         Bit::Zero => Inserted::Done,
         Bit::One => Inserted::Done,
-        Bit::Wire(wire) => insert_wire(signals, places, wire, signal, lsb, width),
+        Bit::Wire(wire) => insert_wire(wires, places, wire, signal, lsb, width),
     }
 }
 
@@ -86,7 +86,7 @@ fn held_bit(words: &[u32], at: usize, i: usize, kind: u32) -> Bit
 
 // A signal holds n bits that stand from an index on, the lowest first.
 pub fn insert_bits(
-    signals: &mut [u32],
+    wires: &mut [u32],
     places: &mut [u32],
     words: &[u32],
     at: usize,
@@ -94,12 +94,12 @@ pub fn insert_bits(
     signal: SignalId,
     n: u32,
 ) -> Inserted
-    ensures { λ r. ⌜ InsertsBits (now (signals .entry)) (now (places .entry)) (heldBits (now (words .entry)) kind at n) (signal .0) n r (now (signals .exit)) (now (places .exit)) ⌝ }
+    ensures { λ r. ⌜ InsertsBits (now (wires .entry)) (now (places .entry)) (heldBits (now (words .entry)) kind at n) (signal .0) n r (now (wires .exit)) (now (places .exit)) ⌝ }
 {
     let mut i = 0;
     while i < n {
         let bit = held_bit(words, at, wide(i), kind);
-        let r = insert_bit(signals, places, bit, signal, i, n);
+        let r = insert_bit(wires, places, bit, signal, i, n);
         let Inserted::Done = r else {
             return r;
         };

@@ -32,86 +32,66 @@ fn truth_table(word: u32) -> u16
 fn lut4_cell(
     exprs: &mut [u32],
     stmts: &mut [u32],
-    signals: &[u32],
+    wires: &[u32],
     places: &[u32],
     t: Tapes,
     words: &[u32],
     at: usize,
 ) -> Stated
-    ensures { λ r. ⌜ EmitsKind (now (exprs .entry)) (now (stmts .entry)) t (wiresOf (now (signals .entry)) (now (places .entry))) (lut4At (now (words .entry)) at) r (now (exprs .exit)) (now (stmts .exit)) ⌝ }
+    ensures { λ r. ⌜ EmitsKind (now (exprs .entry)) (now (stmts .entry)) t (wiresOf (now (wires .entry)) (now (places .entry))) (lut4At (now (words .entry)) at) r (now (exprs .exit)) (now (stmts .exit)) ⌝ }
 {
     let inputs = bits4(words, at, 1);
     let output = field(words, at, 5);
     let init = truth_table(field(words, at, 6));
-    emit_lut4(exprs, stmts, signals, places, t, inputs, output, init)
+    emit_lut4(exprs, stmts, wires, places, t, inputs, output, init)
 }
 
 fn pfumx_cell(
     exprs: &mut [u32],
     stmts: &mut [u32],
-    signals: &[u32],
+    wires: &[u32],
     places: &[u32],
     t: Tapes,
     words: &[u32],
     at: usize,
 ) -> Stated
-    ensures { λ r. ⌜ EmitsKind (now (exprs .entry)) (now (stmts .entry)) t (wiresOf (now (signals .entry)) (now (places .entry))) (pfumxAt (now (words .entry)) at) r (now (exprs .exit)) (now (stmts .exit)) ⌝ }
+    ensures { λ r. ⌜ EmitsKind (now (exprs .entry)) (now (stmts .entry)) t (wiresOf (now (wires .entry)) (now (places .entry))) (pfumxAt (now (words .entry)) at) r (now (exprs .exit)) (now (stmts .exit)) ⌝ }
 {
     let f = pfumx_at(words, at);
     let high = f.lut_true;
     let low = f.lut_false;
     let select = f.select;
-    emit_pfumx(
-        exprs,
-        stmts,
-        signals,
-        places,
-        t,
-        high,
-        low,
-        select,
-        f.output,
-    )
+    emit_pfumx(exprs, stmts, wires, places, t, high, low, select, f.output)
 }
 
 fn l6mux21_cell(
     exprs: &mut [u32],
     stmts: &mut [u32],
-    signals: &[u32],
+    wires: &[u32],
     places: &[u32],
     t: Tapes,
     words: &[u32],
     at: usize,
 ) -> Stated
-    ensures { λ r. ⌜ EmitsKind (now (exprs .entry)) (now (stmts .entry)) t (wiresOf (now (signals .entry)) (now (places .entry))) (l6mux21At (now (words .entry)) at) r (now (exprs .exit)) (now (stmts .exit)) ⌝ }
+    ensures { λ r. ⌜ EmitsKind (now (exprs .entry)) (now (stmts .entry)) t (wiresOf (now (wires .entry)) (now (places .entry))) (l6mux21At (now (words .entry)) at) r (now (exprs .exit)) (now (stmts .exit)) ⌝ }
 {
     let f = l6mux21_at(words, at);
     let low = f.data_zero;
     let high = f.data_one;
     let select = f.select;
-    emit_l6mux21(
-        exprs,
-        stmts,
-        signals,
-        places,
-        t,
-        low,
-        high,
-        select,
-        f.output,
-    )
+    emit_l6mux21(exprs, stmts, wires, places, t, low, high, select, f.output)
 }
 
 fn ccu2c_cell(
     exprs: &mut [u32],
     stmts: &mut [u32],
-    signals: &[u32],
+    wires: &[u32],
     places: &[u32],
     t: Tapes,
     words: &[u32],
     at: usize,
 ) -> Stated
-    ensures { λ r. ⌜ EmitsKind (now (exprs .entry)) (now (stmts .entry)) t (wiresOf (now (signals .entry)) (now (places .entry))) (ccu2cAt (now (words .entry)) at) r (now (exprs .exit)) (now (stmts .exit)) ⌝ }
+    ensures { λ r. ⌜ EmitsKind (now (exprs .entry)) (now (stmts .entry)) t (wiresOf (now (wires .entry)) (now (places .entry))) (ccu2cAt (now (words .entry)) at) r (now (exprs .exit)) (now (stmts .exit)) ⌝ }
 {
     let inputs = ccu2c_inputs(words, at);
     let f = ccu2c_at(words, at);
@@ -124,7 +104,7 @@ fn ccu2c_cell(
     emit_ccu2c(
         exprs,
         stmts,
-        signals,
+        wires,
         places,
         t,
         inputs,
@@ -139,13 +119,13 @@ fn ccu2c_cell(
 fn io_cell(
     exprs: &mut [u32],
     stmts: &mut [u32],
-    signals: &[u32],
+    wires: &[u32],
     places: &[u32],
     t: Tapes,
     words: &[u32],
     at: usize,
 ) -> Stated
-    ensures { λ r. ⌜ EmitsKind (now (exprs .entry)) (now (stmts .entry)) t (wiresOf (now (signals .entry)) (now (places .entry))) (ioAt (now (words .entry)) at) r (now (exprs .exit)) (now (stmts .exit)) ⌝ }
+    ensures { λ r. ⌜ EmitsKind (now (exprs .entry)) (now (stmts .entry)) t (wiresOf (now (wires .entry)) (now (places .entry))) (ioAt (now (words .entry)) at) r (now (exprs .exit)) (now (stmts .exit)) ⌝ }
 {
     let f = io_at(words, at);
     let driven = f.fabric_output;
@@ -153,7 +133,7 @@ fn io_cell(
     emit_io(
         exprs,
         stmts,
-        signals,
+        wires,
         places,
         t,
         f.pad,
@@ -167,20 +147,20 @@ fn io_cell(
 fn emit_late(
     exprs: &mut [u32],
     stmts: &mut [u32],
-    signals: &[u32],
+    wires: &[u32],
     places: &[u32],
     t: Tapes,
     words: &[u32],
     at: usize,
     kind: u32,
 ) -> Stated
-    ensures { λ r. ⌜ EmitsLate (now (exprs .entry)) (now (stmts .entry)) t (wiresOf (now (signals .entry)) (now (places .entry))) (now (words .entry)) at kind r (now (exprs .exit)) (now (stmts .exit)) ⌝ }
+    ensures { λ r. ⌜ EmitsLate (now (exprs .entry)) (now (stmts .entry)) t (wiresOf (now (wires .entry)) (now (places .entry))) (now (words .entry)) at kind r (now (exprs .exit)) (now (stmts .exit)) ⌝ }
 {
     match kind {
         5 => Stated::Done(t),
-        8 => io_cell(exprs, stmts, signals, places, t, words, at),
-        9 => emit_idle_jtagg(stmts, signals, places, t, words, at),
-        _ => emit_cycle_pll(exprs, stmts, signals, places, t, words, at),
+        8 => io_cell(exprs, stmts, wires, places, t, words, at),
+        9 => emit_idle_jtagg(stmts, wires, places, t, words, at),
+        _ => emit_cycle_pll(exprs, stmts, wires, places, t, words, at),
     }
 }
 
@@ -189,21 +169,21 @@ pub fn emit_small(
     exprs: &mut [u32],
     stmts: &mut [u32],
     parts: &mut [u32],
-    signals: &[u32],
+    wires: &[u32],
     places: &[u32],
     t: Tapes,
     words: &[u32],
     at: usize,
     kind: u32,
 ) -> Stated
-    ensures { λ r. ⌜ EmitsSmall (now (exprs .entry)) (now (stmts .entry)) (now (parts .entry)) t (wiresOf (now (signals .entry)) (now (places .entry))) (now (words .entry)) at kind r (now (exprs .exit)) (now (stmts .exit)) ⌝ }
+    ensures { λ r. ⌜ EmitsSmall (now (exprs .entry)) (now (stmts .entry)) (now (parts .entry)) t (wiresOf (now (wires .entry)) (now (places .entry))) (now (words .entry)) at kind r (now (exprs .exit)) (now (stmts .exit)) ⌝ }
 {
     match kind {
-        0 => lut4_cell(exprs, stmts, signals, places, t, words, at),
-        1 => pfumx_cell(exprs, stmts, signals, places, t, words, at),
-        2 => l6mux21_cell(exprs, stmts, signals, places, t, words, at),
-        3 => ccu2c_cell(exprs, stmts, signals, places, t, words, at),
-        4 => emit_multiplier(exprs, stmts, parts, signals, places, t, words, at),
-        _ => emit_late(exprs, stmts, signals, places, t, words, at, kind),
+        0 => lut4_cell(exprs, stmts, wires, places, t, words, at),
+        1 => pfumx_cell(exprs, stmts, wires, places, t, words, at),
+        2 => l6mux21_cell(exprs, stmts, wires, places, t, words, at),
+        3 => ccu2c_cell(exprs, stmts, wires, places, t, words, at),
+        4 => emit_multiplier(exprs, stmts, parts, wires, places, t, words, at),
+        _ => emit_late(exprs, stmts, wires, places, t, words, at, kind),
     }
 }

@@ -20,13 +20,13 @@ pub struct Cursor {
 }
 
 // The first member from a cell on; none is left where it is past the last cell.
-fn find_member(words: &[u32], bank_of: &[u32], scan: Scan, from: Cursor) -> Cursor
-    ensures { λ r. ⌜ Finds (now (words .entry)) (now («bank_of» .entry)) scan from r ⌝ }
+fn find_member(words: &[u32], banks: &[u32], scan: Scan, from: Cursor) -> Cursor
+    ensures { λ r. ⌜ Finds (now (words .entry)) (now (banks .entry)) scan from r ⌝ }
 {
     let mut i = from.cell;
     let mut place = from.place;
     while i < scan.n {
-        if word(bank_of, wide(i)) == scan.number {
+        if word(banks, wide(i)) == scan.number {
             return Cursor { cell: i, place };
         }
         place = cell_end(words, place);
@@ -35,15 +35,15 @@ fn find_member(words: &[u32], bank_of: &[u32], scan: Scan, from: Cursor) -> Curs
     Cursor { cell: i, place }
 }
 
-pub fn first_member(words: &[u32], bank_of: &[u32], scan: Scan) -> Cursor
-    ensures { λ r. ⌜ Starts (now (words .entry)) (now («bank_of» .entry)) scan r ⌝ }
+pub fn first_member(words: &[u32], banks: &[u32], scan: Scan) -> Cursor
+    ensures { λ r. ⌜ Starts (now (words .entry)) (now (banks .entry)) scan r ⌝ }
 {
     let at = scan.at;
-    find_member(words, bank_of, scan, Cursor { cell: 0, place: at })
+    find_member(words, banks, scan, Cursor { cell: 0, place: at })
 }
 
-pub fn next_member(words: &[u32], bank_of: &[u32], scan: Scan, c: Cursor) -> Cursor
-    ensures { λ r. ⌜ Goes (now (words .entry)) (now («bank_of» .entry)) scan c r ⌝ }
+pub fn next_member(words: &[u32], banks: &[u32], scan: Scan, c: Cursor) -> Cursor
+    ensures { λ r. ⌜ Goes (now (words .entry)) (now (banks .entry)) scan c r ⌝ }
 {
     if scan.n <= c.cell {
         return c;
@@ -51,7 +51,7 @@ pub fn next_member(words: &[u32], bank_of: &[u32], scan: Scan, c: Cursor) -> Cur
     let place = cell_end(words, c.place);
     find_member(
         words,
-        bank_of,
+        banks,
         scan,
         Cursor {
             cell: c.cell + 1,
@@ -60,14 +60,14 @@ pub fn next_member(words: &[u32], bank_of: &[u32], scan: Scan, c: Cursor) -> Cur
     )
 }
 
-pub fn count_members(words: &[u32], bank_of: &[u32], scan: Scan) -> u32
-    ensures { λ r. ⌜ r ≡ length (membersIn (now (words .entry)) (now («bank_of» .entry)) scan) ⌝ }
+pub fn count_members(words: &[u32], banks: &[u32], scan: Scan) -> u32
+    ensures { λ r. ⌜ r ≡ length (membersIn (now (words .entry)) (now (banks .entry)) scan) ⌝ }
 {
     let mut k = 0;
-    let mut c = first_member(words, bank_of, scan);
+    let mut c = first_member(words, banks, scan);
     while c.cell < scan.n {
         k += 1;
-        c = next_member(words, bank_of, scan, c);
+        c = next_member(words, banks, scan, c);
     }
     k
 }

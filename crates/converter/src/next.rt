@@ -33,23 +33,23 @@ ghost use Rattle.converter.specs.BankEmits.{nextValue};
 
 fn with_enable(
     exprs: &mut [u32],
-    signals: &[u32],
+    wires: &[u32],
     places: &[u32],
     t: Tapes,
     output: u32,
     enable: OptionalControl,
     next: ExprId,
 ) -> Emitted
-    ensures { λ r. ⌜ WroteExprs (now (exprs .entry)) t (withEnable (wiresOf (now (signals .entry)) (now (places .entry))) output (presence enable) (next .0)) (emitted r) (now (exprs .exit)) ⌝ }
+    ensures { λ r. ⌜ WroteExprs (now (exprs .entry)) t (withEnable (wiresOf (now (wires .entry)) (now (places .entry))) output (presence enable) (next .0)) (emitted r) (now (exprs .exit)) ⌝ }
 {
     let OptionalControl::Present(control) = enable else {
         return Emitted::Done(next, t);
     };
-    let r = bit_expression(exprs, signals, places, t, Bit::Wire(output));
+    let r = bit_expression(exprs, wires, places, t, Bit::Wire(output));
     let Emitted::Done(q, after_held) = r else {
         return r;
     };
-    let r2 = asserted_expression(exprs, signals, places, after_held, control);
+    let r2 = asserted_expression(exprs, wires, places, after_held, control);
     let Emitted::Done(y, after_enable) = r2 else {
         return r2;
     };
@@ -71,13 +71,13 @@ fn reset_bit(reset: OptionalReset) -> ExprId
 
 fn with_reset(
     exprs: &mut [u32],
-    signals: &[u32],
+    wires: &[u32],
     places: &[u32],
     t: Tapes,
     reset: OptionalReset,
     next: ExprId,
 ) -> Emitted
-    ensures { λ r. ⌜ WroteExprs (now (exprs .entry)) t (withReset (wiresOf (now (signals .entry)) (now (places .entry))) (resetPresence reset) (next .0)) (emitted r) (now (exprs .exit)) ⌝ }
+    ensures { λ r. ⌜ WroteExprs (now (exprs .entry)) t (withReset (wiresOf (now (wires .entry)) (now (places .entry))) (resetPresence reset) (next .0)) (emitted r) (now (exprs .exit)) ⌝ }
 {
     let OptionalReset::Present(r) = reset else {
         return Emitted::Done(next, t);
@@ -91,7 +91,7 @@ fn with_reset(
         signal: bit,
         active,
     };
-    let e = asserted_expression(exprs, signals, places, t, control);
+    let e = asserted_expression(exprs, wires, places, t, control);
     let Emitted::Done(y, after_reset) = e else {
         return e;
     };
@@ -101,70 +101,70 @@ fn with_reset(
 // The next bit of the flip-flop at an index.
 fn next_bit(
     exprs: &mut [u32],
-    signals: &[u32],
+    wires: &[u32],
     places: &[u32],
     t: Tapes,
     words: &[u32],
     at: usize,
 ) -> Emitted
-    ensures { λ r. ⌜ WroteExprs (now (exprs .entry)) t (nextBit (wiresOf (now (signals .entry)) (now (places .entry))) (flopAt (now (words .entry)) at)) (emitted r) (now (exprs .exit)) ⌝ }
+    ensures { λ r. ⌜ WroteExprs (now (exprs .entry)) t (nextBit (wiresOf (now (wires .entry)) (now (places .entry))) (flopAt (now (words .entry)) at)) (emitted r) (now (exprs .exit)) ⌝ }
 {
-    let r = bit_expression(exprs, signals, places, t, bit_at(words, at, 1));
+    let r = bit_expression(exprs, wires, places, t, bit_at(words, at, 1));
     let Emitted::Done(d, after_input) = r else {
         return r;
     };
     let output = field(words, at, 2);
     let enable = optional_control(words, at, 5);
-    let r2 = with_enable(exprs, signals, places, after_input, output, enable, d);
+    let r2 = with_enable(exprs, wires, places, after_input, output, enable, d);
     let Emitted::Done(e, after_enable) = r2 else {
         return r2;
     };
     let reset = optional_reset(words, at, 8);
-    with_reset(exprs, signals, places, after_enable, reset, e)
+    with_reset(exprs, wires, places, after_enable, reset, e)
 }
 
 // The next value of a bank's members, `width` of them: the first is read first, and stands last.
 pub fn next_value(
     exprs: &mut [u32],
     parts: &mut [u32],
-    signals: &[u32],
+    wires: &[u32],
     places: &[u32],
     t: Tapes,
     words: &[u32],
-    bank_of: &[u32],
+    banks: &[u32],
     scan: Scan,
     width: u32,
 ) -> Emitted
-    requires { ⌜ (width ≤ length (now parts)) × (width ≡ length (membersIn (now words) (now «bank_of») scan)) ⌝ }
-    ensures { λ r. ⌜ WroteExprs (now (exprs .entry)) t (nextValue (wiresOf (now (signals .entry)) (now (places .entry))) (membersIn (now (words .entry)) (now («bank_of» .entry)) scan)) (emitted r) (now (exprs .exit)) ⌝ }
+    requires { ⌜ (width ≤ length (now parts)) × (width ≡ length (membersIn (now words) (now banks) scan)) ⌝ }
+    ensures { λ r. ⌜ WroteExprs (now (exprs .entry)) t (nextValue (wiresOf (now (wires .entry)) (now (places .entry))) (membersIn (now (words .entry)) (now (banks .entry)) scan)) (emitted r) (now (exprs .exit)) ⌝ }
 {
     let mut now = t;
     let mut left = wide(width);
-    let mut c = first_member(words, bank_of, scan);
+    let mut c = first_member(words, banks, scan);
     while c.cell < scan.n {
         left -= 1;
-        let r = next_bit(exprs, signals, places, now, words, c.place);
+        let r = next_bit(exprs, wires, places, now, words, c.place);
         let Emitted::Done(e, next) = r else {
             return r;
         };
         parts[left] = e.0;
         now = next;
-        c = next_member(words, bank_of, scan, c);
+        c = next_member(words, banks, scan, c);
     }
     concat_parts(exprs, now, parts, width)
 }
 
 // The constants that a reset loads, in the same order.
-fn reset_bits(parts: &mut [u32], words: &[u32], bank_of: &[u32], scan: Scan, width: u32)
-    requires { ⌜ (width ≤ length (now parts)) × (width ≡ length (membersIn (now words) (now «bank_of») scan)) ⌝ }
-    ensures { λ _. ⌜ take width (now (parts .exit)) ≡ resetBits (membersIn (now (words .entry)) (now («bank_of» .entry)) scan) [] ⌝ }
+fn reset_bits(parts: &mut [u32], words: &[u32], banks: &[u32], scan: Scan, width: u32)
+    requires { ⌜ (width ≤ length (now parts)) × (width ≡ length (membersIn (now words) (now banks) scan)) ⌝ }
+    ensures { λ _. ⌜ take width (now (parts .exit)) ≡ resetBits (membersIn (now (words .entry)) (now (banks .entry)) scan) [] ⌝ }
 {
     let mut left = wide(width);
-    let mut c = first_member(words, bank_of, scan);
+    let mut c = first_member(words, banks, scan);
     while c.cell < scan.n {
         left -= 1;
         parts[left] = reset_bit(optional_reset(words, c.place, 8)).0;
-        c = next_member(words, bank_of, scan, c);
+        c = next_member(words, banks, scan, c);
     }
 }
 
@@ -174,13 +174,13 @@ pub fn reset_value(
     parts: &mut [u32],
     t: Tapes,
     words: &[u32],
-    bank_of: &[u32],
+    banks: &[u32],
     scan: Scan,
     width: u32,
 ) -> Emitted
-    requires { ⌜ (width ≤ length (now parts)) × (width ≡ length (membersIn (now words) (now «bank_of») scan)) ⌝ }
-    ensures { λ r. ⌜ WroteExprs (now (exprs .entry)) t (concatParts (resetBits (membersIn (now (words .entry)) (now («bank_of» .entry)) scan) [])) (emitted r) (now (exprs .exit)) ⌝ }
+    requires { ⌜ (width ≤ length (now parts)) × (width ≡ length (membersIn (now words) (now banks) scan)) ⌝ }
+    ensures { λ r. ⌜ WroteExprs (now (exprs .entry)) t (concatParts (resetBits (membersIn (now (words .entry)) (now (banks .entry)) scan) [])) (emitted r) (now (exprs .exit)) ⌝ }
 {
-    reset_bits(parts, words, bank_of, scan, width);
+    reset_bits(parts, words, banks, scan, width);
     concat_parts(exprs, t, parts, width)
 }

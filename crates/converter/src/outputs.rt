@@ -19,14 +19,14 @@ fn emit_output(
     exprs: &mut [u32],
     stmts: &mut [u32],
     parts: &mut [u32],
-    signals: &[u32],
+    wires: &[u32],
     places: &[u32],
     t: Tapes,
     p: u32,
     words: &[u32],
     at: usize,
 ) -> Stated
-    ensures { λ r. ⌜ EmitsPort (now (exprs .entry)) (now (stmts .entry)) (now (parts .entry)) t (wiresOf (now (signals .entry)) (now (places .entry))) p (portAt (now (words .entry)) at) r (now (exprs .exit)) (now (stmts .exit)) ⌝ }
+    ensures { λ r. ⌜ EmitsPort (now (exprs .entry)) (now (stmts .entry)) (now (parts .entry)) t (wiresOf (now (wires .entry)) (now (places .entry))) p (portAt (now (words .entry)) at) r (now (exprs .exit)) (now (stmts .exit)) ⌝ }
 {
     if field(words, at, 0) != 1 {
         return Stated::Done(t);
@@ -36,7 +36,7 @@ fn emit_output(
     let r = bits_expression(
         exprs,
         parts,
-        signals,
+        wires,
         places,
         t,
         words,
@@ -55,20 +55,20 @@ pub fn emit_outputs(
     exprs: &mut [u32],
     stmts: &mut [u32],
     parts: &mut [u32],
-    signals: &[u32],
+    wires: &[u32],
     places: &[u32],
     t: Tapes,
     words: &[u32],
     at: usize,
     n: u32,
 ) -> Stated
-    ensures { λ r. ⌜ EmitsPorts (now (exprs .entry)) (now (stmts .entry)) (now (parts .entry)) t (wiresOf (now (signals .entry)) (now (places .entry))) (now (words .entry)) at n r (now (exprs .exit)) (now (stmts .exit)) ⌝ }
+    ensures { λ r. ⌜ EmitsPorts (now (exprs .entry)) (now (stmts .entry)) (now (parts .entry)) t (wiresOf (now (wires .entry)) (now (places .entry))) (now (words .entry)) at n r (now (exprs .exit)) (now (stmts .exit)) ⌝ }
 {
     let mut now = t;
     let mut place = at;
     let mut i = 0;
     while i < n {
-        let r = emit_output(exprs, stmts, parts, signals, places, now, i, words, place);
+        let r = emit_output(exprs, stmts, parts, wires, places, now, i, words, place);
         let Stated::Done(next) = r else {
             return r;
         };

@@ -12,23 +12,23 @@ ghost use Rattle.converter.specs.Reserves.{ReservesPort, ReservesPorts};
 
 // The signal of a port, which has the port's number. An output has no wires of its own.
 fn reserve_port(
-    list: &mut [u32],
     signals: &mut [u32],
+    wires: &mut [u32],
     places: &mut [u32],
     t: Tapes,
     p: u32,
     words: &[u32],
     at: usize,
 ) -> Stated
-    ensures { λ r. ⌜ ReservesPort (now (list .entry)) (now (signals .entry)) (now (places .entry)) t p (portAt (now (words .entry)) at) r (now (list .exit)) (now (signals .exit)) (now (places .exit)) ⌝ }
+    ensures { λ r. ⌜ ReservesPort (now (signals .entry)) (now (wires .entry)) (now (places .entry)) t p (portAt (now (words .entry)) at) r (now (signals .exit)) (now (wires .exit)) (now (places .exit)) ⌝ }
 {
     let width = field(words, at, 1);
     if field(words, at, 0) == 1 {
-        return undeclared(builder::signal(list, t, 1, width, p));
+        return undeclared(builder::signal(signals, t, 1, width, p));
     }
     reserve_vector(
-        list,
         signals,
+        wires,
         places,
         t,
         0,
@@ -42,21 +42,21 @@ fn reserve_port(
 
 // The signals of the n ports from an index on.
 pub fn reserve_ports(
-    list: &mut [u32],
     signals: &mut [u32],
+    wires: &mut [u32],
     places: &mut [u32],
     t: Tapes,
     words: &[u32],
     at: usize,
     n: u32,
 ) -> Stated
-    ensures { λ r. ⌜ ReservesPorts (now (list .entry)) (now (signals .entry)) (now (places .entry)) t (now (words .entry)) at n r (now (list .exit)) (now (signals .exit)) (now (places .exit)) ⌝ }
+    ensures { λ r. ⌜ ReservesPorts (now (signals .entry)) (now (wires .entry)) (now (places .entry)) t (now (words .entry)) at n r (now (signals .exit)) (now (wires .exit)) (now (places .exit)) ⌝ }
 {
     let mut now = t;
     let mut place = at;
     let mut i = 0;
     while i < n {
-        let r = reserve_port(list, signals, places, now, i, words, place);
+        let r = reserve_port(signals, wires, places, now, i, words, place);
         let Stated::Done(next) = r else {
             return r;
         };

@@ -13,11 +13,11 @@ ghost use Rattle.converter.specs.Emits.{EmitsDistributed};
 
 // One with a second port is refused (10).
 pub fn distributed_ram_cell(
-    sigs: &mut [u32],
+    signals: &mut [u32],
     exprs: &mut [u32],
     stmts: &mut [u32],
     parts: &mut [u32],
-    signals: &[u32],
+    wires: &[u32],
     places: &[u32],
     t: Tapes,
     constants: Constants,
@@ -25,17 +25,17 @@ pub fn distributed_ram_cell(
     words: &[u32],
     at: usize,
 ) -> Stated
-    ensures { λ r. ⌜ EmitsDistributed (lists (now (sigs .entry)) (now (exprs .entry)) (now (stmts .entry))) (now (parts .entry)) t (wiresOf (now (signals .entry)) (now (places .entry))) constants owner (distributedRamAt (now (words .entry)) at) r (lists (now (sigs .exit)) (now (exprs .exit)) (now (stmts .exit))) ⌝ }
+    ensures { λ r. ⌜ EmitsDistributed (lists (now (signals .entry)) (now (exprs .entry)) (now (stmts .entry))) (now (parts .entry)) t (wiresOf (now (wires .entry)) (now (places .entry))) constants owner (distributedRamAt (now (words .entry)) at) r (lists (now (signals .exit)) (now (exprs .exit)) (now (stmts .exit))) ⌝ }
 {
     if field(words, at, 21) == 1 {
         return Stated::Refused(Refusal::UnsupportedTrueDualPortMemory(wide(owner)));
     }
     emit_distributed_ram(
-        sigs,
+        signals,
         exprs,
         stmts,
         parts,
-        signals,
+        wires,
         places,
         t,
         constants,

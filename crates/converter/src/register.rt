@@ -80,29 +80,29 @@ fn not_reset(r: Resetting) -> Stated
 fn bank_reset(
     exprs: &mut [u32],
     parts: &mut [u32],
-    signals: &[u32],
+    wires: &[u32],
     places: &[u32],
     t: Tapes,
     constants: Constants,
     words: &[u32],
-    bank_of: &[u32],
+    banks: &[u32],
     scan: Scan,
     width: u32,
     reset: OptionalReset,
 ) -> Resetting
-    requires { ⌜ (width ≤ length (now parts)) × (width ≡ length (membersIn (now words) (now «bank_of») scan)) ⌝ }
-    ensures { λ r. ⌜ WroteExprs (now (exprs .entry)) t (bankReset (wiresOf (now (signals .entry)) (now (places .entry))) constants (resetPresence reset) (membersIn (now (words .entry)) (now («bank_of» .entry)) scan)) (resetting r) (now (exprs .exit)) ⌝ }
+    requires { ⌜ (width ≤ length (now parts)) × (width ≡ length (membersIn (now words) (now banks) scan)) ⌝ }
+    ensures { λ r. ⌜ WroteExprs (now (exprs .entry)) t (bankReset (wiresOf (now (wires .entry)) (now (places .entry))) constants (resetPresence reset) (membersIn (now (words .entry)) (now (banks .entry)) scan)) (resetting r) (now (exprs .exit)) ⌝ }
 {
     let OptionalReset::Present(x) = reset else {
         return Resetting::Done(AsyncReset::Absent, t);
     };
     let bit = x.signal;
     let active = x.active;
-    let r = reset_value(exprs, parts, t, words, bank_of, scan, width);
+    let r = reset_value(exprs, parts, t, words, banks, scan, width);
     let Emitted::Done(value, next) = r else {
         return unvalued(r);
     };
-    match bit_signal(signals, places, constants, bit) {
+    match bit_signal(wires, places, constants, bit) {
         Controlled::Signal(s) => Resetting::Done(AsyncReset::Present(s, active, value), next),
         Controlled::Refused(y) => Resetting::Refused(y),
     }
@@ -111,7 +111,7 @@ fn bank_reset(
 // The register of a bank, by the clock and edge of its leader, which stands at an index.
 fn clock_bank(
     stmts: &mut [u32],
-    signals: &[u32],
+    wires: &[u32],
     places: &[u32],
     t: Tapes,
     constants: Constants,
@@ -121,10 +121,10 @@ fn clock_bank(
     next: ExprId,
     reset: AsyncReset,
 ) -> Stated
-    ensures { λ r. ⌜ WroteStmts (now (stmts .entry)) t (clockBank (wiresOf (now (signals .entry)) (now (places .entry))) constants (flopAt (now (words .entry)) at) (target .0) (next .0) (resetOf reset)) (stated r) (now (stmts .exit)) ⌝ }
+    ensures { λ r. ⌜ WroteStmts (now (stmts .entry)) t (clockBank (wiresOf (now (wires .entry)) (now (places .entry))) constants (flopAt (now (words .entry)) at) (target .0) (next .0) (resetOf reset)) (stated r) (now (stmts .exit)) ⌝ }
 {
     let edge = field(words, at, 4);
-    match bit_signal(signals, places, constants, bit_at(words, at, 3)) {
+    match bit_signal(wires, places, constants, bit_at(words, at, 3)) {
         Controlled::Signal(clock) => builder::register(
             stmts,
             t,
@@ -144,38 +144,28 @@ fn emit_flip_flop_bank(
     exprs: &mut [u32],
     stmts: &mut [u32],
     parts: &mut [u32],
-    signals: &[u32],
+    wires: &[u32],
     places: &[u32],
     t: Tapes,
     constants: Constants,
     words: &[u32],
-    bank_of: &[u32],
+    banks: &[u32],
     scan: Scan,
 ) -> Stated
-    ensures { λ r. ⌜ EmitsBank (now (exprs .entry)) (now (stmts .entry)) (now (parts .entry)) (now (signals .entry)) (now (places .entry)) t constants (membersIn (now (words .entry)) (now («bank_of» .entry)) scan) r (now (exprs .exit)) (now (stmts .exit)) ⌝ }
+    ensures { λ r. ⌜ EmitsBank (now (exprs .entry)) (now (stmts .entry)) (now (parts .entry)) (now (wires .entry)) (now (places .entry)) t constants (membersIn (now (words .entry)) (now (banks .entry)) scan) r (now (exprs .exit)) (now (stmts .exit)) ⌝ }
 {
-    let leader = first_member(words, bank_of, scan);
+    let leader = first_member(words, banks, scan);
     let at = leader.place;
-    let width = count_members(words, bank_of, scan);
+    let width = count_members(words, banks, scan);
     if parts.len() < wide(width) {
         return Stated::Refused(Refusal::BufferTooShort(wide(width)));
     }
     let output = field(words, at, 2);
-    let Found::At(target) = wire_ref(signals, places, output) else {
+    let Found::At(target) = wire_ref(wires, places, output) else {
         return Stated::Refused(Refusal::MissingWire(wide(output)));
     };
     let signal = target.signal;
-    let r = next_value(
-        exprs,
-        parts,
-        signals,
-        places,
-        t,
-        words,
-        bank_of,
-        scan,
-        width,
-    );
+    let r = next_value(exprs, parts, wires, places, t, words, banks, scan, width);
     let Emitted::Done(next, after_next) = r else {
         return stopped(r);
     };
@@ -183,12 +173,12 @@ fn emit_flip_flop_bank(
     let r2 = bank_reset(
         exprs,
         parts,
-        signals,
+        wires,
         places,
         after_next,
         constants,
         words,
-        bank_of,
+        banks,
         scan,
         width,
         reset,
@@ -198,7 +188,7 @@ fn emit_flip_flop_bank(
     };
     clock_bank(
         stmts,
-        signals,
+        wires,
         places,
         after_reset,
         constants,
@@ -215,17 +205,17 @@ pub fn emit_flip_flop_banks(
     exprs: &mut [u32],
     stmts: &mut [u32],
     parts: &mut [u32],
-    signals: &[u32],
+    wires: &[u32],
     places: &[u32],
     t: Tapes,
     constants: Constants,
     words: &[u32],
     at: usize,
     n: u32,
-    bank_of: &[u32],
+    banks: &[u32],
     count: u32,
 ) -> Stated
-    ensures { λ r. ⌜ EmitsBanks (now (exprs .entry)) (now (stmts .entry)) (now (parts .entry)) (now (signals .entry)) (now (places .entry)) t constants (now (words .entry)) at n (now («bank_of» .entry)) count r (now (exprs .exit)) (now (stmts .exit)) ⌝ }
+    ensures { λ r. ⌜ EmitsBanks (now (exprs .entry)) (now (stmts .entry)) (now (parts .entry)) (now (wires .entry)) (now (places .entry)) t constants (now (words .entry)) at n (now (banks .entry)) count r (now (exprs .exit)) (now (stmts .exit)) ⌝ }
 {
     if parts.len() < wide(n) {
         return Stated::Refused(Refusal::BufferTooShort(wide(n)));
@@ -242,12 +232,12 @@ pub fn emit_flip_flop_banks(
             exprs,
             stmts,
             parts,
-            signals,
+            wires,
             places,
             now,
             constants,
             words,
-            bank_of,
+            banks,
             scan,
         );
         let Stated::Done(next) = r else {

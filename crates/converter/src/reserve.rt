@@ -15,41 +15,41 @@ ghost use Rattle.converter.specs.Reserves.{ReservesCell, ReservesCells, 
 
 // The PLL's feedback, output and locked wires, then the further ones: one that is there already adds nothing.
 fn reserve_pll(
-    list: &mut [u32],
     signals: &mut [u32],
+    wires: &mut [u32],
     places: &mut [u32],
     t: Tapes,
     owner: u32,
     words: &[u32],
     at: usize,
 ) -> Stated
-    ensures { λ r. ⌜ ReservesCell (now (list .entry)) (now (signals .entry)) (now (places .entry)) t owner (pllAt (now (words .entry)) at) r (now (list .exit)) (now (signals .exit)) (now (places .exit)) ⌝ }
+    ensures { λ r. ⌜ ReservesCell (now (signals .entry)) (now (wires .entry)) (now (places .entry)) t owner (pllAt (now (words .entry)) at) r (now (signals .exit)) (now (wires .exit)) (now (places .exit)) ⌝ }
 {
     let first = ahead(words, at, 2);
-    let r = reserve_absent(list, signals, places, t, 12, owner, words, first, 3);
+    let r = reserve_absent(signals, wires, places, t, 12, owner, words, first, 3);
     let Stated::Done(next) = r else {
         return r;
     };
     let more = ahead(words, at, 6);
     let n = field(words, at, 5);
-    reserve_absent(list, signals, places, next, 12, owner, words, more, n)
+    reserve_absent(signals, wires, places, next, 12, owner, words, more, n)
 }
 
 // The read wires of each port of a block RAM.
 fn reserve_block_ram(
-    list: &mut [u32],
     signals: &mut [u32],
+    wires: &mut [u32],
     places: &mut [u32],
     t: Tapes,
     owner: u32,
     words: &[u32],
     at: usize,
 ) -> Stated
-    ensures { λ r. ⌜ ReservesCell (now (list .entry)) (now (signals .entry)) (now (places .entry)) t owner (blockRamAt (now (words .entry)) at) r (now (list .exit)) (now (signals .exit)) (now (places .exit)) ⌝ }
+    ensures { λ r. ⌜ ReservesCell (now (signals .entry)) (now (wires .entry)) (now (places .entry)) t owner (blockRamAt (now (words .entry)) at) r (now (signals .exit)) (now (wires .exit)) (now (places .exit)) ⌝ }
 {
     let width = field(words, at, 2);
     let first = ahead(words, at, 43 + wide(width));
-    let r = reserve_vector(list, signals, places, t, 8, owner, words, first, 1, width);
+    let r = reserve_vector(signals, wires, places, t, 8, owner, words, first, 1, width);
     let Stated::Done(next) = r else {
         return r;
     };
@@ -58,12 +58,23 @@ fn reserve_block_ram(
     }
     let second = second_start(words, at);
     let more = ahead(words, second, 24 + wide(width));
-    reserve_vector(list, signals, places, next, 8, owner, words, more, 1, width)
+    reserve_vector(
+        signals,
+        wires,
+        places,
+        next,
+        8,
+        owner,
+        words,
+        more,
+        1,
+        width,
+    )
 }
 
 fn reserve_late(
-    list: &mut [u32],
     signals: &mut [u32],
+    wires: &mut [u32],
     places: &mut [u32],
     t: Tapes,
     owner: u32,
@@ -71,14 +82,14 @@ fn reserve_late(
     at: usize,
     kind: u32,
 ) -> Stated
-    ensures { λ r. ⌜ ReservesLate (now (list .entry)) (now (signals .entry)) (now (places .entry)) t owner (now (words .entry)) at kind r (now (list .exit)) (now (signals .exit)) (now (places .exit)) ⌝ }
+    ensures { λ r. ⌜ ReservesLate (now (signals .entry)) (now (wires .entry)) (now (places .entry)) t owner (now (words .entry)) at kind r (now (signals .exit)) (now (wires .exit)) (now (places .exit)) ⌝ }
 {
     match kind {
         5 => Stated::Done(t),
-        6 => reserve_block_ram(list, signals, places, t, owner, words, at),
+        6 => reserve_block_ram(signals, wires, places, t, owner, words, at),
         7 => reserve_vector(
-            list,
             signals,
+            wires,
             places,
             t,
             9,
@@ -88,10 +99,10 @@ fn reserve_late(
             1,
             4,
         ),
-        8 => reserve_scalar(list, signals, places, t, 10, owner, field(words, at, 3)),
+        8 => reserve_scalar(signals, wires, places, t, 10, owner, field(words, at, 3)),
         9 => reserve_scalars(
-            list,
             signals,
+            wires,
             places,
             t,
             11,
@@ -100,30 +111,30 @@ fn reserve_late(
             ahead(words, at, 1),
             9,
         ),
-        _ => reserve_pll(list, signals, places, t, owner, words, at),
+        _ => reserve_pll(signals, wires, places, t, owner, words, at),
     }
 }
 
 // The signals that the outputs of a cell take. Those of flip-flops come by banks.
 fn reserve_cell_output(
-    list: &mut [u32],
     signals: &mut [u32],
+    wires: &mut [u32],
     places: &mut [u32],
     t: Tapes,
     owner: u32,
     words: &[u32],
     at: usize,
 ) -> Stated
-    ensures { λ r. ⌜ ReservesCell (now (list .entry)) (now (signals .entry)) (now (places .entry)) t owner (cellAt (now (words .entry)) at) r (now (list .exit)) (now (signals .exit)) (now (places .exit)) ⌝ }
+    ensures { λ r. ⌜ ReservesCell (now (signals .entry)) (now (wires .entry)) (now (places .entry)) t owner (cellAt (now (words .entry)) at) r (now (signals .exit)) (now (wires .exit)) (now (places .exit)) ⌝ }
 {
     let kind = field(words, at, 0);
     match kind {
-        0 => reserve_scalar(list, signals, places, t, 2, owner, field(words, at, 5)),
-        1 => reserve_scalar(list, signals, places, t, 3, owner, field(words, at, 4)),
-        2 => reserve_scalar(list, signals, places, t, 4, owner, field(words, at, 4)),
+        0 => reserve_scalar(signals, wires, places, t, 2, owner, field(words, at, 5)),
+        1 => reserve_scalar(signals, wires, places, t, 3, owner, field(words, at, 4)),
+        2 => reserve_scalar(signals, wires, places, t, 4, owner, field(words, at, 4)),
         3 => reserve_scalars(
-            list,
             signals,
+            wires,
             places,
             t,
             5,
@@ -133,8 +144,8 @@ fn reserve_cell_output(
             3,
         ),
         4 => reserve_vector(
-            list,
             signals,
+            wires,
             places,
             t,
             6,
@@ -144,27 +155,27 @@ fn reserve_cell_output(
             1,
             36,
         ),
-        _ => reserve_late(list, signals, places, t, owner, words, at, kind),
+        _ => reserve_late(signals, wires, places, t, owner, words, at, kind),
     }
 }
 
 // The signals of the n cells from an index on.
 pub fn reserve_cells(
-    list: &mut [u32],
     signals: &mut [u32],
+    wires: &mut [u32],
     places: &mut [u32],
     t: Tapes,
     words: &[u32],
     at: usize,
     n: u32,
 ) -> Stated
-    ensures { λ r. ⌜ ReservesCells (now (list .entry)) (now (signals .entry)) (now (places .entry)) t (now (words .entry)) at n r (now (list .exit)) (now (signals .exit)) (now (places .exit)) ⌝ }
+    ensures { λ r. ⌜ ReservesCells (now (signals .entry)) (now (wires .entry)) (now (places .entry)) t (now (words .entry)) at n r (now (signals .exit)) (now (wires .exit)) (now (places .exit)) ⌝ }
 {
     let mut now = t;
     let mut place = at;
     let mut i = 0;
     while i < n {
-        let r = reserve_cell_output(list, signals, places, now, i, words, place);
+        let r = reserve_cell_output(signals, wires, places, now, i, words, place);
         let Stated::Done(next) = r else {
             return r;
         };

@@ -27,21 +27,21 @@ pub fn undeclared(r: Declared) -> Stated
 
 // A signal of one bit for a wire.
 pub fn reserve_scalar(
-    list: &mut [u32],
     signals: &mut [u32],
+    wires: &mut [u32],
     places: &mut [u32],
     t: Tapes,
     label: u32,
     owner: u32,
     wire: u32,
 ) -> Stated
-    ensures { λ r. ⌜ ReservesScalar (now (list .entry)) (now (signals .entry)) (now (places .entry)) t label owner wire r (now (list .exit)) (now (signals .exit)) (now (places .exit)) ⌝ }
+    ensures { λ r. ⌜ ReservesScalar (now (signals .entry)) (now (wires .entry)) (now (places .entry)) t label owner wire r (now (signals .exit)) (now (wires .exit)) (now (places .exit)) ⌝ }
 {
-    let d = builder::signal(list, t, label, 1, owner);
+    let d = builder::signal(signals, t, label, 1, owner);
     let Declared::Done(s, next) = d else {
         return undeclared(d);
     };
-    let r = insert_wire(signals, places, wire, s, 0, 1);
+    let r = insert_wire(wires, places, wire, s, 0, 1);
     let Inserted::Done = r else {
         return not_inserted(r);
     };
@@ -50,8 +50,8 @@ pub fn reserve_scalar(
 
 // A signal of n bits, for the bit words (kind 0) or wires (1) that stand from an index on.
 pub fn reserve_vector(
-    list: &mut [u32],
     signals: &mut [u32],
+    wires: &mut [u32],
     places: &mut [u32],
     t: Tapes,
     label: u32,
@@ -61,13 +61,13 @@ pub fn reserve_vector(
     kind: u32,
     n: u32,
 ) -> Stated
-    ensures { λ r. ⌜ ReservesVector (now (list .entry)) (now (signals .entry)) (now (places .entry)) t label owner (heldBits (now (words .entry)) kind at n) n r (now (list .exit)) (now (signals .exit)) (now (places .exit)) ⌝ }
+    ensures { λ r. ⌜ ReservesVector (now (signals .entry)) (now (wires .entry)) (now (places .entry)) t label owner (heldBits (now (words .entry)) kind at n) n r (now (signals .exit)) (now (wires .exit)) (now (places .exit)) ⌝ }
 {
-    let d = builder::signal(list, t, label, n, owner);
+    let d = builder::signal(signals, t, label, n, owner);
     let Declared::Done(s, next) = d else {
         return undeclared(d);
     };
-    let r = insert_bits(signals, places, words, at, kind, s, n);
+    let r = insert_bits(wires, places, words, at, kind, s, n);
     let Inserted::Done = r else {
         return not_inserted(r);
     };
@@ -76,8 +76,8 @@ pub fn reserve_vector(
 
 // A signal for each of n wires that stand from an index on.
 pub fn reserve_scalars(
-    list: &mut [u32],
     signals: &mut [u32],
+    wires: &mut [u32],
     places: &mut [u32],
     t: Tapes,
     label: u32,
@@ -86,13 +86,13 @@ pub fn reserve_scalars(
     at: usize,
     n: u32,
 ) -> Stated
-    ensures { λ r. ⌜ ReservesScalars (now (list .entry)) (now (signals .entry)) (now (places .entry)) t label owner (wiresAt (now (words .entry)) at n) r (now (list .exit)) (now (signals .exit)) (now (places .exit)) ⌝ }
+    ensures { λ r. ⌜ ReservesScalars (now (signals .entry)) (now (wires .entry)) (now (places .entry)) t label owner (wiresAt (now (words .entry)) at n) r (now (signals .exit)) (now (wires .exit)) (now (places .exit)) ⌝ }
 {
     let mut now = t;
     let mut i = 0;
     while i < n {
         let wire = field(words, at, wide(i));
-        let r = reserve_scalar(list, signals, places, now, label, owner, wire);
+        let r = reserve_scalar(signals, wires, places, now, label, owner, wire);
         let Stated::Done(next) = r else {
             return r;
         };
@@ -104,26 +104,26 @@ pub fn reserve_scalars(
 
 // A signal for a wire that is not there yet.
 fn reserve_unless(
-    list: &mut [u32],
     signals: &mut [u32],
+    wires: &mut [u32],
     places: &mut [u32],
     t: Tapes,
     label: u32,
     owner: u32,
     wire: u32,
 ) -> Stated
-    ensures { λ r. ⌜ ReservesUnless (now (list .entry)) (now (signals .entry)) (now (places .entry)) t label owner wire r (now (list .exit)) (now (signals .exit)) (now (places .exit)) ⌝ }
+    ensures { λ r. ⌜ ReservesUnless (now (signals .entry)) (now (wires .entry)) (now (places .entry)) t label owner wire r (now (signals .exit)) (now (wires .exit)) (now (places .exit)) ⌝ }
 {
-    if word(signals, wide(wire)) != 0 {
+    if word(wires, wide(wire)) != 0 {
         return Stated::Done(t);
     }
-    reserve_scalar(list, signals, places, t, label, owner, wire)
+    reserve_scalar(signals, wires, places, t, label, owner, wire)
 }
 
 // A signal for each of n wires that is not there yet.
 pub fn reserve_absent(
-    list: &mut [u32],
     signals: &mut [u32],
+    wires: &mut [u32],
     places: &mut [u32],
     t: Tapes,
     label: u32,
@@ -132,13 +132,13 @@ pub fn reserve_absent(
     at: usize,
     n: u32,
 ) -> Stated
-    ensures { λ r. ⌜ ReservesAbsent (now (list .entry)) (now (signals .entry)) (now (places .entry)) t label owner (wiresAt (now (words .entry)) at n) r (now (list .exit)) (now (signals .exit)) (now (places .exit)) ⌝ }
+    ensures { λ r. ⌜ ReservesAbsent (now (signals .entry)) (now (wires .entry)) (now (places .entry)) t label owner (wiresAt (now (words .entry)) at n) r (now (signals .exit)) (now (wires .exit)) (now (places .exit)) ⌝ }
 {
     let mut now = t;
     let mut i = 0;
     while i < n {
         let wire = field(words, at, wide(i));
-        let r = reserve_unless(list, signals, places, now, label, owner, wire);
+        let r = reserve_unless(signals, wires, places, now, label, owner, wire);
         let Stated::Done(next) = r else {
             return r;
         };

@@ -30,33 +30,33 @@ fn no_records() -> Tapes
 
 // The wire map, in two tables.
 fn reserve_netlist(
-    list: &mut [u32],
     signals: &mut [u32],
+    wires: &mut [u32],
     places: &mut [u32],
     words: &[u32],
     layout: Layout,
-    bank_of: &[u32],
+    banks: &[u32],
     count: u32,
 ) -> Stated
-    ensures { λ r. ⌜ ReservesNetlist (now (list .entry)) (now (signals .entry)) (now (places .entry)) (now (words .entry)) layout (now («bank_of» .entry)) count r (now (list .exit)) (now (signals .exit)) (now (places .exit)) ⌝ }
+    ensures { λ r. ⌜ ReservesNetlist (now (signals .entry)) (now (wires .entry)) (now (places .entry)) (now (words .entry)) layout (now (banks .entry)) count r (now (signals .exit)) (now (wires .exit)) (now (places .exit)) ⌝ }
 {
-    let r = reserve_ports(list, signals, places, no_records(), words, 0, layout.ports);
+    let r = reserve_ports(signals, wires, places, no_records(), words, 0, layout.ports);
     let Stated::Done(t) = r else {
         return r;
     };
-    let q = reserve_cells(list, signals, places, t, words, layout.start, layout.cells);
+    let q = reserve_cells(signals, wires, places, t, words, layout.start, layout.cells);
     let Stated::Done(next) = q else {
         return q;
     };
     reserve_flip_flop_banks(
-        list,
         signals,
+        wires,
         places,
         next,
         words,
         layout.start,
         layout.cells,
-        bank_of,
+        banks,
         count,
     )
 }
@@ -65,29 +65,29 @@ fn emit_rest(
     exprs: &mut [u32],
     stmts: &mut [u32],
     parts: &mut [u32],
-    signals: &[u32],
+    wires: &[u32],
     places: &[u32],
     t: Tapes,
     constants: Constants,
     words: &[u32],
     layout: Layout,
-    bank_of: &[u32],
+    banks: &[u32],
     count: u32,
 ) -> Stated
-    ensures { λ r. ⌜ EmitsRest (now (exprs .entry)) (now (stmts .entry)) (now (parts .entry)) (now (signals .entry)) (now (places .entry)) t constants (now (words .entry)) layout (now («bank_of» .entry)) count r (now (exprs .exit)) (now (stmts .exit)) ⌝ }
+    ensures { λ r. ⌜ EmitsRest (now (exprs .entry)) (now (stmts .entry)) (now (parts .entry)) (now (wires .entry)) (now (places .entry)) t constants (now (words .entry)) layout (now (banks .entry)) count r (now (exprs .exit)) (now (stmts .exit)) ⌝ }
 {
     let r = emit_flip_flop_banks(
         exprs,
         stmts,
         parts,
-        signals,
+        wires,
         places,
         t,
         constants,
         words,
         layout.start,
         layout.cells,
-        bank_of,
+        banks,
         count,
     );
     let Stated::Done(next) = r else {
@@ -97,7 +97,7 @@ fn emit_rest(
         exprs,
         stmts,
         parts,
-        signals,
+        wires,
         places,
         next,
         words,
@@ -116,32 +116,32 @@ fn unstarted(r: Started) -> Stated
 }
 
 fn emit_netlist(
-    sigs: &mut [u32],
+    signals: &mut [u32],
     exprs: &mut [u32],
     stmts: &mut [u32],
     parts: &mut [u32],
-    value: &mut [u32],
-    signals: &[u32],
+    values: &mut [u32],
+    wires: &[u32],
     places: &[u32],
     t: Tapes,
     words: &[u32],
     layout: Layout,
-    bank_of: &[u32],
+    banks: &[u32],
     count: u32,
 ) -> Stated
-    ensures { λ r. ⌜ EmitsNetlist (lists (now (sigs .entry)) (now (exprs .entry)) (now (stmts .entry))) (now (parts .entry)) (now (value .entry)) (now (signals .entry)) (now (places .entry)) t (now (words .entry)) layout (now («bank_of» .entry)) count r (lists (now (sigs .exit)) (now (exprs .exit)) (now (stmts .exit))) ⌝ }
+    ensures { λ r. ⌜ EmitsNetlist (lists (now (signals .entry)) (now (exprs .entry)) (now (stmts .entry))) (now (parts .entry)) (now (values .entry)) (now (wires .entry)) (now (places .entry)) t (now (words .entry)) layout (now (banks .entry)) count r (lists (now (signals .exit)) (now (exprs .exit)) (now (stmts .exit))) ⌝ }
 {
-    let r = emit_constants(sigs, exprs, stmts, t);
+    let r = emit_constants(signals, exprs, stmts, t);
     let Started::Done(constants, first) = r else {
         return unstarted(r);
     };
     let q = emit_cells(
-        sigs,
+        signals,
         exprs,
         stmts,
         parts,
-        value,
-        signals,
+        values,
+        wires,
         places,
         first,
         constants,
@@ -156,49 +156,49 @@ fn emit_netlist(
         exprs,
         stmts,
         parts,
-        signals,
+        wires,
         places,
         next,
         constants,
         words,
         layout,
-        bank_of,
+        banks,
         count,
     )
 }
 
 // The records of a checked netlist, whose parts stand as the layout says.
 pub fn record_netlist(
-    sigs: &mut [u32],
+    signals: &mut [u32],
     exprs: &mut [u32],
     stmts: &mut [u32],
-    signals: &mut [u32],
+    wires: &mut [u32],
     places: &mut [u32],
     parts: &mut [u32],
-    value: &mut [u32],
-    bank_of: &mut [u32],
+    values: &mut [u32],
+    banks: &mut [u32],
     words: &[u32],
     layout: Layout,
 ) -> Stated
-    ensures { λ r. ⌜ RecordsNetlist (lists (now (sigs .entry)) (now (exprs .entry)) (now (stmts .entry))) (now (signals .entry)) (now (places .entry)) (now (parts .entry)) (now (value .entry)) (now («bank_of» .entry)) (now (words .entry)) layout r (lists (now (sigs .exit)) (now (exprs .exit)) (now (stmts .exit))) ⌝ }
+    ensures { λ r. ⌜ RecordsNetlist (lists (now (signals .entry)) (now (exprs .entry)) (now (stmts .entry))) (now (wires .entry)) (now (places .entry)) (now (parts .entry)) (now (values .entry)) (now (banks .entry)) (now (words .entry)) layout r (lists (now (signals .exit)) (now (exprs .exit)) (now (stmts .exit))) ⌝ }
 {
-    let count = collect_flip_flop_banks(words, layout.start, layout.cells, bank_of, parts, value);
-    let r = reserve_netlist(sigs, signals, places, words, layout, bank_of, count);
+    let count = collect_flip_flop_banks(words, layout.start, layout.cells, banks, parts, values);
+    let r = reserve_netlist(signals, wires, places, words, layout, banks, count);
     let Stated::Done(t) = r else {
         return r;
     };
     emit_netlist(
-        sigs,
+        signals,
         exprs,
         stmts,
         parts,
-        value,
-        signals,
+        values,
+        wires,
         places,
         t,
         words,
         layout,
-        bank_of,
+        banks,
         count,
     )
 }

@@ -33,7 +33,7 @@ same-length : tie.Need-same-length
 same-length c = search needs
 
 returns : tie.Need-returns
-returns c = reserves-as (bank-vector (wiresOf (c .before .before .before .before .before .before .before .before .before .before .before .before .before .args .signals .now) (c .before .before .before .before .before .before .before .before .before .before .before .before .before .args .places .now)) (c .before .before .before .before .before .before .before .before .before .before .before .before .before .args .owner) (membersIn (c .before .before .before .before .before .before .before .before .before .before .before .before .before .args .words .now) (c .before .before .before .before .before .before .before .before .before .before .before .before .before .args .bank-of .now) (c .before .before .before .before .before .before .before .before .before .before .before .before .before .args .scan)) (c .before .before .before .before .before .before .before .count-members .ensures)) (record { so = λ limits p. reserve-full _ (c .before .before .before .before .before .signal .result) (c .before .before .before .before .before .signal .ensures) (c .undeclared .result) _ (c .before .enum-told .given .1) (c .undeclared .ensures) })
+returns c = reserves-as (bank-vector (wiresOf (c .before .before .before .before .before .before .before .before .before .before .before .before .before .args .wires .now) (c .before .before .before .before .before .before .before .before .before .before .before .before .before .args .places .now)) (c .before .before .before .before .before .before .before .before .before .before .before .before .before .args .owner) (membersIn (c .before .before .before .before .before .before .before .before .before .before .before .before .before .args .words .now) (c .before .before .before .before .before .before .before .before .before .before .before .before .before .args .banks .now) (c .before .before .before .before .before .before .before .before .before .before .before .before .before .args .scan)) (c .before .before .before .before .before .before .before .count-members .ensures)) (record { so = λ limits p. reserve-full _ (c .before .before .before .before .before .signal .result) (c .before .before .before .before .before .signal .ensures) (c .undeclared .result) _ (c .before .enum-told .given .1) (c .undeclared .ensures) })
 
 insert-members-requires : tie.Need-insert-members-requires
 insert-members-requires c κs = search needs
@@ -57,7 +57,7 @@ same-length-4 : tie.Need-same-length-4
 same-length-4 c = search needs
 
 returns-2 : tie.Need-returns-2
-returns-2 c = reserves-as (bank-vector (wiresOf (c .before .before .before .before .before .before .before .before .before .before .before .before .before .before .before .before .before .before .before .before .before .before .before .args .signals .now) (c .before .before .before .before .before .before .before .before .before .before .before .before .before .before .before .before .before .before .before .before .before .before .before .args .places .now)) (c .before .before .before .before .before .before .before .before .before .before .before .before .before .before .before .before .before .before .before .before .before .before .before .args .owner) (membersIn (c .before .before .before .before .before .before .before .before .before .before .before .before .before .before .before .before .before .before .before .before .before .before .before .args .words .now) (c .before .before .before .before .before .before .before .before .before .before .before .before .before .before .before .before .before .before .before .before .before .before .before .args .bank-of .now) (c .before .before .before .before .before .before .before .before .before .before .before .before .before .before .before .before .before .before .before .before .before .before .before .args .scan)) (c .before .before .before .before .before .before .before .before .before .before .before .before .before .before .before .before .before .count-members .ensures)) (record { so = λ limits p. reserve-taken _ (c .before .before .before .before .before .before .before .before .before .before .before .before .before .before .before .signal .result) (c .before .before .before .before .before .before .before .before .before .before .before .before .before .before .before .signal .ensures) (c .before .before .before .before .before .before .before .before .before .before .before .d .given .1) (c .before .before .before .before .before .before .before .insert-members .result) (wiresOf (c .before .before .before .before .before .before .before .insert-members .last .0) (c .before .before .before .before .before .before .before .insert-members .last .1 .0)) (c .before .before .before .before .before .before .before .insert-members .ensures .so (bank-tabled (membersIn (c .before .before .before .before .before .before .before .before .before .before .before .before .before .before .before .before .before .before .before .before .before .before .before .args .words .now) (c .before .before .before .before .before .before .before .before .before .before .before .before .before .before .before .before .before .before .before .before .before .before .before .args .bank-of .now) (c .before .before .before .before .before .before .before .before .before .before .before .before .before .before .before .before .before .before .before .before .before .before .before .args .scan)) p (c .before .before .before .before .before .before .before .before .before .before .before .before .before .before .before .before .before .count-members .ensures) (reserve-numbered _ (c .before .before .before .before .before .before .before .before .before .before .before .before .before .before .before .signal .result) (c .before .before .before .before .before .before .before .before .before .before .before .before .before .before .before .signal .ensures) (c .before .before .before .before .before .before .before .before .before .before .before .d .given .1)))) (c .not-inserted .result) (c .before .enum-told3 .given .1) (c .not-inserted .ensures) })
+returns-2 c = reserves-as (bank-vector (wiresOf (c .before .before .before .before .before .before .before .before .before .before .before .before .before .before .before .before .before .before .before .before .before .before .before .args .wires .now) (c .before .before .before .before .before .before .before .before .before .before .before .before .before .before .before .before .before .before .before .before .before .before .before .args .places .now)) (c .before .before .before .before .before .before .before .before .before .before .before .before .before .before .before .before .before .before .before .before .before .before .before .args .owner) (membersIn (c .before .before .before .before .before .before .before .before .before .before .before .before .before .before .before .before .before .before .before .before .before .before .before .args .words .now) (c .before .before .before .before .before .before .before .before .before .before .before .before .before .before .before .before .before .before .before .before .before .before .before .args .banks .now) (c .before .before .before .before .before .before .before .before .before .before .before .before .before .before .before .before .before .before .before .before .before .before .before .args .scan)) (c .before .before .before .before .before .before .before .before .before .before .before .before .before .before .before .before .before .count-members .ensures)) (record { so = λ limits p. reserve-taken _ (c .before .before .before .before .before .before .before .before .before .before .before .before .before .before .before .signal .result) (c .before .before .before .before .before .before .before .before .before .before .before .before .before .before .before .signal .ensures) (c .before .before .before .before .before .before .before .before .before .before .before .d .given .1) (c .before .before .before .before .before .before .before .insert-members .result) (wiresOf (c .before .before .before .before .before .before .before .insert-members .last .0) (c .before .before .before .before .before .before .before .insert-members .last .1 .0)) (c .before .before .before .before .before .before .before .insert-members .ensures .so (bank-tabled (membersIn (c .before .before .before .before .before .before .before .before .before .before .before .before .before .before .before .before .before .before .before .before .before .before .before .args .words .now) (c .before .before .before .before .before .before .before .before .before .before .before .before .before .before .before .before .before .before .before .before .before .before .before .args .banks .now) (c .before .before .before .before .before .before .before .before .before .before .before .before .before .before .before .before .before .before .before .before .before .before .before .args .scan)) p (c .before .before .before .before .before .before .before .before .before .before .before .before .before .before .before .before .before .count-members .ensures) (reserve-numbered _ (c .before .before .before .before .before .before .before .before .before .before .before .before .before .before .before .signal .result) (c .before .before .before .before .before .before .before .before .before .before .before .before .before .before .before .signal .ensures) (c .before .before .before .before .before .before .before .before .before .before .before .d .given .1)))) (c .not-inserted .result) (c .before .enum-told3 .given .1) (c .not-inserted .ensures) })
 
 same-length-5 : tie.Need-same-length-5
 same-length-5 c = search needs
@@ -69,7 +69,7 @@ same-length-7 : tie.Need-same-length-7
 same-length-7 c = search needs
 
 returns-3 : tie.Need-returns-3
-returns-3 c = reserves-as (bank-vector (wiresOf (c .before .before .before .before .before .before .before .before .before .before .before .before .before .before .before .before .before .before .before .before .before .before .args .signals .now) (c .before .before .before .before .before .before .before .before .before .before .before .before .before .before .before .before .before .before .before .before .before .before .args .places .now)) (c .before .before .before .before .before .before .before .before .before .before .before .before .before .before .before .before .before .before .before .before .before .before .args .owner) (membersIn (c .before .before .before .before .before .before .before .before .before .before .before .before .before .before .before .before .before .before .before .before .before .before .args .words .now) (c .before .before .before .before .before .before .before .before .before .before .before .before .before .before .before .before .before .before .before .before .before .before .args .bank-of .now) (c .before .before .before .before .before .before .before .before .before .before .before .before .before .before .before .before .before .before .before .before .before .before .args .scan)) (c .before .before .before .before .before .before .before .before .before .before .before .before .before .before .before .before .count-members .ensures)) (record { so = λ limits p. reserve-done _ (c .before .before .before .before .before .before .before .before .before .before .before .before .before .before .signal .result) (c .before .before .before .before .before .before .before .before .before .before .before .before .before .before .signal .ensures) (c .before .before .before .before .before .before .before .before .before .before .d .given .1) (c .before .before .before .before .before .before .insert-members .result) (wiresOf (c .before .before .before .before .before .before .insert-members .last .0) (c .before .before .before .before .before .before .insert-members .last .1 .0)) (c .before .before .before .before .before .before .insert-members .ensures .so (bank-tabled (membersIn (c .before .before .before .before .before .before .before .before .before .before .before .before .before .before .before .before .before .before .before .before .before .before .args .words .now) (c .before .before .before .before .before .before .before .before .before .before .before .before .before .before .before .before .before .before .before .before .before .before .args .bank-of .now) (c .before .before .before .before .before .before .before .before .before .before .before .before .before .before .before .before .before .before .before .before .before .before .args .scan)) p (c .before .before .before .before .before .before .before .before .before .before .before .before .before .before .before .before .count-members .ensures) (reserve-numbered _ (c .before .before .before .before .before .before .before .before .before .before .before .before .before .before .signal .result) (c .before .before .before .before .before .before .before .before .before .before .before .before .before .before .signal .ensures) (c .before .before .before .before .before .before .before .before .before .before .d .given .1)))) (c .enum-told2 .given .1) })
+returns-3 c = reserves-as (bank-vector (wiresOf (c .before .before .before .before .before .before .before .before .before .before .before .before .before .before .before .before .before .before .before .before .before .before .args .wires .now) (c .before .before .before .before .before .before .before .before .before .before .before .before .before .before .before .before .before .before .before .before .before .before .args .places .now)) (c .before .before .before .before .before .before .before .before .before .before .before .before .before .before .before .before .before .before .before .before .before .before .args .owner) (membersIn (c .before .before .before .before .before .before .before .before .before .before .before .before .before .before .before .before .before .before .before .before .before .before .args .words .now) (c .before .before .before .before .before .before .before .before .before .before .before .before .before .before .before .before .before .before .before .before .before .before .args .banks .now) (c .before .before .before .before .before .before .before .before .before .before .before .before .before .before .before .before .before .before .before .before .before .before .args .scan)) (c .before .before .before .before .before .before .before .before .before .before .before .before .before .before .before .before .count-members .ensures)) (record { so = λ limits p. reserve-done _ (c .before .before .before .before .before .before .before .before .before .before .before .before .before .before .signal .result) (c .before .before .before .before .before .before .before .before .before .before .before .before .before .before .signal .ensures) (c .before .before .before .before .before .before .before .before .before .before .d .given .1) (c .before .before .before .before .before .before .insert-members .result) (wiresOf (c .before .before .before .before .before .before .insert-members .last .0) (c .before .before .before .before .before .before .insert-members .last .1 .0)) (c .before .before .before .before .before .before .insert-members .ensures .so (bank-tabled (membersIn (c .before .before .before .before .before .before .before .before .before .before .before .before .before .before .before .before .before .before .before .before .before .before .args .words .now) (c .before .before .before .before .before .before .before .before .before .before .before .before .before .before .before .before .before .before .before .before .before .before .args .banks .now) (c .before .before .before .before .before .before .before .before .before .before .before .before .before .before .before .before .before .before .before .before .before .before .args .scan)) p (c .before .before .before .before .before .before .before .before .before .before .before .before .before .before .before .before .count-members .ensures) (reserve-numbered _ (c .before .before .before .before .before .before .before .before .before .before .before .before .before .before .signal .result) (c .before .before .before .before .before .before .before .before .before .before .before .before .before .before .signal .ensures) (c .before .before .before .before .before .before .before .before .before .before .d .given .1)))) (c .enum-told2 .given .1) })
 
 pub reserve-flip-flop-bank-spec : {M : Type 1} → statement M
 reserve-flip-flop-bank-spec =

@@ -13,10 +13,10 @@ use Rattle.converter.proofs.collect.key_is.Reads as key-is-reads
 use Rattle.netlist.proofs.fields.wide.Reads as wide-reads
 
 abbrev Inv-loop : tie.InvT-loop
-Inv-loop first second count a b i₀ i = (i ≤ count) × (i + firstWith (λ j. keyIs first second j a b) (count - i) i ≡ firstWith (λ j. keyIs first second j a b) count 0)
+Inv-loop parts values count a b i₀ i = (i ≤ count) × (i + firstWith (λ j. keyIs parts values j a b) (count - i) i ≡ firstWith (λ j. keyIs parts values j a b) count 0)
 
 abbrev μ-loop : tie.MeasureT-loop
-μ-loop first second count a b i₀ i = count - i
+μ-loop parts values count a b i₀ i = count - i
 
 loop-holds : tie.Need-loop-holds Inv-loop μ-loop
 loop-holds c = (search needs, first-start _ _)
@@ -28,7 +28,7 @@ key-is-requires : tie.Need-key-is-requires Inv-loop μ-loop
 key-is-requires c κs = search needs
 
 returns : tie.Need-returns Inv-loop μ-loop
-returns c = first-hit _ (c .before .before .before .before .loop .inv .1) (c .before .before .before .loop-test .taken) (c .before .key-is .ensures ∙ ap (λ (k : ℕ). keyIs (c .before .before .before .before .before .before .before .args .first .now) (c .before .before .before .before .before .before .before .args .second .now) k (c .before .before .before .before .before .before .before .args .a) (c .before .before .before .before .before .before .before .args .b)) (c .before .before .wide .ensures)) (c .if1 .taken)
+returns c = first-hit _ (c .before .before .before .before .loop .inv .1) (c .before .before .before .loop-test .taken) (c .before .key-is .ensures ∙ ap (λ (k : ℕ). keyIs (c .before .before .before .before .before .before .before .args .parts .now) (c .before .before .before .before .before .before .before .args .values .now) k (c .before .before .before .before .before .before .before .args .a) (c .before .before .before .before .before .before .before .args .b)) (c .before .before .wide .ensures)) (c .if1 .taken)
 
 add-i : tie.Need-add-i Inv-loop μ-loop
 add-i c = search needs
@@ -37,7 +37,7 @@ loop-less : tie.Need-loop-less Inv-loop μ-loop
 loop-less c = search needs
 
 loop-again : tie.Need-loop-again Inv-loop μ-loop
-loop-again c = (omega arith, first-miss _ (c .before .before .before .before .loop .inv .1) (c .before .before .before .loop-test .taken) (c .before .key-is .ensures ∙ ap (λ (k : ℕ). keyIs (c .before .before .before .before .before .before .before .args .first .now) (c .before .before .before .before .before .before .before .args .second .now) k (c .before .before .before .before .before .before .before .args .a) (c .before .before .before .before .before .before .before .args .b)) (c .before .before .wide .ensures)) (c .if1 .left))
+loop-again c = (omega arith, first-miss _ (c .before .before .before .before .loop .inv .1) (c .before .before .before .loop-test .taken) (c .before .key-is .ensures ∙ ap (λ (k : ℕ). keyIs (c .before .before .before .before .before .before .before .args .parts .now) (c .before .before .before .before .before .before .before .args .values .now) k (c .before .before .before .before .before .before .before .args .a) (c .before .before .before .before .before .before .before .args .b)) (c .before .before .wide .ensures)) (c .if1 .left))
 
 returns-2 : tie.Need-returns-2 Inv-loop μ-loop
 returns-2 c = first-end _ (c .before .loop .inv .1) (c .before .loop .inv .0) (c .loop-test .left)

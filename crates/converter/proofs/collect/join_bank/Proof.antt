@@ -16,7 +16,7 @@ field-requires : tie.Need-field-requires
 field-requires c κs = search needs
 
 returns : tie.Need-returns
-returns c = λ limits ls c′ small fits keyed p q s. join-none (c .before .before .before .before .before .args .words .now) (c .before .before .before .before .before .args .at) (c .before .field .ensures) (c .if1 .taken) limits ls c′ (c .before .before .before .before .before .args .first .now) (c .before .before .before .before .before .args .second .now) (c .before .before .before .before .before .args .count) keyed
+returns c = λ limits ls c′ small fits keyed p q s. join-none (c .before .before .before .before .before .args .words .now) (c .before .before .before .before .before .args .at) (c .before .field .ensures) (c .if1 .taken) limits ls c′ (c .before .before .before .before .before .args .parts .now) (c .before .before .before .before .before .args .values .now) (c .before .before .before .before .before .args .count) keyed
 
 field-requires-2 : tie.Need-field-requires-2
 field-requires-2 c κs = search needs
@@ -40,7 +40,7 @@ same-length-2 : tie.Need-same-length-2
 same-length-2 c = search needs
 
 returns-2 : tie.Need-returns-2
-returns-2 c = λ limits ls c′ small fits keyed p q s. absurd (omega (arith, bank-small (c .before .before .before .before .before .before .before .before .before .before .before .before .before .args .words .now) (c .before .before .before .before .before .before .before .before .before .before .before .before .before .args .at) (c .before .before .before .before .before .before .before .before .before .field .ensures) (c .before .before .before .before .before .before .before .before .if1 .left) limits small fits ls c′ (c .before .before .before .before .before .before .before .before .before .before .before .before .before .args .first .now) (c .before .before .before .before .before .before .before .before .before .before .before .before .before .args .second .now) (c .before .before .before .before .before .before .before .before .before .before .before .before .before .args .count) keyed (clock-is (c .before .before .before .before .before .before .before .before .before .before .before .before .before .args .words .now) (c .before .before .before .before .before .before .before .before .before .before .before .before .before .args .at) (c .before .before .before .before .before .before .before .before .before .field .ensures) (c .before .before .before .before .before .before .before .before .if1 .left) limits small fits (c .before .before .before .before .before .before .before .field2 .ensures) (c .before .before .before .before .before .before .field3 .ensures) (c .before .before .before .before .before .key .ensures)) (c .before .before .before .before .reset-key .ensures .is limits small (fit (c .before .before .before .before .before .before .before .before .before .before .before .before .before .args .words .now) (c .before .before .before .before .before .before .before .before .before .before .before .before .before .args .at) (c .before .before .before .before .before .before .before .before .before .field .ensures) (c .before .before .before .before .before .before .before .before .if1 .left) limits small fits)) (c .before .find-key .ensures), s, c .if2 .taken))
+returns-2 c = λ limits ls c′ small fits keyed p q s. absurd (omega (arith, bank-small (c .before .before .before .before .before .before .before .before .before .before .before .before .before .args .words .now) (c .before .before .before .before .before .before .before .before .before .before .before .before .before .args .at) (c .before .before .before .before .before .before .before .before .before .field .ensures) (c .before .before .before .before .before .before .before .before .if1 .left) limits small fits ls c′ (c .before .before .before .before .before .before .before .before .before .before .before .before .before .args .parts .now) (c .before .before .before .before .before .before .before .before .before .before .before .before .before .args .values .now) (c .before .before .before .before .before .before .before .before .before .before .before .before .before .args .count) keyed (clock-is (c .before .before .before .before .before .before .before .before .before .before .before .before .before .args .words .now) (c .before .before .before .before .before .before .before .before .before .before .before .before .before .args .at) (c .before .before .before .before .before .before .before .before .before .field .ensures) (c .before .before .before .before .before .before .before .before .if1 .left) limits small fits (c .before .before .before .before .before .before .before .field2 .ensures) (c .before .before .before .before .before .before .field3 .ensures) (c .before .before .before .before .before .key .ensures)) (c .before .before .before .before .reset-key .ensures .is limits small (fit (c .before .before .before .before .before .before .before .before .before .before .before .before .before .args .words .now) (c .before .before .before .before .before .before .before .before .before .before .before .before .before .args .at) (c .before .before .before .before .before .before .before .before .before .field .ensures) (c .before .before .before .before .before .before .before .before .if1 .left) limits small fits)) (c .before .find-key .ensures), s, c .if2 .taken))
 
 add-result : tie.Need-add-result
 add-result c = search needs
@@ -52,7 +52,7 @@ same-length-4 : tie.Need-same-length-4
 same-length-4 c = search needs
 
 returns-3 : tie.Need-returns-3
-returns-3 c = λ limits ls c′ small fits keyed p q s. join-there (c .before .before .before .before .before .before .before .before .before .before .before .before .before .before .args .words .now) (c .before .before .before .before .before .before .before .before .before .before .before .before .before .before .args .at) (c .before .before .before .before .before .before .before .before .before .before .field .ensures) (c .before .before .before .before .before .before .before .before .before .if1 .left) limits small fits ls c′ (c .before .before .before .before .before .before .before .before .before .before .before .before .before .before .args .first .now) (c .before .before .before .before .before .before .before .before .before .before .before .before .before .before .args .second .now) (c .before .before .before .before .before .before .before .before .before .before .before .before .before .before .args .count) keyed (clock-is (c .before .before .before .before .before .before .before .before .before .before .before .before .before .before .args .words .now) (c .before .before .before .before .before .before .before .before .before .before .before .before .before .before .args .at) (c .before .before .before .before .before .before .before .before .before .before .field .ensures) (c .before .before .before .before .before .before .before .before .before .if1 .left) limits small fits (c .before .before .before .before .before .before .before .before .field2 .ensures) (c .before .before .before .before .before .before .before .field3 .ensures) (c .before .before .before .before .before .before .key .ensures)) (c .before .before .before .before .before .reset-key .ensures .is limits small (fit (c .before .before .before .before .before .before .before .before .before .before .before .before .before .before .args .words .now) (c .before .before .before .before .before .before .before .before .before .before .before .before .before .before .args .at) (c .before .before .before .before .before .before .before .before .before .before .field .ensures) (c .before .before .before .before .before .before .before .before .before .if1 .left) limits small fits)) (c .before .before .find-key .ensures) (c .if3 .taken)
+returns-3 c = λ limits ls c′ small fits keyed p q s. join-there (c .before .before .before .before .before .before .before .before .before .before .before .before .before .before .args .words .now) (c .before .before .before .before .before .before .before .before .before .before .before .before .before .before .args .at) (c .before .before .before .before .before .before .before .before .before .before .field .ensures) (c .before .before .before .before .before .before .before .before .before .if1 .left) limits small fits ls c′ (c .before .before .before .before .before .before .before .before .before .before .before .before .before .before .args .parts .now) (c .before .before .before .before .before .before .before .before .before .before .before .before .before .before .args .values .now) (c .before .before .before .before .before .before .before .before .before .before .before .before .before .before .args .count) keyed (clock-is (c .before .before .before .before .before .before .before .before .before .before .before .before .before .before .args .words .now) (c .before .before .before .before .before .before .before .before .before .before .before .before .before .before .args .at) (c .before .before .before .before .before .before .before .before .before .before .field .ensures) (c .before .before .before .before .before .before .before .before .before .if1 .left) limits small fits (c .before .before .before .before .before .before .before .before .field2 .ensures) (c .before .before .before .before .before .before .before .field3 .ensures) (c .before .before .before .before .before .before .key .ensures)) (c .before .before .before .before .before .reset-key .ensures .is limits small (fit (c .before .before .before .before .before .before .before .before .before .before .before .before .before .before .args .words .now) (c .before .before .before .before .before .before .before .before .before .before .before .before .before .before .args .at) (c .before .before .before .before .before .before .before .before .before .before .field .ensures) (c .before .before .before .before .before .before .before .before .before .if1 .left) limits small fits)) (c .before .before .find-key .ensures) (c .if3 .taken)
 
 wide-requires : tie.Need-wide-requires
 wide-requires c κs = search needs
@@ -76,7 +76,7 @@ same-length-6 : tie.Need-same-length-6
 same-length-6 c = search needs
 
 returns-4 : tie.Need-returns-4
-returns-4 c = λ limits ls c′ small fits keyed p q s. join-new-as (c .before .before .before .before .before .before .before .before .before .before .before .before .before .before .before .before .before .before .before .before .before .before .before .before .args .words .now) (c .before .before .before .before .before .before .before .before .before .before .before .before .before .before .before .before .before .before .before .before .before .before .before .before .args .at) (c .before .before .before .before .before .before .before .before .before .before .before .before .before .before .before .before .before .before .before .before .field .ensures) (c .before .before .before .before .before .before .before .before .before .before .before .before .before .before .before .before .before .before .before .if1 .left) limits small fits ls c′ (c .before .before .before .before .before .before .before .before .before .before .before .before .before .before .before .before .before .before .before .before .before .before .before .before .args .first .now) (c .before .before .before .before .before .before .before .before .before .before .before .before .before .before .before .before .before .before .before .before .before .before .before .before .args .second .now) (c .before .before .before .before .before .before .before .before .before .before .before .before .before .before .before .before .before .before .before .before .before .before .before .before .args .count) keyed (clock-is (c .before .before .before .before .before .before .before .before .before .before .before .before .before .before .before .before .before .before .before .before .before .before .before .before .args .words .now) (c .before .before .before .before .before .before .before .before .before .before .before .before .before .before .before .before .before .before .before .before .before .before .before .before .args .at) (c .before .before .before .before .before .before .before .before .before .before .before .before .before .before .before .before .before .before .before .before .field .ensures) (c .before .before .before .before .before .before .before .before .before .before .before .before .before .before .before .before .before .before .before .if1 .left) limits small fits (c .before .before .before .before .before .before .before .before .before .before .before .before .before .before .before .before .before .before .field2 .ensures) (c .before .before .before .before .before .before .before .before .before .before .before .before .before .before .before .before .before .field3 .ensures) (c .before .before .before .before .before .before .before .before .before .before .before .before .before .before .before .before .key .ensures)) (c .before .before .before .before .before .before .before .before .before .before .before .before .before .before .before .reset-key .ensures .is limits small (fit (c .before .before .before .before .before .before .before .before .before .before .before .before .before .before .before .before .before .before .before .before .before .before .before .before .args .words .now) (c .before .before .before .before .before .before .before .before .before .before .before .before .before .before .before .before .before .before .before .before .before .before .before .before .args .at) (c .before .before .before .before .before .before .before .before .before .before .before .before .before .before .before .before .before .before .before .before .field .ensures) (c .before .before .before .before .before .before .before .before .before .before .before .before .before .before .before .before .before .before .before .if1 .left) limits small fits)) (c .before .before .before .before .before .before .before .before .before .before .before .before .find-key .ensures) (c .before .before .before .before .before .before .before .before .before .before .if3 .left) p q (c .before .before .before .before .before .before .before .before .wide .ensures) (c .before .before .before .wide2 .ensures) _ _ (c .before .before .before .before .before .before .before .store .ensures) (c .before .before .store2 .ensures)
+returns-4 c = λ limits ls c′ small fits keyed p q s. join-new-as (c .before .before .before .before .before .before .before .before .before .before .before .before .before .before .before .before .before .before .before .before .before .before .before .before .args .words .now) (c .before .before .before .before .before .before .before .before .before .before .before .before .before .before .before .before .before .before .before .before .before .before .before .before .args .at) (c .before .before .before .before .before .before .before .before .before .before .before .before .before .before .before .before .before .before .before .before .field .ensures) (c .before .before .before .before .before .before .before .before .before .before .before .before .before .before .before .before .before .before .before .if1 .left) limits small fits ls c′ (c .before .before .before .before .before .before .before .before .before .before .before .before .before .before .before .before .before .before .before .before .before .before .before .before .args .parts .now) (c .before .before .before .before .before .before .before .before .before .before .before .before .before .before .before .before .before .before .before .before .before .before .before .before .args .values .now) (c .before .before .before .before .before .before .before .before .before .before .before .before .before .before .before .before .before .before .before .before .before .before .before .before .args .count) keyed (clock-is (c .before .before .before .before .before .before .before .before .before .before .before .before .before .before .before .before .before .before .before .before .before .before .before .before .args .words .now) (c .before .before .before .before .before .before .before .before .before .before .before .before .before .before .before .before .before .before .before .before .before .before .before .before .args .at) (c .before .before .before .before .before .before .before .before .before .before .before .before .before .before .before .before .before .before .before .before .field .ensures) (c .before .before .before .before .before .before .before .before .before .before .before .before .before .before .before .before .before .before .before .if1 .left) limits small fits (c .before .before .before .before .before .before .before .before .before .before .before .before .before .before .before .before .before .before .field2 .ensures) (c .before .before .before .before .before .before .before .before .before .before .before .before .before .before .before .before .before .field3 .ensures) (c .before .before .before .before .before .before .before .before .before .before .before .before .before .before .before .before .key .ensures)) (c .before .before .before .before .before .before .before .before .before .before .before .before .before .before .before .reset-key .ensures .is limits small (fit (c .before .before .before .before .before .before .before .before .before .before .before .before .before .before .before .before .before .before .before .before .before .before .before .before .args .words .now) (c .before .before .before .before .before .before .before .before .before .before .before .before .before .before .before .before .before .before .before .before .before .before .before .before .args .at) (c .before .before .before .before .before .before .before .before .before .before .before .before .before .before .before .before .before .before .before .before .field .ensures) (c .before .before .before .before .before .before .before .before .before .before .before .before .before .before .before .before .before .before .before .if1 .left) limits small fits)) (c .before .before .before .before .before .before .before .before .before .before .before .before .find-key .ensures) (c .before .before .before .before .before .before .before .before .before .before .if3 .left) p q (c .before .before .before .before .before .before .before .before .wide .ensures) (c .before .before .before .wide2 .ensures) _ _ (c .before .before .before .before .before .before .before .store .ensures) (c .before .before .store2 .ensures)
 
 pub join-bank-spec : {M : Type 1} → statement M
 join-bank-spec =

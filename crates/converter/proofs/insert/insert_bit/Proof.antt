@@ -24,11 +24,11 @@ insert-wire-requires c κs = search needs
 
 returns : tie.Need-returns
 unfolding insertWire
-returns c = λ a b. ap (λ (x : Bit). insertWire (wiresOf (c .before .before .before .before .args .signals .now) (c .before .before .before .before .args .places .now)) x (record { signal = c .before .before .before .before .args .signal .0; lsb = c .before .before .before .before .args .lsb; width = c .before .before .before .before .args .width })) (c .enum-told .given .1)
+returns c = λ a b. ap (λ (x : Bit). insertWire (wiresOf (c .before .before .before .before .args .wires .now) (c .before .before .before .before .args .places .now)) x (record { signal = c .before .before .before .before .args .signal .0; lsb = c .before .before .before .before .args .lsb; width = c .before .before .before .before .args .width })) (c .enum-told .given .1)
 
 returns-2 : tie.Need-returns-2
 unfolding insertWire
-returns-2 c = λ a b. ap (λ (x : Bit). insertWire (wiresOf (c .before .before .before .before .args .signals .now) (c .before .before .before .before .args .places .now)) x (record { signal = c .before .before .before .before .args .signal .0; lsb = c .before .before .before .before .args .lsb; width = c .before .before .before .before .args .width })) (c .enum-told2 .given .1)
+returns-2 c = λ a b. ap (λ (x : Bit). insertWire (wiresOf (c .before .before .before .before .args .wires .now) (c .before .before .before .before .args .places .now)) x (record { signal = c .before .before .before .before .args .signal .0; lsb = c .before .before .before .before .args .lsb; width = c .before .before .before .before .args .width })) (c .enum-told2 .given .1)
 
 same-length : tie.Need-same-length
 same-length c = search needs
@@ -37,7 +37,7 @@ same-length-2 : tie.Need-same-length-2
 same-length-2 c = search needs
 
 returns-3 : tie.Need-returns-3
-returns-3 c = λ a b. ap (λ (x : Bit). insertWire (wiresOf (c .before .before .before .before .before .before .before .before .before .before .before .before .args .signals .now) (c .before .before .before .before .before .before .before .before .before .before .before .before .args .places .now)) x (record { signal = c .before .before .before .before .before .before .before .before .before .before .before .before .args .signal .0; lsb = c .before .before .before .before .before .before .before .before .before .before .before .before .args .lsb; width = c .before .before .before .before .before .before .before .before .before .before .before .before .args .width })) (c .before .before .before .before .before .before .before .before .bit .given .1) ∙ c .before .before .before .before .insert-wire .ensures (subst (TabledBit (c .before .before .before .before .before .before .before .before .before .before .before .before .args .signals .now) (c .before .before .before .before .before .before .before .before .before .before .before .before .args .places .now)) (c .before .before .before .before .before .before .before .before .bit .given .1) a) b
+returns-3 c = λ a b. ap (λ (x : Bit). insertWire (wiresOf (c .before .before .before .before .before .before .before .before .before .before .before .before .args .wires .now) (c .before .before .before .before .before .before .before .before .before .before .before .before .args .places .now)) x (record { signal = c .before .before .before .before .before .before .before .before .before .before .before .before .args .signal .0; lsb = c .before .before .before .before .before .before .before .before .before .before .before .before .args .lsb; width = c .before .before .before .before .before .before .before .before .before .before .before .before .args .width })) (c .before .before .before .before .before .before .before .before .bit .given .1) ∙ c .before .before .before .before .insert-wire .ensures (subst (TabledBit (c .before .before .before .before .before .before .before .before .before .before .before .before .args .wires .now) (c .before .before .before .before .before .before .before .before .before .before .before .before .args .places .now)) (c .before .before .before .before .before .before .before .before .bit .given .1) a) b
 
 pub insert-bit-spec : {M : Type 1} → statement M
 insert-bit-spec =

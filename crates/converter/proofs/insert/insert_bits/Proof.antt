@@ -14,10 +14,10 @@ use Rattle.converter.proofs.insert.insert_bit.Reads as insert-bit-reads
 use Rattle.netlist.proofs.fields.wide.Reads as wide-reads
 
 abbrev Inv-loop : tie.InvT-loop
-Inv-loop signals₀ places₀ words at kind signal n i₀ signals places i = (i ≤ n) × (length signals ≡ length signals₀) × (length places ≡ length places₀) × Inserting signals₀ places₀ (heldBits words kind at n) (signal .0) n signals places i
+Inv-loop wires₀ places₀ words at kind signal n i₀ wires places i = (i ≤ n) × (length wires ≡ length wires₀) × (length places ≡ length places₀) × Inserting wires₀ places₀ (heldBits words kind at n) (signal .0) n wires places i
 
 abbrev μ-loop : tie.MeasureT-loop
-μ-loop signals₀ places₀ words at kind signal n i₀ signals places i = n - i
+μ-loop wires₀ places₀ words at kind signal n i₀ wires places i = n - i
 
 loop-holds : tie.Need-loop-holds Inv-loop μ-loop
 loop-holds c = (search needs, search needs, search needs, inserting-start)

@@ -54,16 +54,16 @@ slice-read-if6 : tie.Need-slice-read-if6
 slice-read-if6 c = search needs
 
 returns-6 : tie.Need-returns-6
-returns-6 c = λ a b. insert-taken _ _ (c .before .before .before .before .before .before .before .before .before .before .args .wire) _ (λ z. c .if6 .taken (ap (λ (i : ℕ). getD (c .before .before .before .before .before .before .before .before .before .before .args .signals .now) i 0) (c .before .before .before .before .before .before .before .wide .ensures) ∙ z)) ∙ ap (λ (i : ℕ). refuse 7 i) (sym (c .before .before .before .before .before .before .before .wide .ensures))
+returns-6 c = λ a b. insert-taken _ _ (c .before .before .before .before .before .before .before .before .before .before .args .wire) _ (λ z. c .if6 .taken (ap (λ (i : ℕ). getD (c .before .before .before .before .before .before .before .before .before .before .args .wires .now) i 0) (c .before .before .before .before .before .before .before .wide .ensures) ∙ z)) ∙ ap (λ (i : ℕ). refuse 7 i) (sym (c .before .before .before .before .before .before .before .wide .ensures))
 
-add-signals : tie.Need-add-signals
-add-signals c = search needs
+add-wires : tie.Need-add-wires
+add-wires c = search needs
 
-mul-signals : tie.Need-mul-signals
-mul-signals c = search needs
+mul-wires : tie.Need-mul-wires
+mul-wires c = search needs
 
-slice-write-signals : tie.Need-slice-write-signals
-slice-write-signals c = search needs
+slice-write-wires : tie.Need-slice-write-wires
+slice-write-wires c = search needs
 
 mul-places : tie.Need-mul-places
 mul-places c = search needs
@@ -84,7 +84,7 @@ same-length-2 : tie.Need-same-length-2
 same-length-2 c = search needs
 
 returns-7 : tie.Need-returns-7
-returns-7 c = λ a b. insert-free (c .before .before .before .before .before .before .before .before .before .before .args .signals .now) (c .before .before .before .before .before .before .before .before .before .before .args .places .now) (c .before .before .before .before .before .before .before .before .before .before .args .wire) (c .before .before .before .before .before .before .before .before .before .before .args .signal .0) (c .before .before .before .before .before .before .before .before .before .before .args .lsb) (c .before .before .before .before .before .before .before .before .before .before .args .width) (sym (ap (λ (i : ℕ). getD (c .before .before .before .before .before .before .before .before .before .before .args .signals .now) i 0) (c .before .before .before .before .before .before .before .wide .ensures)) ∙ c .if6 .left) a (b .narrow) ∙ ap (λ (i : ℕ). pure (wiresOf (set (c .before .before .before .before .before .before .before .before .before .before .args .signals .now) i (c .before .before .before .before .before .before .before .before .before .before .args .signal .0 + 1)) (set (c .before .before .before .before .before .before .before .before .before .before .args .places .now) i (c .before .before .before .before .before .before .before .before .before .before .args .lsb * 65536 + c .before .before .before .before .before .before .before .before .before .before .args .width)))) (sym (c .before .before .before .before .before .before .before .wide .ensures))
+returns-7 c = λ a b. insert-free (c .before .before .before .before .before .before .before .before .before .before .args .wires .now) (c .before .before .before .before .before .before .before .before .before .before .args .places .now) (c .before .before .before .before .before .before .before .before .before .before .args .wire) (c .before .before .before .before .before .before .before .before .before .before .args .signal .0) (c .before .before .before .before .before .before .before .before .before .before .args .lsb) (c .before .before .before .before .before .before .before .before .before .before .args .width) (sym (ap (λ (i : ℕ). getD (c .before .before .before .before .before .before .before .before .before .before .args .wires .now) i 0) (c .before .before .before .before .before .before .before .wide .ensures)) ∙ c .if6 .left) a (b .narrow) ∙ ap (λ (i : ℕ). pure (wiresOf (set (c .before .before .before .before .before .before .before .before .before .before .args .wires .now) i (c .before .before .before .before .before .before .before .before .before .before .args .signal .0 + 1)) (set (c .before .before .before .before .before .before .before .before .before .before .args .places .now) i (c .before .before .before .before .before .before .before .before .before .before .args .lsb * 65536 + c .before .before .before .before .before .before .before .before .before .before .args .width)))) (sym (c .before .before .before .before .before .before .before .wide .ensures))
 
 pub insert-wire-spec : {M : Type 1} → statement M
 insert-wire-spec =
@@ -104,9 +104,9 @@ insert-wire-spec =
     mul-if6
     slice-read-if6
     returns-6
-    add-signals
-    mul-signals
-    slice-write-signals
+    add-wires
+    mul-wires
+    slice-write-wires
     mul-places
     add-places
     mul-places-2

@@ -32,7 +32,7 @@ same-length-2 : tie.Need-same-length-2
 same-length-2 c = search needs
 
 returns : tie.Need-returns
-returns c = kind-ccu2c (c .before .before .before .before .before .before .before .before .before .before .before .before .before .before .before .before .args .exprs .now) (c .before .before .before .before .before .before .before .before .before .before .before .before .before .before .before .before .args .stmts .now) (c .before .before .before .before .before .before .before .before .before .before .before .before .before .before .before .before .args .t) (wiresOf (c .before .before .before .before .before .before .before .before .before .before .before .before .before .before .before .before .args .signals .now) (c .before .before .before .before .before .before .before .before .before .before .before .before .before .before .before .before .args .places .now)) (c .before .before .before .before .emit-ccu2c .result) (c .before .before .before .before .emit-ccu2c .last .0) (c .before .before .before .before .emit-ccu2c .last .1 .0) (c .before .before .before .before .before .before .before .before .before .before .before .before .before .before .before .before .args .words .now) (c .before .before .before .before .before .before .before .before .before .before .before .before .before .before .before .before .args .at) (c .before .before .before .before .before .before .before .before .before .ccu2c-at .result) (c .before .before .before .before .before .before .before .before .before .ccu2c-at .ensures) (c .before .before .before .before .before .before .before .before .before .before .ccu2c-inputs .ensures) (c .before .before .before .before .before .before .before .before .truth-table .ensures) (c .before .before .before .before .before .before .before .truth-table2 .ensures) (c .before .before .before .before .emit-ccu2c .ensures)
+returns c = kind-ccu2c (c .before .before .before .before .before .before .before .before .before .before .before .before .before .before .before .before .args .exprs .now) (c .before .before .before .before .before .before .before .before .before .before .before .before .before .before .before .before .args .stmts .now) (c .before .before .before .before .before .before .before .before .before .before .before .before .before .before .before .before .args .t) (wiresOf (c .before .before .before .before .before .before .before .before .before .before .before .before .before .before .before .before .args .wires .now) (c .before .before .before .before .before .before .before .before .before .before .before .before .before .before .before .before .args .places .now)) (c .before .before .before .before .emit-ccu2c .result) (c .before .before .before .before .emit-ccu2c .last .0) (c .before .before .before .before .emit-ccu2c .last .1 .0) (c .before .before .before .before .before .before .before .before .before .before .before .before .before .before .before .before .args .words .now) (c .before .before .before .before .before .before .before .before .before .before .before .before .before .before .before .before .args .at) (c .before .before .before .before .before .before .before .before .before .ccu2c-at .result) (c .before .before .before .before .before .before .before .before .before .ccu2c-at .ensures) (c .before .before .before .before .before .before .before .before .before .before .ccu2c-inputs .ensures) (c .before .before .before .before .before .before .before .before .truth-table .ensures) (c .before .before .before .before .before .before .before .truth-table2 .ensures) (c .before .before .before .before .emit-ccu2c .ensures)
 
 pub ccu2c-cell-spec : {M : Type 1} → statement M
 ccu2c-cell-spec =

@@ -32,7 +32,7 @@ same-length-2 : tie.Need-same-length-2
 same-length-2 c = search needs
 
 returns : tie.Need-returns
-returns c = kind-lut4 (c .before .before .before .before .before .before .before .before .before .before .before .before .before .before .before .before .args .exprs .now) (c .before .before .before .before .before .before .before .before .before .before .before .before .before .before .before .before .args .stmts .now) (c .before .before .before .before .before .before .before .before .before .before .before .before .before .before .before .before .args .t) (wiresOf (c .before .before .before .before .before .before .before .before .before .before .before .before .before .before .before .before .args .signals .now) (c .before .before .before .before .before .before .before .before .before .before .before .before .before .before .before .before .args .places .now)) (c .before .before .before .before .emit-lut4 .result) (c .before .before .before .before .emit-lut4 .last .0) (c .before .before .before .before .emit-lut4 .last .1 .0) (c .before .before .before .before .before .before .before .before .before .before .before .before .before .before .before .before .args .words .now) (c .before .before .before .before .before .before .before .before .before .before .before .before .before .before .before .before .args .at) (c .before .before .before .before .before .before .before .before .before .before .bits4 .ensures) (c .before .before .before .before .before .before .before .before .before .field .ensures) (c .before .before .before .before .before .before .before .before .field2 .ensures) (c .before .before .before .before .before .before .before .truth-table .ensures) (c .before .before .before .before .emit-lut4 .ensures)
+returns c = kind-lut4 (c .before .before .before .before .before .before .before .before .before .before .before .before .before .before .before .before .args .exprs .now) (c .before .before .before .before .before .before .before .before .before .before .before .before .before .before .before .before .args .stmts .now) (c .before .before .before .before .before .before .before .before .before .before .before .before .before .before .before .before .args .t) (wiresOf (c .before .before .before .before .before .before .before .before .before .before .before .before .before .before .before .before .args .wires .now) (c .before .before .before .before .before .before .before .before .before .before .before .before .before .before .before .before .args .places .now)) (c .before .before .before .before .emit-lut4 .result) (c .before .before .before .before .emit-lut4 .last .0) (c .before .before .before .before .emit-lut4 .last .1 .0) (c .before .before .before .before .before .before .before .before .before .before .before .before .before .before .before .before .args .words .now) (c .before .before .before .before .before .before .before .before .before .before .before .before .before .before .before .before .args .at) (c .before .before .before .before .before .before .before .before .before .before .bits4 .ensures) (c .before .before .before .before .before .before .before .before .before .field .ensures) (c .before .before .before .before .before .before .before .before .field2 .ensures) (c .before .before .before .before .before .before .before .truth-table .ensures) (c .before .before .before .before .emit-lut4 .ensures)
 
 pub lut4-cell-spec : {M : Type 1} → statement M
 lut4-cell-spec =

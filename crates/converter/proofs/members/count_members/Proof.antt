@@ -13,16 +13,16 @@ use Rattle.converter.proofs.members.first_member.Reads as first-member-
 use Rattle.converter.proofs.members.next_member.Reads as next-member-reads
 
 abbrev Inv-loop : tie.InvT-loop
-Inv-loop words bank-of scan k₀ c₀ k c = Walks words bank-of scan c k × (k + length (restFrom words bank-of scan c) ≡ length (membersIn words bank-of scan))
+Inv-loop words banks scan k₀ c₀ k c = Walks words banks scan c k × (k + length (restFrom words banks scan c) ≡ length (membersIn words banks scan))
 
 abbrev μ-loop : tie.MeasureT-loop
-μ-loop words bank-of scan k₀ c₀ k c = scan .n - c .cell
+μ-loop words banks scan k₀ c₀ k c = scan .n - c .cell
 
 first-member-requires : tie.Need-first-member-requires Inv-loop μ-loop
 first-member-requires c κs = search needs
 
 loop-holds : tie.Need-loop-holds Inv-loop μ-loop
-loop-holds c = (walk-start (c .before .before .before .args .words .now) (c .before .before .before .args .bank-of .now) (c .before .before .before .args .scan) (c .first-member .ensures), count-start (c .first-member .ensures .rest))
+loop-holds c = (walk-start (c .before .before .before .args .words .now) (c .before .before .before .args .banks .now) (c .before .before .before .args .scan) (c .first-member .ensures), count-start (c .first-member .ensures .rest))
 
 add-k : tie.Need-add-k Inv-loop μ-loop
 add-k c = omega (arith, c .before .before .before .loop .inv .0 .few)
@@ -34,10 +34,10 @@ loop-less : tie.Need-loop-less Inv-loop μ-loop
 loop-less c = omega (arith, c .next-member .ensures .onward (c .before .if1 .taken))
 
 loop-again : tie.Need-loop-again Inv-loop μ-loop
-loop-again c = (walk-next (c .before .before .before .before .before .before .before .before .args .words .now) (c .before .before .before .before .before .before .before .before .args .bank-of .now) (c .before .before .before .before .before .before .before .before .args .scan) (c .before .before .before .before .loop .inv .0) (c .before .if1 .taken) (c .next-member .ensures), count-on (c .before .before .before .before .loop .k) (c .before .before .before .before .loop .inv .1) (walk-here (c .before .before .before .before .before .before .before .before .args .words .now) (c .before .before .before .before .before .before .before .before .args .bank-of .now) (c .before .before .before .before .before .before .before .before .args .scan) (c .before .before .before .before .loop .inv .0) (c .before .if1 .taken) (c .next-member .ensures)))
+loop-again c = (walk-next (c .before .before .before .before .before .before .before .before .args .words .now) (c .before .before .before .before .before .before .before .before .args .banks .now) (c .before .before .before .before .before .before .before .before .args .scan) (c .before .before .before .before .loop .inv .0) (c .before .if1 .taken) (c .next-member .ensures), count-on (c .before .before .before .before .loop .k) (c .before .before .before .before .loop .inv .1) (walk-here (c .before .before .before .before .before .before .before .before .args .words .now) (c .before .before .before .before .before .before .before .before .args .banks .now) (c .before .before .before .before .before .before .before .before .args .scan) (c .before .before .before .before .loop .inv .0) (c .before .if1 .taken) (c .next-member .ensures)))
 
 returns : tie.Need-returns Inv-loop μ-loop
-returns c = count-end (c .before .before .before .loop .inv .1) (rest-end (c .before .before .before .before .before .before .before .args .words .now) (c .before .before .before .before .before .before .before .args .bank-of .now) (c .before .before .before .before .before .before .before .args .scan) (c .before .before .before .loop .c .cell) (c .before .before .before .loop .c .place) (c .if1 .left))
+returns c = count-end (c .before .before .before .loop .inv .1) (rest-end (c .before .before .before .before .before .before .before .args .words .now) (c .before .before .before .before .before .before .before .args .banks .now) (c .before .before .before .before .before .before .before .args .scan) (c .before .before .before .loop .c .cell) (c .before .before .before .loop .c .place) (c .if1 .left))
 
 pub count-members-spec : {M : Type 1} → statement M
 count-members-spec =

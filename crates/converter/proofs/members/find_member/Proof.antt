@@ -14,10 +14,10 @@ use Rattle.netlist.proofs.fields.wide.Reads as wide-reads
 use Rattle.netlist.proofs.fields.word.Reads as word-reads
 
 abbrev Inv-loop : tie.InvT-loop
-Inv-loop words bank-of scan i₀ place₀ i place = (i₀ ≤ i) × (restAt words bank-of scan i place ≡ restAt words bank-of scan i₀ place₀)
+Inv-loop words banks scan i₀ place₀ i place = (i₀ ≤ i) × (restAt words banks scan i place ≡ restAt words banks scan i₀ place₀)
 
 abbrev μ-loop : tie.MeasureT-loop
-μ-loop words bank-of scan i₀ place₀ i place = scan .n - i
+μ-loop words banks scan i₀ place₀ i place = scan .n - i
 
 loop-holds : tie.Need-loop-holds Inv-loop μ-loop
 loop-holds c = (omega arith, refl)
@@ -29,7 +29,7 @@ word-requires : tie.Need-word-requires Inv-loop μ-loop
 word-requires c κs = search needs
 
 returns : tie.Need-returns Inv-loop μ-loop
-returns c = record { found = record { rest = c .before .before .before .before .before .before .loop .inv .1; member = λ h. sym (c .before .before .word .ensures ∙ ap (λ (k : ℕ). getD (c .before .before .before .before .before .before .before .before .before .args .bank-of .now) k 0) (c .before .before .before .wide .ensures)) ∙ c .if2 .taken }; onward = c .before .before .before .before .before .before .loop .inv .0 }
+returns c = record { found = record { rest = c .before .before .before .before .before .before .loop .inv .1; member = λ h. sym (c .before .before .word .ensures ∙ ap (λ (k : ℕ). getD (c .before .before .before .before .before .before .before .before .before .args .banks .now) k 0) (c .before .before .before .wide .ensures)) ∙ c .if2 .taken }; onward = c .before .before .before .before .before .before .loop .inv .0 }
 
 cell-end-requires : tie.Need-cell-end-requires Inv-loop μ-loop
 cell-end-requires c κs = search needs

@@ -32,7 +32,7 @@ same-length : tie.Need-same-length
 same-length c = search needs
 
 returns : tie.Need-returns
-returns c = λ s m. wrote-as (next-is (wiresOf (c .before .before .before .before .before .before .before .before .before .before .before .args .signals .now) (c .before .before .before .before .before .before .before .before .before .before .before .args .places .now)) (c .before .before .before .before .before .before .before .before .before .before .before .args .words .now) (c .before .before .before .before .before .before .before .before .before .before .before .args .at) (c .before .before .before .before .before .bit-at .ensures) refl refl refl) (then-same (c .before .before .before .before .bit-expression .ensures s m) _ (ap emitted (c .enum-told .given .1)))
+returns c = λ s m. wrote-as (next-is (wiresOf (c .before .before .before .before .before .before .before .before .before .before .before .args .wires .now) (c .before .before .before .before .before .before .before .before .before .before .before .args .places .now)) (c .before .before .before .before .before .before .before .before .before .before .before .args .words .now) (c .before .before .before .before .before .before .before .before .before .before .before .args .at) (c .before .before .before .before .before .bit-at .ensures) refl refl refl) (then-same (c .before .before .before .before .bit-expression .ensures s m) _ (ap emitted (c .enum-told .given .1)))
 
 field-requires : tie.Need-field-requires
 field-requires c κs = search needs
@@ -53,7 +53,7 @@ same-length-2 : tie.Need-same-length-2
 same-length-2 c = search needs
 
 returns-2 : tie.Need-returns-2
-returns-2 c = λ s m. wrote-as (next-is (wiresOf (c .before .before .before .before .before .before .before .before .before .before .before .before .before .before .before .before .before .before .before .before .args .signals .now) (c .before .before .before .before .before .before .before .before .before .before .before .before .before .before .before .before .before .before .before .before .args .places .now)) (c .before .before .before .before .before .before .before .before .before .before .before .before .before .before .before .before .before .before .before .before .args .words .now) (c .before .before .before .before .before .before .before .before .before .before .before .before .before .before .before .before .before .before .before .before .args .at) (c .before .before .before .before .before .before .before .before .before .before .before .before .before .before .bit-at .ensures) (c .before .before .before .before .before .before .before .field .ensures) (c .before .before .before .before .before .before .optional-control .ensures) refl) (then-done (c .before .before .before .before .before .before .before .before .before .before .before .before .before .bit-expression .ensures s m) _ (ap emitted (c .before .before .before .before .before .before .before .before .before .r .given .1)) (then-same (c .before .before .before .before .with-enable .ensures s m) _ (ap emitted (c .enum-told2 .given .1))))
+returns-2 c = λ s m. wrote-as (next-is (wiresOf (c .before .before .before .before .before .before .before .before .before .before .before .before .before .before .before .before .before .before .before .before .args .wires .now) (c .before .before .before .before .before .before .before .before .before .before .before .before .before .before .before .before .before .before .before .before .args .places .now)) (c .before .before .before .before .before .before .before .before .before .before .before .before .before .before .before .before .before .before .before .before .args .words .now) (c .before .before .before .before .before .before .before .before .before .before .before .before .before .before .before .before .before .before .before .before .args .at) (c .before .before .before .before .before .before .before .before .before .before .before .before .before .before .bit-at .ensures) (c .before .before .before .before .before .before .before .field .ensures) (c .before .before .before .before .before .before .optional-control .ensures) refl) (then-done (c .before .before .before .before .before .before .before .before .before .before .before .before .before .bit-expression .ensures s m) _ (ap emitted (c .before .before .before .before .before .before .before .before .before .r .given .1)) (then-same (c .before .before .before .before .with-enable .ensures s m) _ (ap emitted (c .enum-told2 .given .1))))
 
 optional-reset-requires : tie.Need-optional-reset-requires
 optional-reset-requires c κs = search needs
@@ -65,7 +65,7 @@ same-length-3 : tie.Need-same-length-3
 same-length-3 c = c .before .before .with-reset .kept .0 ∙ c .before .before .before .before .before .before .before .before .before .before .with-enable .kept .0 ∙ c .before .before .before .before .before .before .before .before .before .before .before .before .before .before .before .before .before .before .before .bit-expression .kept .0
 
 returns-3 : tie.Need-returns-3
-returns-3 c = λ s m. wrote-as (next-is (wiresOf (c .before .before .before .before .before .before .before .before .before .before .before .before .before .before .before .before .before .before .before .before .before .before .before .before .before .before .args .signals .now) (c .before .before .before .before .before .before .before .before .before .before .before .before .before .before .before .before .before .before .before .before .before .before .before .before .before .before .args .places .now)) (c .before .before .before .before .before .before .before .before .before .before .before .before .before .before .before .before .before .before .before .before .before .before .before .before .before .before .args .words .now) (c .before .before .before .before .before .before .before .before .before .before .before .before .before .before .before .before .before .before .before .before .before .before .before .before .before .before .args .at) (c .before .before .before .before .before .before .before .before .before .before .before .before .before .before .before .before .before .before .before .before .bit-at .ensures) (c .before .before .before .before .before .before .before .before .before .before .before .before .before .field .ensures) (c .before .before .before .before .before .before .before .before .before .before .before .before .optional-control .ensures) (c .before .before .before .before .optional-reset .ensures)) (then-done (c .before .before .before .before .before .before .before .before .before .before .before .before .before .before .before .before .before .before .before .bit-expression .ensures s m) _ (ap emitted (c .before .before .before .before .before .before .before .before .before .before .before .before .before .before .before .r .given .1)) (then-done (c .before .before .before .before .before .before .before .before .before .before .with-enable .ensures s m) _ (ap emitted (c .before .before .before .before .before .before .r2 .given .1)) (c .before .before .with-reset .ensures s m)))
+returns-3 c = λ s m. wrote-as (next-is (wiresOf (c .before .before .before .before .before .before .before .before .before .before .before .before .before .before .before .before .before .before .before .before .before .before .before .before .before .before .args .wires .now) (c .before .before .before .before .before .before .before .before .before .before .before .before .before .before .before .before .before .before .before .before .before .before .before .before .before .before .args .places .now)) (c .before .before .before .before .before .before .before .before .before .before .before .before .before .before .before .before .before .before .before .before .before .before .before .before .before .before .args .words .now) (c .before .before .before .before .before .before .before .before .before .before .before .before .before .before .before .before .before .before .before .before .before .before .before .before .before .before .args .at) (c .before .before .before .before .before .before .before .before .before .before .before .before .before .before .before .before .before .before .before .before .bit-at .ensures) (c .before .before .before .before .before .before .before .before .before .before .before .before .before .field .ensures) (c .before .before .before .before .before .before .before .before .before .before .before .before .optional-control .ensures) (c .before .before .before .before .optional-reset .ensures)) (then-done (c .before .before .before .before .before .before .before .before .before .before .before .before .before .before .before .before .before .before .before .bit-expression .ensures s m) _ (ap emitted (c .before .before .before .before .before .before .before .before .before .before .before .before .before .before .before .r .given .1)) (then-done (c .before .before .before .before .before .before .before .before .before .before .with-enable .ensures s m) _ (ap emitted (c .before .before .before .before .before .before .r2 .given .1)) (c .before .before .with-reset .ensures s m)))
 
 pub next-bit-spec : {M : Type 1} → statement M
 next-bit-spec =

@@ -22,7 +22,7 @@ same-length-2 : tie.Need-same-length-2
 same-length-2 c = search needs
 
 returns : tie.Need-returns
-returns c = loaded (c .before .before .before .before .before .before .before .reset-bits .last .0) (membersIn (c .before .before .before .before .before .before .before .before .before .before .before .before .before .args .words .now) (c .before .before .before .before .before .before .before .before .before .before .before .before .before .args .bank-of .now) (c .before .before .before .before .before .before .before .before .before .before .before .before .before .args .scan)) (omega (arith, c .before .before .before .before .before .before .before .before .before .before .before .before .before .pre .0, c .before .before .before .before .before .before .before .reset-bits .kept .0)) (c .before .before .before .before .before .before .before .reset-bits .ensures) (c .before .before .concat-parts .ensures)
+returns c = loaded (c .before .before .before .before .before .before .before .reset-bits .last .0) (membersIn (c .before .before .before .before .before .before .before .before .before .before .before .before .before .args .words .now) (c .before .before .before .before .before .before .before .before .before .before .before .before .before .args .banks .now) (c .before .before .before .before .before .before .before .before .before .before .before .before .before .args .scan)) (omega (arith, c .before .before .before .before .before .before .before .before .before .before .before .before .before .pre .0, c .before .before .before .before .before .before .before .reset-bits .kept .0)) (c .before .before .before .before .before .before .before .reset-bits .ensures) (c .before .before .concat-parts .ensures)
 
 pub reset-value-spec : {M : Type 1} → statement M
 reset-value-spec =

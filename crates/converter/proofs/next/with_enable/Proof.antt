@@ -19,7 +19,7 @@ enum-told : tie.Need-enum-told
 enum-told c = search needs
 
 returns : tie.Need-returns
-returns c = λ s m. wrote-as (enable-none (wiresOf (c .before .before .before .before .before .args .signals .now) (c .before .before .before .before .before .args .places .now)) (c .before .before .before .before .before .args .output) (c .enum-told .given .1) (c .before .before .before .before .before .args .next .0)) wrote-pure
+returns c = λ s m. wrote-as (enable-none (wiresOf (c .before .before .before .before .before .args .wires .now) (c .before .before .before .before .before .args .places .now)) (c .before .before .before .before .before .args .output) (c .enum-told .given .1) (c .before .before .before .before .before .args .next .0)) wrote-pure
 
 bit-expression-requires : tie.Need-bit-expression-requires
 bit-expression-requires c κs = search needs
@@ -34,7 +34,7 @@ same-length : tie.Need-same-length
 same-length c = search needs
 
 returns-2 : tie.Need-returns-2
-returns-2 c = λ s m. wrote-as (enable-some (wiresOf (c .before .before .before .before .before .before .before .before .before .before .before .before .args .signals .now) (c .before .before .before .before .before .before .before .before .before .before .before .before .args .places .now)) (c .before .before .before .before .before .before .before .before .before .before .before .before .args .output) (c .before .before .before .before .before .before .before .enable .given .1) (c .before .before .before .before .before .before .before .before .before .before .before .before .args .next .0)) (then-same (c .before .before .before .before .bit-expression .ensures s m) _ (ap emitted (c .enum-told2 .given .1)))
+returns-2 c = λ s m. wrote-as (enable-some (wiresOf (c .before .before .before .before .before .before .before .before .before .before .before .before .args .wires .now) (c .before .before .before .before .before .before .before .before .before .before .before .before .args .places .now)) (c .before .before .before .before .before .before .before .before .before .before .before .before .args .output) (c .before .before .before .before .before .before .before .enable .given .1) (c .before .before .before .before .before .before .before .before .before .before .before .before .args .next .0)) (then-same (c .before .before .before .before .bit-expression .ensures s m) _ (ap emitted (c .enum-told2 .given .1)))
 
 asserted-expression-requires : tie.Need-asserted-expression-requires
 asserted-expression-requires c κs = search needs
@@ -49,7 +49,7 @@ same-length-2 : tie.Need-same-length-2
 same-length-2 c = search needs
 
 returns-3 : tie.Need-returns-3
-returns-3 c = λ s m. wrote-as (enable-some (wiresOf (c .before .before .before .before .before .before .before .before .before .before .before .before .before .before .before .before .before .before .before .args .signals .now) (c .before .before .before .before .before .before .before .before .before .before .before .before .before .before .before .before .before .before .before .args .places .now)) (c .before .before .before .before .before .before .before .before .before .before .before .before .before .before .before .before .before .before .before .args .output) (c .before .before .before .before .before .before .before .before .before .before .before .before .before .before .enable .given .1) (c .before .before .before .before .before .before .before .before .before .before .before .before .before .before .before .before .before .before .before .args .next .0)) (then-done (c .before .before .before .before .before .before .before .before .before .before .before .bit-expression .ensures s m) _ (ap emitted (c .before .before .before .before .before .before .before .r .given .1)) (then-same (c .before .before .before .before .asserted-expression .ensures s m) _ (ap emitted (c .enum-told3 .given .1))))
+returns-3 c = λ s m. wrote-as (enable-some (wiresOf (c .before .before .before .before .before .before .before .before .before .before .before .before .before .before .before .before .before .before .before .args .wires .now) (c .before .before .before .before .before .before .before .before .before .before .before .before .before .before .before .before .before .before .before .args .places .now)) (c .before .before .before .before .before .before .before .before .before .before .before .before .before .before .before .before .before .before .before .args .output) (c .before .before .before .before .before .before .before .before .before .before .before .before .before .before .enable .given .1) (c .before .before .before .before .before .before .before .before .before .before .before .before .before .before .before .before .before .before .before .args .next .0)) (then-done (c .before .before .before .before .before .before .before .before .before .before .before .bit-expression .ensures s m) _ (ap emitted (c .before .before .before .before .before .before .before .r .given .1)) (then-same (c .before .before .before .before .asserted-expression .ensures s m) _ (ap emitted (c .enum-told3 .given .1))))
 
 mux-requires : tie.Need-mux-requires
 mux-requires c κs = search needs
@@ -58,7 +58,7 @@ same-length-3 : tie.Need-same-length-3
 same-length-3 c = search needs
 
 returns-4 : tie.Need-returns-4
-returns-4 c = λ s m. wrote-as (enable-some (wiresOf (c .before .before .before .before .before .before .before .before .before .before .before .before .before .before .before .before .before .before .before .before .before .before .before .before .args .signals .now) (c .before .before .before .before .before .before .before .before .before .before .before .before .before .before .before .before .before .before .before .before .before .before .before .before .args .places .now)) (c .before .before .before .before .before .before .before .before .before .before .before .before .before .before .before .before .before .before .before .before .before .before .before .before .args .output) (c .before .before .before .before .before .before .before .before .before .before .before .before .before .before .before .before .before .before .before .enable .given .1) (c .before .before .before .before .before .before .before .before .before .before .before .before .before .before .before .before .before .before .before .before .before .before .before .before .args .next .0)) (then-done (c .before .before .before .before .before .before .before .before .before .before .before .before .before .before .before .before .bit-expression .ensures s m) _ (ap emitted (c .before .before .before .before .before .before .before .before .before .before .before .before .r .given .1)) (then-done (c .before .before .before .before .before .before .before .before .before .asserted-expression .ensures s m) _ (ap emitted (c .before .before .before .before .before .r2 .given .1)) (c .before .before .mux .ensures s m)))
+returns-4 c = λ s m. wrote-as (enable-some (wiresOf (c .before .before .before .before .before .before .before .before .before .before .before .before .before .before .before .before .before .before .before .before .before .before .before .before .args .wires .now) (c .before .before .before .before .before .before .before .before .before .before .before .before .before .before .before .before .before .before .before .before .before .before .before .before .args .places .now)) (c .before .before .before .before .before .before .before .before .before .before .before .before .before .before .before .before .before .before .before .before .before .before .before .before .args .output) (c .before .before .before .before .before .before .before .before .before .before .before .before .before .before .before .before .before .before .before .enable .given .1) (c .before .before .before .before .before .before .before .before .before .before .before .before .before .before .before .before .before .before .before .before .before .before .before .before .args .next .0)) (then-done (c .before .before .before .before .before .before .before .before .before .before .before .before .before .before .before .before .bit-expression .ensures s m) _ (ap emitted (c .before .before .before .before .before .before .before .before .before .before .before .before .r .given .1)) (then-done (c .before .before .before .before .before .before .before .before .before .asserted-expression .ensures s m) _ (ap emitted (c .before .before .before .before .before .r2 .given .1)) (c .before .before .mux .ensures s m)))
 
 pub with-enable-spec : {M : Type 1} → statement M
 with-enable-spec =

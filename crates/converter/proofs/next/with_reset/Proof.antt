@@ -19,10 +19,10 @@ enum-told : tie.Need-enum-told
 enum-told c = search needs
 
 returns : tie.Need-returns
-returns c = λ s m. wrote-as (reset-none (wiresOf (c .before .before .before .before .before .args .signals .now) (c .before .before .before .before .before .args .places .now)) (c .enum-told .given .1) (c .before .before .before .before .before .args .next .0)) wrote-pure
+returns c = λ s m. wrote-as (reset-none (wiresOf (c .before .before .before .before .before .args .wires .now) (c .before .before .before .before .before .args .places .now)) (c .enum-told .given .1) (c .before .before .before .before .before .args .next .0)) wrote-pure
 
 returns-2 : tie.Need-returns-2
-returns-2 c = λ s m. wrote-as (reset-async (wiresOf (c .before .before .before .before .before .before .before .before .args .signals .now) (c .before .before .before .before .before .before .before .before .args .places .now)) (c .before .before .before .reset .given .1) (c .if1 .taken) (c .before .before .before .before .before .before .before .before .args .next .0)) wrote-pure
+returns-2 c = λ s m. wrote-as (reset-async (wiresOf (c .before .before .before .before .before .before .before .before .args .wires .now) (c .before .before .before .before .before .before .before .before .args .places .now)) (c .before .before .before .reset .given .1) (c .if1 .taken) (c .before .before .before .before .before .before .before .before .args .next .0)) wrote-pure
 
 asserted-expression-requires : tie.Need-asserted-expression-requires
 asserted-expression-requires c κs = search needs
@@ -37,7 +37,7 @@ same-length : tie.Need-same-length
 same-length c = search needs
 
 returns-3 : tie.Need-returns-3
-returns-3 c = λ s m. wrote-as (reset-sync (wiresOf (c .before .before .before .before .before .before .before .before .before .before .before .before .before .before .args .signals .now) (c .before .before .before .before .before .before .before .before .before .before .before .before .before .before .args .places .now)) (c .before .before .before .before .before .before .before .before .before .reset .given .1) (c .before .before .before .before .before .before .if1 .left) refl (c .before .before .before .before .before .before .before .before .before .before .before .before .before .before .args .next .0)) (then-same (c .before .before .before .before .asserted-expression .ensures s m) _ (ap emitted (c .enum-told2 .given .1)))
+returns-3 c = λ s m. wrote-as (reset-sync (wiresOf (c .before .before .before .before .before .before .before .before .before .before .before .before .before .before .args .wires .now) (c .before .before .before .before .before .before .before .before .before .before .before .before .before .before .args .places .now)) (c .before .before .before .before .before .before .before .before .before .reset .given .1) (c .before .before .before .before .before .before .if1 .left) refl (c .before .before .before .before .before .before .before .before .before .before .before .before .before .before .args .next .0)) (then-same (c .before .before .before .before .asserted-expression .ensures s m) _ (ap emitted (c .enum-told2 .given .1)))
 
 reset-bit-requires : tie.Need-reset-bit-requires
 reset-bit-requires c κs = search needs
@@ -49,7 +49,7 @@ same-length-2 : tie.Need-same-length-2
 same-length-2 c = search needs
 
 returns-4 : tie.Need-returns-4
-returns-4 c = λ s m. wrote-as (reset-sync (wiresOf (c .before .before .before .before .before .before .before .before .before .before .before .before .before .before .before .before .before .before .before .before .args .signals .now) (c .before .before .before .before .before .before .before .before .before .before .before .before .before .before .before .before .before .before .before .before .args .places .now)) (c .before .before .before .before .before .before .before .before .before .before .before .before .before .before .before .reset .given .1) (c .before .before .before .before .before .before .before .before .before .before .before .before .if1 .left) (c .before .before .before .reset-bit .ensures) (c .before .before .before .before .before .before .before .before .before .before .before .before .before .before .before .before .before .before .before .before .args .next .0)) (then-done (c .before .before .before .before .before .before .before .before .before .before .asserted-expression .ensures s m) _ (ap emitted (c .before .before .before .before .before .before .e .given .1)) (c .before .before .mux .ensures s m))
+returns-4 c = λ s m. wrote-as (reset-sync (wiresOf (c .before .before .before .before .before .before .before .before .before .before .before .before .before .before .before .before .before .before .before .before .args .wires .now) (c .before .before .before .before .before .before .before .before .before .before .before .before .before .before .before .before .before .before .before .before .args .places .now)) (c .before .before .before .before .before .before .before .before .before .before .before .before .before .before .before .reset .given .1) (c .before .before .before .before .before .before .before .before .before .before .before .before .if1 .left) (c .before .before .before .reset-bit .ensures) (c .before .before .before .before .before .before .before .before .before .before .before .before .before .before .before .before .before .before .before .before .args .next .0)) (then-done (c .before .before .before .before .before .before .before .before .before .before .asserted-expression .ensures s m) _ (ap emitted (c .before .before .before .before .before .before .e .given .1)) (c .before .before .mux .ensures s m))
 
 pub with-reset-spec : {M : Type 1} → statement M
 with-reset-spec =

@@ -16,7 +16,7 @@ field-requires : tie.Need-field-requires
 field-requires c κs = search needs
 
 returns : tie.Need-returns
-returns c = port-other (wiresOf (c .before .before .before .before .before .before .before .before .args .signals .now) (c .before .before .before .before .before .before .before .before .args .places .now)) (c .before .before .before .before .before .before .before .before .args .p) (c .before .before .before .before .before .before .before .before .args .words .now) (c .before .before .before .before .before .before .before .before .args .at) (c .before .field .ensures) (c .if1 .taken) (c .before .before .before .before .before .before .before .before .args .parts .now) (c .before .before .before .before .before .before .before .before .args .exprs .now) (c .before .before .before .before .before .before .before .before .args .stmts .now) (c .before .before .before .before .before .before .before .before .args .t)
+returns c = port-other (wiresOf (c .before .before .before .before .before .before .before .before .args .wires .now) (c .before .before .before .before .before .before .before .before .args .places .now)) (c .before .before .before .before .before .before .before .before .args .p) (c .before .before .before .before .before .before .before .before .args .words .now) (c .before .before .before .before .before .before .before .before .args .at) (c .before .field .ensures) (c .if1 .taken) (c .before .before .before .before .before .before .before .before .args .parts .now) (c .before .before .before .before .before .before .before .before .args .exprs .now) (c .before .before .before .before .before .before .before .before .args .stmts .now) (c .before .before .before .before .before .before .before .before .args .t)
 
 field-requires-2 : tie.Need-field-requires-2
 field-requires-2 c κs = search needs
@@ -46,7 +46,7 @@ same-length-2 : tie.Need-same-length-2
 same-length-2 c = search needs
 
 returns-2 : tie.Need-returns-2
-returns-2 c = port-stop (wiresOf (c .before .before .before .before .before .before .before .before .before .before .before .before .before .before .before .before .before .before .before .before .before .args .signals .now) (c .before .before .before .before .before .before .before .before .before .before .before .before .before .before .before .before .before .before .before .before .before .args .places .now)) (c .before .before .before .before .before .before .before .before .before .before .before .before .before .before .before .before .before .before .before .before .before .args .p) (c .before .before .before .before .before .before .before .before .before .before .before .before .before .before .before .before .before .before .before .before .before .args .words .now) (c .before .before .before .before .before .before .before .before .before .before .before .before .before .before .before .before .before .before .before .before .before .args .at) (c .before .before .before .before .before .before .before .before .before .before .before .before .before .before .field .ensures) (c .before .before .before .before .before .before .before .before .before .before .before .before .before .if1 .left) (c .before .before .before .before .before .before .before .before .before .before .before .before .field2 .ensures) (c .before .before .before .before .before .before .before .before .before .before .before .ahead .ensures) (c .before .before .before .before .before .before .before .before .wide .ensures) (c .before .before .before .before .before .before .before .before .before .before .before .before .before .before .before .before .before .before .before .before .before .args .parts .now) (c .before .before .before .before .before .before .before .bits-expression .ensures) (c .stopped .result) (c .before .enum-told .given .1) (c .stopped .ensures)
+returns-2 c = port-stop (wiresOf (c .before .before .before .before .before .before .before .before .before .before .before .before .before .before .before .before .before .before .before .before .before .args .wires .now) (c .before .before .before .before .before .before .before .before .before .before .before .before .before .before .before .before .before .before .before .before .before .args .places .now)) (c .before .before .before .before .before .before .before .before .before .before .before .before .before .before .before .before .before .before .before .before .before .args .p) (c .before .before .before .before .before .before .before .before .before .before .before .before .before .before .before .before .before .before .before .before .before .args .words .now) (c .before .before .before .before .before .before .before .before .before .before .before .before .before .before .before .before .before .before .before .before .before .args .at) (c .before .before .before .before .before .before .before .before .before .before .before .before .before .before .field .ensures) (c .before .before .before .before .before .before .before .before .before .before .before .before .before .if1 .left) (c .before .before .before .before .before .before .before .before .before .before .before .before .field2 .ensures) (c .before .before .before .before .before .before .before .before .before .before .before .ahead .ensures) (c .before .before .before .before .before .before .before .before .wide .ensures) (c .before .before .before .before .before .before .before .before .before .before .before .before .before .before .before .before .before .before .before .before .before .args .parts .now) (c .before .before .before .before .before .before .before .bits-expression .ensures) (c .stopped .result) (c .before .enum-told .given .1) (c .stopped .ensures)
 
 assign-requires : tie.Need-assign-requires
 assign-requires c κs = search needs
@@ -61,7 +61,7 @@ same-length-5 : tie.Need-same-length-5
 same-length-5 c = search needs
 
 returns-3 : tie.Need-returns-3
-returns-3 c = port-done (wiresOf (c .before .before .before .before .before .before .before .before .before .before .before .before .before .before .before .before .before .before .before .before .before .before .before .before .before .args .signals .now) (c .before .before .before .before .before .before .before .before .before .before .before .before .before .before .before .before .before .before .before .before .before .before .before .before .before .args .places .now)) (c .before .before .before .before .before .before .before .before .before .before .before .before .before .before .before .before .before .before .before .before .before .before .before .before .before .args .p) (c .before .before .before .before .before .before .before .before .before .before .before .before .before .before .before .before .before .before .before .before .before .before .before .before .before .args .words .now) (c .before .before .before .before .before .before .before .before .before .before .before .before .before .before .before .before .before .before .before .before .before .before .before .before .before .args .at) (c .before .before .before .before .before .before .before .before .before .before .before .before .before .before .before .before .before .before .field .ensures) (c .before .before .before .before .before .before .before .before .before .before .before .before .before .before .before .before .before .if1 .left) (c .before .before .before .before .before .before .before .before .before .before .before .before .before .before .before .before .field2 .ensures) (c .before .before .before .before .before .before .before .before .before .before .before .before .before .before .before .ahead .ensures) (c .before .before .before .before .before .before .before .before .before .before .before .before .wide .ensures) (c .before .before .before .before .before .before .before .before .before .before .before .before .before .before .before .before .before .before .before .before .before .before .before .before .before .args .parts .now) (c .before .before .before .before .before .before .before .before .before .before .before .bits-expression .ensures) (c .before .before .assign .result) (c .before .before .assign .last .0) (c .before .before .before .before .before .r .given .1) (c .before .before .assign .ensures)
+returns-3 c = port-done (wiresOf (c .before .before .before .before .before .before .before .before .before .before .before .before .before .before .before .before .before .before .before .before .before .before .before .before .before .args .wires .now) (c .before .before .before .before .before .before .before .before .before .before .before .before .before .before .before .before .before .before .before .before .before .before .before .before .before .args .places .now)) (c .before .before .before .before .before .before .before .before .before .before .before .before .before .before .before .before .before .before .before .before .before .before .before .before .before .args .p) (c .before .before .before .before .before .before .before .before .before .before .before .before .before .before .before .before .before .before .before .before .before .before .before .before .before .args .words .now) (c .before .before .before .before .before .before .before .before .before .before .before .before .before .before .before .before .before .before .before .before .before .before .before .before .before .args .at) (c .before .before .before .before .before .before .before .before .before .before .before .before .before .before .before .before .before .before .field .ensures) (c .before .before .before .before .before .before .before .before .before .before .before .before .before .before .before .before .before .if1 .left) (c .before .before .before .before .before .before .before .before .before .before .before .before .before .before .before .before .field2 .ensures) (c .before .before .before .before .before .before .before .before .before .before .before .before .before .before .before .ahead .ensures) (c .before .before .before .before .before .before .before .before .before .before .before .before .wide .ensures) (c .before .before .before .before .before .before .before .before .before .before .before .before .before .before .before .before .before .before .before .before .before .before .before .before .before .args .parts .now) (c .before .before .before .before .before .before .before .before .before .before .before .bits-expression .ensures) (c .before .before .assign .result) (c .before .before .assign .last .0) (c .before .before .before .before .before .r .given .1) (c .before .before .assign .ensures)
 
 pub emit-output-spec : {M : Type 1} → statement M
 emit-output-spec =

@@ -22,7 +22,7 @@ enum-told : tie.Need-enum-told
 enum-told c = search needs
 
 returns : tie.Need-returns
-returns c = λ s m. wrote-as (bank-none (wiresOf (c .before .before .before .before .before .before .before .before .args .signals .now) (c .before .before .before .before .before .before .before .before .args .places .now)) (c .before .before .before .before .before .before .before .before .args .constants) (c .enum-told .given .1) (membersIn (c .before .before .before .before .before .before .before .before .args .words .now) (c .before .before .before .before .before .before .before .before .args .bank-of .now) (c .before .before .before .before .before .before .before .before .args .scan))) wrote-pure
+returns c = λ s m. wrote-as (bank-none (wiresOf (c .before .before .before .before .before .before .before .before .args .wires .now) (c .before .before .before .before .before .before .before .before .args .places .now)) (c .before .before .before .before .before .before .before .before .args .constants) (c .enum-told .given .1) (membersIn (c .before .before .before .before .before .before .before .before .args .words .now) (c .before .before .before .before .before .before .before .before .args .banks .now) (c .before .before .before .before .before .before .before .before .args .scan))) wrote-pure
 
 reset-value-requires : tie.Need-reset-value-requires
 reset-value-requires c κs = search needs
@@ -43,7 +43,7 @@ same-length-2 : tie.Need-same-length-2
 same-length-2 c = search needs
 
 returns-2 : tie.Need-returns-2
-returns-2 c = λ s m. wrote-as (bank-some (wiresOf (c .before .before .before .before .before .before .before .before .before .before .before .before .before .before .before .before .before .before .before .args .signals .now) (c .before .before .before .before .before .before .before .before .before .before .before .before .before .before .before .before .before .before .before .args .places .now)) (c .before .before .before .before .before .before .before .before .before .before .before .before .before .before .before .before .before .before .before .args .constants) (c .before .before .before .before .before .before .before .before .before .before .before .reset .given .1) (membersIn (c .before .before .before .before .before .before .before .before .before .before .before .before .before .before .before .before .before .before .before .args .words .now) (c .before .before .before .before .before .before .before .before .before .before .before .before .before .before .before .before .before .before .before .args .bank-of .now) (c .before .before .before .before .before .before .before .before .before .before .before .before .before .before .before .before .before .before .before .args .scan))) (then-changed unset (c .before .before .before .before .before .before .before .reset-value .ensures s m) _ (ap emitted (c .before .enum-told2 .given .1)) (c .unvalued .ensures))
+returns-2 c = λ s m. wrote-as (bank-some (wiresOf (c .before .before .before .before .before .before .before .before .before .before .before .before .before .before .before .before .before .before .before .args .wires .now) (c .before .before .before .before .before .before .before .before .before .before .before .before .before .before .before .before .before .before .before .args .places .now)) (c .before .before .before .before .before .before .before .before .before .before .before .before .before .before .before .before .before .before .before .args .constants) (c .before .before .before .before .before .before .before .before .before .before .before .reset .given .1) (membersIn (c .before .before .before .before .before .before .before .before .before .before .before .before .before .before .before .before .before .before .before .args .words .now) (c .before .before .before .before .before .before .before .before .before .before .before .before .before .before .before .before .before .before .before .args .banks .now) (c .before .before .before .before .before .before .before .before .before .before .before .before .before .before .before .before .before .before .before .args .scan))) (then-changed unset (c .before .before .before .before .before .before .before .reset-value .ensures s m) _ (ap emitted (c .before .enum-told2 .given .1)) (c .unvalued .ensures))
 
 bit-signal-requires : tie.Need-bit-signal-requires
 bit-signal-requires c κs = search needs
@@ -61,7 +61,7 @@ same-length-4 : tie.Need-same-length-4
 same-length-4 c = search needs
 
 returns-3 : tie.Need-returns-3
-returns-3 c = λ s m. wrote-as (bank-some (wiresOf (c .before .before .before .before .before .before .before .before .before .before .before .before .before .before .before .before .before .before .before .before .before .before .before .args .signals .now) (c .before .before .before .before .before .before .before .before .before .before .before .before .before .before .before .before .before .before .before .before .before .before .before .args .places .now)) (c .before .before .before .before .before .before .before .before .before .before .before .before .before .before .before .before .before .before .before .before .before .before .before .args .constants) (c .before .before .before .before .before .before .before .before .before .before .before .before .before .before .before .reset .given .1) (membersIn (c .before .before .before .before .before .before .before .before .before .before .before .before .before .before .before .before .before .before .before .before .before .before .before .args .words .now) (c .before .before .before .before .before .before .before .before .before .before .before .before .before .before .before .before .before .before .before .before .before .before .before .args .bank-of .now) (c .before .before .before .before .before .before .before .before .before .before .before .before .before .before .before .before .before .before .before .before .before .before .before .args .scan))) (then-done (c .before .before .before .before .before .before .before .before .before .before .before .reset-value .ensures s m) _ (ap emitted (c .before .before .before .before .before .r .given .1)) (wrote-as (reads-then (c .before .before .before .bit-signal .ensures) _ (c .before .s .given .1)) wrote-pure))
+returns-3 c = λ s m. wrote-as (bank-some (wiresOf (c .before .before .before .before .before .before .before .before .before .before .before .before .before .before .before .before .before .before .before .before .before .before .before .args .wires .now) (c .before .before .before .before .before .before .before .before .before .before .before .before .before .before .before .before .before .before .before .before .before .before .before .args .places .now)) (c .before .before .before .before .before .before .before .before .before .before .before .before .before .before .before .before .before .before .before .before .before .before .before .args .constants) (c .before .before .before .before .before .before .before .before .before .before .before .before .before .before .before .reset .given .1) (membersIn (c .before .before .before .before .before .before .before .before .before .before .before .before .before .before .before .before .before .before .before .before .before .before .before .args .words .now) (c .before .before .before .before .before .before .before .before .before .before .before .before .before .before .before .before .before .before .before .before .before .before .before .args .banks .now) (c .before .before .before .before .before .before .before .before .before .before .before .before .before .before .before .before .before .before .before .before .before .before .before .args .scan))) (then-done (c .before .before .before .before .before .before .before .before .before .before .before .reset-value .ensures s m) _ (ap emitted (c .before .before .before .before .before .r .given .1)) (wrote-as (reads-then (c .before .before .before .bit-signal .ensures) _ (c .before .s .given .1)) wrote-pure))
 
 same-length-5 : tie.Need-same-length-5
 same-length-5 c = search needs
@@ -70,7 +70,7 @@ same-length-6 : tie.Need-same-length-6
 same-length-6 c = search needs
 
 returns-4 : tie.Need-returns-4
-returns-4 c = λ s m. wrote-as (bank-some (wiresOf (c .before .before .before .before .before .before .before .before .before .before .before .before .before .before .before .before .before .before .before .before .before .before .before .args .signals .now) (c .before .before .before .before .before .before .before .before .before .before .before .before .before .before .before .before .before .before .before .before .before .before .before .args .places .now)) (c .before .before .before .before .before .before .before .before .before .before .before .before .before .before .before .before .before .before .before .before .before .before .before .args .constants) (c .before .before .before .before .before .before .before .before .before .before .before .before .before .before .before .reset .given .1) (membersIn (c .before .before .before .before .before .before .before .before .before .before .before .before .before .before .before .before .before .before .before .before .before .before .before .args .words .now) (c .before .before .before .before .before .before .before .before .before .before .before .before .before .before .before .before .before .before .before .before .before .before .before .args .bank-of .now) (c .before .before .before .before .before .before .before .before .before .before .before .before .before .before .before .before .before .before .before .before .before .before .before .args .scan))) (then-done (c .before .before .before .before .before .before .before .before .before .before .before .reset-value .ensures s m) _ (ap emitted (c .before .before .before .before .before .r .given .1)) (wrote-as (reads-stop (c .before .before .before .bit-signal .ensures) _ (c .before .y .given .1)) wrote-refuse))
+returns-4 c = λ s m. wrote-as (bank-some (wiresOf (c .before .before .before .before .before .before .before .before .before .before .before .before .before .before .before .before .before .before .before .before .before .before .before .args .wires .now) (c .before .before .before .before .before .before .before .before .before .before .before .before .before .before .before .before .before .before .before .before .before .before .before .args .places .now)) (c .before .before .before .before .before .before .before .before .before .before .before .before .before .before .before .before .before .before .before .before .before .before .before .args .constants) (c .before .before .before .before .before .before .before .before .before .before .before .before .before .before .before .reset .given .1) (membersIn (c .before .before .before .before .before .before .before .before .before .before .before .before .before .before .before .before .before .before .before .before .before .before .before .args .words .now) (c .before .before .before .before .before .before .before .before .before .before .before .before .before .before .before .before .before .before .before .before .before .before .before .args .banks .now) (c .before .before .before .before .before .before .before .before .before .before .before .before .before .before .before .before .before .before .before .before .before .before .before .args .scan))) (then-done (c .before .before .before .before .before .before .before .before .before .before .before .reset-value .ensures s m) _ (ap emitted (c .before .before .before .before .before .r .given .1)) (wrote-as (reads-stop (c .before .before .before .bit-signal .ensures) _ (c .before .y .given .1)) wrote-refuse))
 
 pub bank-reset-spec : {M : Type 1} → statement M
 bank-reset-spec =

@@ -35,10 +35,10 @@ same-length : tie.Need-same-length
 same-length c = search needs
 
 returns : tie.Need-returns
-returns c = λ s e. wrote-as (clock-is (wiresOf (c .before .before .before .before .before .before .before .before .before .before .before .before .before .before .args .signals .now) (c .before .before .before .before .before .before .before .before .before .before .before .before .before .before .args .places .now)) (c .before .before .before .before .before .before .before .before .before .before .before .before .before .before .args .constants) (c .before .before .before .before .before .before .before .before .before .before .before .before .before .before .args .words .now) (c .before .before .before .before .before .before .before .before .before .before .before .before .before .before .args .at) (c .before .before .before .before .before .before .before .before .bit-at .ensures) (c .before .before .before .before .before .before .before .before .before .field .ensures) (c .before .before .before .before .before .before .before .before .before .before .before .before .before .before .args .target .0) (c .before .before .before .before .before .before .before .before .before .before .before .before .before .before .args .next .0) (resetOf (c .before .before .before .before .before .before .before .before .before .before .before .before .before .before .args .reset)) ∙ reads-then (c .before .before .before .before .before .before .before .bit-signal .ensures) _ (c .before .before .before .before .before .clock .given .1)) (c .before .before .register .ensures s e)
+returns c = λ s e. wrote-as (clock-is (wiresOf (c .before .before .before .before .before .before .before .before .before .before .before .before .before .before .args .wires .now) (c .before .before .before .before .before .before .before .before .before .before .before .before .before .before .args .places .now)) (c .before .before .before .before .before .before .before .before .before .before .before .before .before .before .args .constants) (c .before .before .before .before .before .before .before .before .before .before .before .before .before .before .args .words .now) (c .before .before .before .before .before .before .before .before .before .before .before .before .before .before .args .at) (c .before .before .before .before .before .before .before .before .bit-at .ensures) (c .before .before .before .before .before .before .before .before .before .field .ensures) (c .before .before .before .before .before .before .before .before .before .before .before .before .before .before .args .target .0) (c .before .before .before .before .before .before .before .before .before .before .before .before .before .before .args .next .0) (resetOf (c .before .before .before .before .before .before .before .before .before .before .before .before .before .before .args .reset)) ∙ reads-then (c .before .before .before .before .before .before .before .bit-signal .ensures) _ (c .before .before .before .before .before .clock .given .1)) (c .before .before .register .ensures s e)
 
 returns-2 : tie.Need-returns-2
-returns-2 c = λ s e. wrote-as (clock-is (wiresOf (c .before .before .before .before .before .before .before .before .before .before .args .signals .now) (c .before .before .before .before .before .before .before .before .before .before .args .places .now)) (c .before .before .before .before .before .before .before .before .before .before .args .constants) (c .before .before .before .before .before .before .before .before .before .before .args .words .now) (c .before .before .before .before .before .before .before .before .before .before .args .at) (c .before .before .before .before .bit-at .ensures) (c .before .before .before .before .before .field .ensures) (c .before .before .before .before .before .before .before .before .before .before .args .target .0) (c .before .before .before .before .before .before .before .before .before .before .args .next .0) (resetOf (c .before .before .before .before .before .before .before .before .before .before .args .reset)) ∙ reads-stop (c .before .before .before .bit-signal .ensures) _ (c .before .x .given .1)) wrote-refuse
+returns-2 c = λ s e. wrote-as (clock-is (wiresOf (c .before .before .before .before .before .before .before .before .before .before .args .wires .now) (c .before .before .before .before .before .before .before .before .before .before .args .places .now)) (c .before .before .before .before .before .before .before .before .before .before .args .constants) (c .before .before .before .before .before .before .before .before .before .before .args .words .now) (c .before .before .before .before .before .before .before .before .before .before .args .at) (c .before .before .before .before .bit-at .ensures) (c .before .before .before .before .before .field .ensures) (c .before .before .before .before .before .before .before .before .before .before .args .target .0) (c .before .before .before .before .before .before .before .before .before .before .args .next .0) (resetOf (c .before .before .before .before .before .before .before .before .before .before .args .reset)) ∙ reads-stop (c .before .before .before .bit-signal .ensures) _ (c .before .x .given .1)) wrote-refuse
 
 pub clock-bank-spec : {M : Type 1} → statement M
 clock-bank-spec =

@@ -60,7 +60,7 @@ same-length-3 : tie.Need-same-length-3
 same-length-3 c = search needs
 
 returns : tie.Need-returns
-returns c = cell-kind (c .before .before .before .before .before .before .before .before .before .before .before .before .before .before .before .before .before .args .words .now) (c .before .before .before .before .before .before .before .before .before .before .before .before .before .before .before .before .before .args .at) (given (c .before .before .before .before .before .before .before .before .before .before .before .before .before .before .before .before .before .args .list .now) (c .before .before .before .before .before .before .before .before .before .before .before .before .before .before .before .before .before .args .signals .now) (c .before .before .before .before .before .before .before .before .before .before .before .before .before .before .before .before .before .args .places .now) (c .before .before .before .before .before .before .before .before .before .before .before .before .before .before .before .before .before .args .t)) (c .before .before .before .before .before .before .before .before .before .before .before .before .before .before .before .before .before .args .owner) (gave (c .before .before .before .before .before .before .reserve-scalar .result) (c .before .before .before .before .before .before .reserve-scalar .last .0) (c .before .before .before .before .before .before .reserve-scalar .last .1 .0) (c .before .before .before .before .before .before .reserve-scalar .last .1 .1 .0)) (c .before .before .before .before .before .before .before .before .before .before .before .before .field .result) (c .before .before .before .before .before .before .before .before .before .before .before .before .field .ensures) (kind-as (c .before .before .before .before .before .before .before .before .before .before .before .before .before .before .before .before .before .args .words .now) (c .before .before .before .before .before .before .before .before .before .before .before .before .before .before .before .before .before .args .at) (given (c .before .before .before .before .before .before .before .before .before .before .before .before .before .before .before .before .before .args .list .now) (c .before .before .before .before .before .before .before .before .before .before .before .before .before .before .before .before .before .args .signals .now) (c .before .before .before .before .before .before .before .before .before .before .before .before .before .before .before .before .before .args .places .now) (c .before .before .before .before .before .before .before .before .before .before .before .before .before .before .before .before .before .args .t)) (c .before .before .before .before .before .before .before .before .before .before .before .before .before .before .before .before .before .args .owner) (gave (c .before .before .before .before .before .before .reserve-scalar .result) (c .before .before .before .before .before .before .reserve-scalar .last .0) (c .before .before .before .before .before .before .reserve-scalar .last .1 .0) (c .before .before .before .before .before .before .reserve-scalar .last .1 .1 .0)) 0 (c .before .before .before .before .before .before .before .before .before .before .before .match .keys1) (cell-lut4 (c .before .before .before .before .before .before .before .before .before .before .before .before .before .before .before .before .before .args .words .now) (c .before .before .before .before .before .before .before .before .before .before .before .before .before .before .before .before .before .args .at) (given (c .before .before .before .before .before .before .before .before .before .before .before .before .before .before .before .before .before .args .list .now) (c .before .before .before .before .before .before .before .before .before .before .before .before .before .before .before .before .before .args .signals .now) (c .before .before .before .before .before .before .before .before .before .before .before .before .before .before .before .before .before .args .places .now) (c .before .before .before .before .before .before .before .before .before .before .before .before .before .before .before .before .before .args .t)) (c .before .before .before .before .before .before .before .before .before .before .before .before .before .before .before .before .before .args .owner) (gave (c .before .before .before .before .before .before .reserve-scalar .result) (c .before .before .before .before .before .before .reserve-scalar .last .0) (c .before .before .before .before .before .before .reserve-scalar .last .1 .0) (c .before .before .before .before .before .before .reserve-scalar .last .1 .1 .0)) (c .before .before .before .before .before .before .before .field2 .ensures) (c .before .before .before .before .before .before .reserve-scalar .ensures)))
+returns c = cell-kind (c .before .before .before .before .before .before .before .before .before .before .before .before .before .before .before .before .before .args .words .now) (c .before .before .before .before .before .before .before .before .before .before .before .before .before .before .before .before .before .args .at) (given (c .before .before .before .before .before .before .before .before .before .before .before .before .before .before .before .before .before .args .signals .now) (c .before .before .before .before .before .before .before .before .before .before .before .before .before .before .before .before .before .args .wires .now) (c .before .before .before .before .before .before .before .before .before .before .before .before .before .before .before .before .before .args .places .now) (c .before .before .before .before .before .before .before .before .before .before .before .before .before .before .before .before .before .args .t)) (c .before .before .before .before .before .before .before .before .before .before .before .before .before .before .before .before .before .args .owner) (gave (c .before .before .before .before .before .before .reserve-scalar .result) (c .before .before .before .before .before .before .reserve-scalar .last .0) (c .before .before .before .before .before .before .reserve-scalar .last .1 .0) (c .before .before .before .before .before .before .reserve-scalar .last .1 .1 .0)) (c .before .before .before .before .before .before .before .before .before .before .before .before .field .result) (c .before .before .before .before .before .before .before .before .before .before .before .before .field .ensures) (kind-as (c .before .before .before .before .before .before .before .before .before .before .before .before .before .before .before .before .before .args .words .now) (c .before .before .before .before .before .before .before .before .before .before .before .before .before .before .before .before .before .args .at) (given (c .before .before .before .before .before .before .before .before .before .before .before .before .before .before .before .before .before .args .signals .now) (c .before .before .before .before .before .before .before .before .before .before .before .before .before .before .before .before .before .args .wires .now) (c .before .before .before .before .before .before .before .before .before .before .before .before .before .before .before .before .before .args .places .now) (c .before .before .before .before .before .before .before .before .before .before .before .before .before .before .before .before .before .args .t)) (c .before .before .before .before .before .before .before .before .before .before .before .before .before .before .before .before .before .args .owner) (gave (c .before .before .before .before .before .before .reserve-scalar .result) (c .before .before .before .before .before .before .reserve-scalar .last .0) (c .before .before .before .before .before .before .reserve-scalar .last .1 .0) (c .before .before .before .before .before .before .reserve-scalar .last .1 .1 .0)) 0 (c .before .before .before .before .before .before .before .before .before .before .before .match .keys1) (cell-lut4 (c .before .before .before .before .before .before .before .before .before .before .before .before .before .before .before .before .before .args .words .now) (c .before .before .before .before .before .before .before .before .before .before .before .before .before .before .before .before .before .args .at) (given (c .before .before .before .before .before .before .before .before .before .before .before .before .before .before .before .before .before .args .signals .now) (c .before .before .before .before .before .before .before .before .before .before .before .before .before .before .before .before .before .args .wires .now) (c .before .before .before .before .before .before .before .before .before .before .before .before .before .before .before .before .before .args .places .now) (c .before .before .before .before .before .before .before .before .before .before .before .before .before .before .before .before .before .args .t)) (c .before .before .before .before .before .before .before .before .before .before .before .before .before .before .before .before .before .args .owner) (gave (c .before .before .before .before .before .before .reserve-scalar .result) (c .before .before .before .before .before .before .reserve-scalar .last .0) (c .before .before .before .before .before .before .reserve-scalar .last .1 .0) (c .before .before .before .before .before .before .reserve-scalar .last .1 .1 .0)) (c .before .before .before .before .before .before .before .field2 .ensures) (c .before .before .before .before .before .before .reserve-scalar .ensures)))
 
 same-length-4 : tie.Need-same-length-4
 same-length-4 c = search needs
@@ -72,7 +72,7 @@ same-length-6 : tie.Need-same-length-6
 same-length-6 c = search needs
 
 returns-2 : tie.Need-returns-2
-returns-2 c = cell-kind (c .before .before .before .before .before .before .before .before .before .before .before .before .before .before .before .before .before .args .words .now) (c .before .before .before .before .before .before .before .before .before .before .before .before .before .before .before .before .before .args .at) (given (c .before .before .before .before .before .before .before .before .before .before .before .before .before .before .before .before .before .args .list .now) (c .before .before .before .before .before .before .before .before .before .before .before .before .before .before .before .before .before .args .signals .now) (c .before .before .before .before .before .before .before .before .before .before .before .before .before .before .before .before .before .args .places .now) (c .before .before .before .before .before .before .before .before .before .before .before .before .before .before .before .before .before .args .t)) (c .before .before .before .before .before .before .before .before .before .before .before .before .before .before .before .before .before .args .owner) (gave (c .before .before .before .before .before .before .reserve-scalar2 .result) (c .before .before .before .before .before .before .reserve-scalar2 .last .0) (c .before .before .before .before .before .before .reserve-scalar2 .last .1 .0) (c .before .before .before .before .before .before .reserve-scalar2 .last .1 .1 .0)) (c .before .before .before .before .before .before .before .before .before .before .before .before .field .result) (c .before .before .before .before .before .before .before .before .before .before .before .before .field .ensures) (kind-as (c .before .before .before .before .before .before .before .before .before .before .before .before .before .before .before .before .before .args .words .now) (c .before .before .before .before .before .before .before .before .before .before .before .before .before .before .before .before .before .args .at) (given (c .before .before .before .before .before .before .before .before .before .before .before .before .before .before .before .before .before .args .list .now) (c .before .before .before .before .before .before .before .before .before .before .before .before .before .before .before .before .before .args .signals .now) (c .before .before .before .before .before .before .before .before .before .before .before .before .before .before .before .before .before .args .places .now) (c .before .before .before .before .before .before .before .before .before .before .before .before .before .before .before .before .before .args .t)) (c .before .before .before .before .before .before .before .before .before .before .before .before .before .before .before .before .before .args .owner) (gave (c .before .before .before .before .before .before .reserve-scalar2 .result) (c .before .before .before .before .before .before .reserve-scalar2 .last .0) (c .before .before .before .before .before .before .reserve-scalar2 .last .1 .0) (c .before .before .before .before .before .before .reserve-scalar2 .last .1 .1 .0)) 1 (c .before .before .before .before .before .before .before .before .before .before .before .match .keys2) (cell-pfumx (c .before .before .before .before .before .before .before .before .before .before .before .before .before .before .before .before .before .args .words .now) (c .before .before .before .before .before .before .before .before .before .before .before .before .before .before .before .before .before .args .at) (given (c .before .before .before .before .before .before .before .before .before .before .before .before .before .before .before .before .before .args .list .now) (c .before .before .before .before .before .before .before .before .before .before .before .before .before .before .before .before .before .args .signals .now) (c .before .before .before .before .before .before .before .before .before .before .before .before .before .before .before .before .before .args .places .now) (c .before .before .before .before .before .before .before .before .before .before .before .before .before .before .before .before .before .args .t)) (c .before .before .before .before .before .before .before .before .before .before .before .before .before .before .before .before .before .args .owner) (gave (c .before .before .before .before .before .before .reserve-scalar2 .result) (c .before .before .before .before .before .before .reserve-scalar2 .last .0) (c .before .before .before .before .before .before .reserve-scalar2 .last .1 .0) (c .before .before .before .before .before .before .reserve-scalar2 .last .1 .1 .0)) (c .before .before .before .before .before .before .before .field3 .ensures) (c .before .before .before .before .before .before .reserve-scalar2 .ensures)))
+returns-2 c = cell-kind (c .before .before .before .before .before .before .before .before .before .before .before .before .before .before .before .before .before .args .words .now) (c .before .before .before .before .before .before .before .before .before .before .before .before .before .before .before .before .before .args .at) (given (c .before .before .before .before .before .before .before .before .before .before .before .before .before .before .before .before .before .args .signals .now) (c .before .before .before .before .before .before .before .before .before .before .before .before .before .before .before .before .before .args .wires .now) (c .before .before .before .before .before .before .before .before .before .before .before .before .before .before .before .before .before .args .places .now) (c .before .before .before .before .before .before .before .before .before .before .before .before .before .before .before .before .before .args .t)) (c .before .before .before .before .before .before .before .before .before .before .before .before .before .before .before .before .before .args .owner) (gave (c .before .before .before .before .before .before .reserve-scalar2 .result) (c .before .before .before .before .before .before .reserve-scalar2 .last .0) (c .before .before .before .before .before .before .reserve-scalar2 .last .1 .0) (c .before .before .before .before .before .before .reserve-scalar2 .last .1 .1 .0)) (c .before .before .before .before .before .before .before .before .before .before .before .before .field .result) (c .before .before .before .before .before .before .before .before .before .before .before .before .field .ensures) (kind-as (c .before .before .before .before .before .before .before .before .before .before .before .before .before .before .before .before .before .args .words .now) (c .before .before .before .before .before .before .before .before .before .before .before .before .before .before .before .before .before .args .at) (given (c .before .before .before .before .before .before .before .before .before .before .before .before .before .before .before .before .before .args .signals .now) (c .before .before .before .before .before .before .before .before .before .before .before .before .before .before .before .before .before .args .wires .now) (c .before .before .before .before .before .before .before .before .before .before .before .before .before .before .before .before .before .args .places .now) (c .before .before .before .before .before .before .before .before .before .before .before .before .before .before .before .before .before .args .t)) (c .before .before .before .before .before .before .before .before .before .before .before .before .before .before .before .before .before .args .owner) (gave (c .before .before .before .before .before .before .reserve-scalar2 .result) (c .before .before .before .before .before .before .reserve-scalar2 .last .0) (c .before .before .before .before .before .before .reserve-scalar2 .last .1 .0) (c .before .before .before .before .before .before .reserve-scalar2 .last .1 .1 .0)) 1 (c .before .before .before .before .before .before .before .before .before .before .before .match .keys2) (cell-pfumx (c .before .before .before .before .before .before .before .before .before .before .before .before .before .before .before .before .before .args .words .now) (c .before .before .before .before .before .before .before .before .before .before .before .before .before .before .before .before .before .args .at) (given (c .before .before .before .before .before .before .before .before .before .before .before .before .before .before .before .before .before .args .signals .now) (c .before .before .before .before .before .before .before .before .before .before .before .before .before .before .before .before .before .args .wires .now) (c .before .before .before .before .before .before .before .before .before .before .before .before .before .before .before .before .before .args .places .now) (c .before .before .before .before .before .before .before .before .before .before .before .before .before .before .before .before .before .args .t)) (c .before .before .before .before .before .before .before .before .before .before .before .before .before .before .before .before .before .args .owner) (gave (c .before .before .before .before .before .before .reserve-scalar2 .result) (c .before .before .before .before .before .before .reserve-scalar2 .last .0) (c .before .before .before .before .before .before .reserve-scalar2 .last .1 .0) (c .before .before .before .before .before .before .reserve-scalar2 .last .1 .1 .0)) (c .before .before .before .before .before .before .before .field3 .ensures) (c .before .before .before .before .before .before .reserve-scalar2 .ensures)))
 
 same-length-7 : tie.Need-same-length-7
 same-length-7 c = search needs
@@ -84,7 +84,7 @@ same-length-9 : tie.Need-same-length-9
 same-length-9 c = search needs
 
 returns-3 : tie.Need-returns-3
-returns-3 c = cell-kind (c .before .before .before .before .before .before .before .before .before .before .before .before .before .before .before .before .before .args .words .now) (c .before .before .before .before .before .before .before .before .before .before .before .before .before .before .before .before .before .args .at) (given (c .before .before .before .before .before .before .before .before .before .before .before .before .before .before .before .before .before .args .list .now) (c .before .before .before .before .before .before .before .before .before .before .before .before .before .before .before .before .before .args .signals .now) (c .before .before .before .before .before .before .before .before .before .before .before .before .before .before .before .before .before .args .places .now) (c .before .before .before .before .before .before .before .before .before .before .before .before .before .before .before .before .before .args .t)) (c .before .before .before .before .before .before .before .before .before .before .before .before .before .before .before .before .before .args .owner) (gave (c .before .before .before .before .before .before .reserve-scalar3 .result) (c .before .before .before .before .before .before .reserve-scalar3 .last .0) (c .before .before .before .before .before .before .reserve-scalar3 .last .1 .0) (c .before .before .before .before .before .before .reserve-scalar3 .last .1 .1 .0)) (c .before .before .before .before .before .before .before .before .before .before .before .before .field .result) (c .before .before .before .before .before .before .before .before .before .before .before .before .field .ensures) (kind-as (c .before .before .before .before .before .before .before .before .before .before .before .before .before .before .before .before .before .args .words .now) (c .before .before .before .before .before .before .before .before .before .before .before .before .before .before .before .before .before .args .at) (given (c .before .before .before .before .before .before .before .before .before .before .before .before .before .before .before .before .before .args .list .now) (c .before .before .before .before .before .before .before .before .before .before .before .before .before .before .before .before .before .args .signals .now) (c .before .before .before .before .before .before .before .before .before .before .before .before .before .before .before .before .before .args .places .now) (c .before .before .before .before .before .before .before .before .before .before .before .before .before .before .before .before .before .args .t)) (c .before .before .before .before .before .before .before .before .before .before .before .before .before .before .before .before .before .args .owner) (gave (c .before .before .before .before .before .before .reserve-scalar3 .result) (c .before .before .before .before .before .before .reserve-scalar3 .last .0) (c .before .before .before .before .before .before .reserve-scalar3 .last .1 .0) (c .before .before .before .before .before .before .reserve-scalar3 .last .1 .1 .0)) 2 (c .before .before .before .before .before .before .before .before .before .before .before .match .keys3) (cell-l6mux21 (c .before .before .before .before .before .before .before .before .before .before .before .before .before .before .before .before .before .args .words .now) (c .before .before .before .before .before .before .before .before .before .before .before .before .before .before .before .before .before .args .at) (given (c .before .before .before .before .before .before .before .before .before .before .before .before .before .before .before .before .before .args .list .now) (c .before .before .before .before .before .before .before .before .before .before .before .before .before .before .before .before .before .args .signals .now) (c .before .before .before .before .before .before .before .before .before .before .before .before .before .before .before .before .before .args .places .now) (c .before .before .before .before .before .before .before .before .before .before .before .before .before .before .before .before .before .args .t)) (c .before .before .before .before .before .before .before .before .before .before .before .before .before .before .before .before .before .args .owner) (gave (c .before .before .before .before .before .before .reserve-scalar3 .result) (c .before .before .before .before .before .before .reserve-scalar3 .last .0) (c .before .before .before .before .before .before .reserve-scalar3 .last .1 .0) (c .before .before .before .before .before .before .reserve-scalar3 .last .1 .1 .0)) (c .before .before .before .before .before .before .before .field4 .ensures) (c .before .before .before .before .before .before .reserve-scalar3 .ensures)))
+returns-3 c = cell-kind (c .before .before .before .before .before .before .before .before .before .before .before .before .before .before .before .before .before .args .words .now) (c .before .before .before .before .before .before .before .before .before .before .before .before .before .before .before .before .before .args .at) (given (c .before .before .before .before .before .before .before .before .before .before .before .before .before .before .before .before .before .args .signals .now) (c .before .before .before .before .before .before .before .before .before .before .before .before .before .before .before .before .before .args .wires .now) (c .before .before .before .before .before .before .before .before .before .before .before .before .before .before .before .before .before .args .places .now) (c .before .before .before .before .before .before .before .before .before .before .before .before .before .before .before .before .before .args .t)) (c .before .before .before .before .before .before .before .before .before .before .before .before .before .before .before .before .before .args .owner) (gave (c .before .before .before .before .before .before .reserve-scalar3 .result) (c .before .before .before .before .before .before .reserve-scalar3 .last .0) (c .before .before .before .before .before .before .reserve-scalar3 .last .1 .0) (c .before .before .before .before .before .before .reserve-scalar3 .last .1 .1 .0)) (c .before .before .before .before .before .before .before .before .before .before .before .before .field .result) (c .before .before .before .before .before .before .before .before .before .before .before .before .field .ensures) (kind-as (c .before .before .before .before .before .before .before .before .before .before .before .before .before .before .before .before .before .args .words .now) (c .before .before .before .before .before .before .before .before .before .before .before .before .before .before .before .before .before .args .at) (given (c .before .before .before .before .before .before .before .before .before .before .before .before .before .before .before .before .before .args .signals .now) (c .before .before .before .before .before .before .before .before .before .before .before .before .before .before .before .before .before .args .wires .now) (c .before .before .before .before .before .before .before .before .before .before .before .before .before .before .before .before .before .args .places .now) (c .before .before .before .before .before .before .before .before .before .before .before .before .before .before .before .before .before .args .t)) (c .before .before .before .before .before .before .before .before .before .before .before .before .before .before .before .before .before .args .owner) (gave (c .before .before .before .before .before .before .reserve-scalar3 .result) (c .before .before .before .before .before .before .reserve-scalar3 .last .0) (c .before .before .before .before .before .before .reserve-scalar3 .last .1 .0) (c .before .before .before .before .before .before .reserve-scalar3 .last .1 .1 .0)) 2 (c .before .before .before .before .before .before .before .before .before .before .before .match .keys3) (cell-l6mux21 (c .before .before .before .before .before .before .before .before .before .before .before .before .before .before .before .before .before .args .words .now) (c .before .before .before .before .before .before .before .before .before .before .before .before .before .before .before .before .before .args .at) (given (c .before .before .before .before .before .before .before .before .before .before .before .before .before .before .before .before .before .args .signals .now) (c .before .before .before .before .before .before .before .before .before .before .before .before .before .before .before .before .before .args .wires .now) (c .before .before .before .before .before .before .before .before .before .before .before .before .before .before .before .before .before .args .places .now) (c .before .before .before .before .before .before .before .before .before .before .before .before .before .before .before .before .before .args .t)) (c .before .before .before .before .before .before .before .before .before .before .before .before .before .before .before .before .before .args .owner) (gave (c .before .before .before .before .before .before .reserve-scalar3 .result) (c .before .before .before .before .before .before .reserve-scalar3 .last .0) (c .before .before .before .before .before .before .reserve-scalar3 .last .1 .0) (c .before .before .before .before .before .before .reserve-scalar3 .last .1 .1 .0)) (c .before .before .before .before .before .before .before .field4 .ensures) (c .before .before .before .before .before .before .reserve-scalar3 .ensures)))
 
 same-length-10 : tie.Need-same-length-10
 same-length-10 c = search needs
@@ -96,7 +96,7 @@ same-length-12 : tie.Need-same-length-12
 same-length-12 c = search needs
 
 returns-4 : tie.Need-returns-4
-returns-4 c = cell-kind (c .before .before .before .before .before .before .before .before .before .before .before .before .before .before .before .before .before .args .words .now) (c .before .before .before .before .before .before .before .before .before .before .before .before .before .before .before .before .before .args .at) (given (c .before .before .before .before .before .before .before .before .before .before .before .before .before .before .before .before .before .args .list .now) (c .before .before .before .before .before .before .before .before .before .before .before .before .before .before .before .before .before .args .signals .now) (c .before .before .before .before .before .before .before .before .before .before .before .before .before .before .before .before .before .args .places .now) (c .before .before .before .before .before .before .before .before .before .before .before .before .before .before .before .before .before .args .t)) (c .before .before .before .before .before .before .before .before .before .before .before .before .before .before .before .before .before .args .owner) (gave (c .before .before .before .before .before .before .reserve-scalars .result) (c .before .before .before .before .before .before .reserve-scalars .last .0) (c .before .before .before .before .before .before .reserve-scalars .last .1 .0) (c .before .before .before .before .before .before .reserve-scalars .last .1 .1 .0)) (c .before .before .before .before .before .before .before .before .before .before .before .before .field .result) (c .before .before .before .before .before .before .before .before .before .before .before .before .field .ensures) (kind-as (c .before .before .before .before .before .before .before .before .before .before .before .before .before .before .before .before .before .args .words .now) (c .before .before .before .before .before .before .before .before .before .before .before .before .before .before .before .before .before .args .at) (given (c .before .before .before .before .before .before .before .before .before .before .before .before .before .before .before .before .before .args .list .now) (c .before .before .before .before .before .before .before .before .before .before .before .before .before .before .before .before .before .args .signals .now) (c .before .before .before .before .before .before .before .before .before .before .before .before .before .before .before .before .before .args .places .now) (c .before .before .before .before .before .before .before .before .before .before .before .before .before .before .before .before .before .args .t)) (c .before .before .before .before .before .before .before .before .before .before .before .before .before .before .before .before .before .args .owner) (gave (c .before .before .before .before .before .before .reserve-scalars .result) (c .before .before .before .before .before .before .reserve-scalars .last .0) (c .before .before .before .before .before .before .reserve-scalars .last .1 .0) (c .before .before .before .before .before .before .reserve-scalars .last .1 .1 .0)) 3 (c .before .before .before .before .before .before .before .before .before .before .before .match .keys4) (cell-ccu2c (c .before .before .before .before .before .before .before .before .before .before .before .before .before .before .before .before .before .args .words .now) (c .before .before .before .before .before .before .before .before .before .before .before .before .before .before .before .before .before .args .at) (given (c .before .before .before .before .before .before .before .before .before .before .before .before .before .before .before .before .before .args .list .now) (c .before .before .before .before .before .before .before .before .before .before .before .before .before .before .before .before .before .args .signals .now) (c .before .before .before .before .before .before .before .before .before .before .before .before .before .before .before .before .before .args .places .now) (c .before .before .before .before .before .before .before .before .before .before .before .before .before .before .before .before .before .args .t)) (c .before .before .before .before .before .before .before .before .before .before .before .before .before .before .before .before .before .args .owner) (gave (c .before .before .before .before .before .before .reserve-scalars .result) (c .before .before .before .before .before .before .reserve-scalars .last .0) (c .before .before .before .before .before .before .reserve-scalars .last .1 .0) (c .before .before .before .before .before .before .reserve-scalars .last .1 .1 .0)) (c .before .before .before .before .before .before .before .ahead .ensures) (c .before .before .before .before .before .before .reserve-scalars .ensures)))
+returns-4 c = cell-kind (c .before .before .before .before .before .before .before .before .before .before .before .before .before .before .before .before .before .args .words .now) (c .before .before .before .before .before .before .before .before .before .before .before .before .before .before .before .before .before .args .at) (given (c .before .before .before .before .before .before .before .before .before .before .before .before .before .before .before .before .before .args .signals .now) (c .before .before .before .before .before .before .before .before .before .before .before .before .before .before .before .before .before .args .wires .now) (c .before .before .before .before .before .before .before .before .before .before .before .before .before .before .before .before .before .args .places .now) (c .before .before .before .before .before .before .before .before .before .before .before .before .before .before .before .before .before .args .t)) (c .before .before .before .before .before .before .before .before .before .before .before .before .before .before .before .before .before .args .owner) (gave (c .before .before .before .before .before .before .reserve-scalars .result) (c .before .before .before .before .before .before .reserve-scalars .last .0) (c .before .before .before .before .before .before .reserve-scalars .last .1 .0) (c .before .before .before .before .before .before .reserve-scalars .last .1 .1 .0)) (c .before .before .before .before .before .before .before .before .before .before .before .before .field .result) (c .before .before .before .before .before .before .before .before .before .before .before .before .field .ensures) (kind-as (c .before .before .before .before .before .before .before .before .before .before .before .before .before .before .before .before .before .args .words .now) (c .before .before .before .before .before .before .before .before .before .before .before .before .before .before .before .before .before .args .at) (given (c .before .before .before .before .before .before .before .before .before .before .before .before .before .before .before .before .before .args .signals .now) (c .before .before .before .before .before .before .before .before .before .before .before .before .before .before .before .before .before .args .wires .now) (c .before .before .before .before .before .before .before .before .before .before .before .before .before .before .before .before .before .args .places .now) (c .before .before .before .before .before .before .before .before .before .before .before .before .before .before .before .before .before .args .t)) (c .before .before .before .before .before .before .before .before .before .before .before .before .before .before .before .before .before .args .owner) (gave (c .before .before .before .before .before .before .reserve-scalars .result) (c .before .before .before .before .before .before .reserve-scalars .last .0) (c .before .before .before .before .before .before .reserve-scalars .last .1 .0) (c .before .before .before .before .before .before .reserve-scalars .last .1 .1 .0)) 3 (c .before .before .before .before .before .before .before .before .before .before .before .match .keys4) (cell-ccu2c (c .before .before .before .before .before .before .before .before .before .before .before .before .before .before .before .before .before .args .words .now) (c .before .before .before .before .before .before .before .before .before .before .before .before .before .before .before .before .before .args .at) (given (c .before .before .before .before .before .before .before .before .before .before .before .before .before .before .before .before .before .args .signals .now) (c .before .before .before .before .before .before .before .before .before .before .before .before .before .before .before .before .before .args .wires .now) (c .before .before .before .before .before .before .before .before .before .before .before .before .before .before .before .before .before .args .places .now) (c .before .before .before .before .before .before .before .before .before .before .before .before .before .before .before .before .before .args .t)) (c .before .before .before .before .before .before .before .before .before .before .before .before .before .before .before .before .before .args .owner) (gave (c .before .before .before .before .before .before .reserve-scalars .result) (c .before .before .before .before .before .before .reserve-scalars .last .0) (c .before .before .before .before .before .before .reserve-scalars .last .1 .0) (c .before .before .before .before .before .before .reserve-scalars .last .1 .1 .0)) (c .before .before .before .before .before .before .before .ahead .ensures) (c .before .before .before .before .before .before .reserve-scalars .ensures)))
 
 same-length-13 : tie.Need-same-length-13
 same-length-13 c = search needs
@@ -108,7 +108,7 @@ same-length-15 : tie.Need-same-length-15
 same-length-15 c = search needs
 
 returns-5 : tie.Need-returns-5
-returns-5 c = cell-kind (c .before .before .before .before .before .before .before .before .before .before .before .before .before .before .before .before .before .args .words .now) (c .before .before .before .before .before .before .before .before .before .before .before .before .before .before .before .before .before .args .at) (given (c .before .before .before .before .before .before .before .before .before .before .before .before .before .before .before .before .before .args .list .now) (c .before .before .before .before .before .before .before .before .before .before .before .before .before .before .before .before .before .args .signals .now) (c .before .before .before .before .before .before .before .before .before .before .before .before .before .before .before .before .before .args .places .now) (c .before .before .before .before .before .before .before .before .before .before .before .before .before .before .before .before .before .args .t)) (c .before .before .before .before .before .before .before .before .before .before .before .before .before .before .before .before .before .args .owner) (gave (c .before .before .before .before .before .before .reserve-vector .result) (c .before .before .before .before .before .before .reserve-vector .last .0) (c .before .before .before .before .before .before .reserve-vector .last .1 .0) (c .before .before .before .before .before .before .reserve-vector .last .1 .1 .0)) (c .before .before .before .before .before .before .before .before .before .before .before .before .field .result) (c .before .before .before .before .before .before .before .before .before .before .before .before .field .ensures) (kind-as (c .before .before .before .before .before .before .before .before .before .before .before .before .before .before .before .before .before .args .words .now) (c .before .before .before .before .before .before .before .before .before .before .before .before .before .before .before .before .before .args .at) (given (c .before .before .before .before .before .before .before .before .before .before .before .before .before .before .before .before .before .args .list .now) (c .before .before .before .before .before .before .before .before .before .before .before .before .before .before .before .before .before .args .signals .now) (c .before .before .before .before .before .before .before .before .before .before .before .before .before .before .before .before .before .args .places .now) (c .before .before .before .before .before .before .before .before .before .before .before .before .before .before .before .before .before .args .t)) (c .before .before .before .before .before .before .before .before .before .before .before .before .before .before .before .before .before .args .owner) (gave (c .before .before .before .before .before .before .reserve-vector .result) (c .before .before .before .before .before .before .reserve-vector .last .0) (c .before .before .before .before .before .before .reserve-vector .last .1 .0) (c .before .before .before .before .before .before .reserve-vector .last .1 .1 .0)) 4 (c .before .before .before .before .before .before .before .before .before .before .before .match .keys5) (cell-multiplier (c .before .before .before .before .before .before .before .before .before .before .before .before .before .before .before .before .before .args .words .now) (c .before .before .before .before .before .before .before .before .before .before .before .before .before .before .before .before .before .args .at) (given (c .before .before .before .before .before .before .before .before .before .before .before .before .before .before .before .before .before .args .list .now) (c .before .before .before .before .before .before .before .before .before .before .before .before .before .before .before .before .before .args .signals .now) (c .before .before .before .before .before .before .before .before .before .before .before .before .before .before .before .before .before .args .places .now) (c .before .before .before .before .before .before .before .before .before .before .before .before .before .before .before .before .before .args .t)) (c .before .before .before .before .before .before .before .before .before .before .before .before .before .before .before .before .before .args .owner) (gave (c .before .before .before .before .before .before .reserve-vector .result) (c .before .before .before .before .before .before .reserve-vector .last .0) (c .before .before .before .before .before .before .reserve-vector .last .1 .0) (c .before .before .before .before .before .before .reserve-vector .last .1 .1 .0)) (c .before .before .before .before .before .before .before .ahead2 .ensures) (c .before .before .before .before .before .before .reserve-vector .ensures)))
+returns-5 c = cell-kind (c .before .before .before .before .before .before .before .before .before .before .before .before .before .before .before .before .before .args .words .now) (c .before .before .before .before .before .before .before .before .before .before .before .before .before .before .before .before .before .args .at) (given (c .before .before .before .before .before .before .before .before .before .before .before .before .before .before .before .before .before .args .signals .now) (c .before .before .before .before .before .before .before .before .before .before .before .before .before .before .before .before .before .args .wires .now) (c .before .before .before .before .before .before .before .before .before .before .before .before .before .before .before .before .before .args .places .now) (c .before .before .before .before .before .before .before .before .before .before .before .before .before .before .before .before .before .args .t)) (c .before .before .before .before .before .before .before .before .before .before .before .before .before .before .before .before .before .args .owner) (gave (c .before .before .before .before .before .before .reserve-vector .result) (c .before .before .before .before .before .before .reserve-vector .last .0) (c .before .before .before .before .before .before .reserve-vector .last .1 .0) (c .before .before .before .before .before .before .reserve-vector .last .1 .1 .0)) (c .before .before .before .before .before .before .before .before .before .before .before .before .field .result) (c .before .before .before .before .before .before .before .before .before .before .before .before .field .ensures) (kind-as (c .before .before .before .before .before .before .before .before .before .before .before .before .before .before .before .before .before .args .words .now) (c .before .before .before .before .before .before .before .before .before .before .before .before .before .before .before .before .before .args .at) (given (c .before .before .before .before .before .before .before .before .before .before .before .before .before .before .before .before .before .args .signals .now) (c .before .before .before .before .before .before .before .before .before .before .before .before .before .before .before .before .before .args .wires .now) (c .before .before .before .before .before .before .before .before .before .before .before .before .before .before .before .before .before .args .places .now) (c .before .before .before .before .before .before .before .before .before .before .before .before .before .before .before .before .before .args .t)) (c .before .before .before .before .before .before .before .before .before .before .before .before .before .before .before .before .before .args .owner) (gave (c .before .before .before .before .before .before .reserve-vector .result) (c .before .before .before .before .before .before .reserve-vector .last .0) (c .before .before .before .before .before .before .reserve-vector .last .1 .0) (c .before .before .before .before .before .before .reserve-vector .last .1 .1 .0)) 4 (c .before .before .before .before .before .before .before .before .before .before .before .match .keys5) (cell-multiplier (c .before .before .before .before .before .before .before .before .before .before .before .before .before .before .before .before .before .args .words .now) (c .before .before .before .before .before .before .before .before .before .before .before .before .before .before .before .before .before .args .at) (given (c .before .before .before .before .before .before .before .before .before .before .before .before .before .before .before .before .before .args .signals .now) (c .before .before .before .before .before .before .before .before .before .before .before .before .before .before .before .before .before .args .wires .now) (c .before .before .before .before .before .before .before .before .before .before .before .before .before .before .before .before .before .args .places .now) (c .before .before .before .before .before .before .before .before .before .before .before .before .before .before .before .before .before .args .t)) (c .before .before .before .before .before .before .before .before .before .before .before .before .before .before .before .before .before .args .owner) (gave (c .before .before .before .before .before .before .reserve-vector .result) (c .before .before .before .before .before .before .reserve-vector .last .0) (c .before .before .before .before .before .before .reserve-vector .last .1 .0) (c .before .before .before .before .before .before .reserve-vector .last .1 .1 .0)) (c .before .before .before .before .before .before .before .ahead2 .ensures) (c .before .before .before .before .before .before .reserve-vector .ensures)))
 
 same-length-16 : tie.Need-same-length-16
 same-length-16 c = search needs
@@ -120,7 +120,7 @@ same-length-18 : tie.Need-same-length-18
 same-length-18 c = search needs
 
 returns-6 : tie.Need-returns-6
-returns-6 c = cell-kind (c .before .before .before .before .before .before .before .before .before .before .before .before .before .before .before .before .args .words .now) (c .before .before .before .before .before .before .before .before .before .before .before .before .before .before .before .before .args .at) (given (c .before .before .before .before .before .before .before .before .before .before .before .before .before .before .before .before .args .list .now) (c .before .before .before .before .before .before .before .before .before .before .before .before .before .before .before .before .args .signals .now) (c .before .before .before .before .before .before .before .before .before .before .before .before .before .before .before .before .args .places .now) (c .before .before .before .before .before .before .before .before .before .before .before .before .before .before .before .before .args .t)) (c .before .before .before .before .before .before .before .before .before .before .before .before .before .before .before .before .args .owner) (gave (c .before .before .before .before .before .before .reserve-late .result) (c .before .before .before .before .before .before .reserve-late .last .0) (c .before .before .before .before .before .before .reserve-late .last .1 .0) (c .before .before .before .before .before .before .reserve-late .last .1 .1 .0)) (c .before .before .before .before .before .before .before .before .before .before .before .field .result) (c .before .before .before .before .before .before .before .before .before .before .before .field .ensures) (c .before .before .before .before .before .before .reserve-late .ensures (kind-first (c .before .before .before .before .before .before .before .before .before .before .match .rest .0 .0 .0 .0 .1) (c .before .before .before .before .before .before .before .before .before .before .match .rest .0 .0 .0 .1) (c .before .before .before .before .before .before .before .before .before .before .match .rest .0 .0 .1) (c .before .before .before .before .before .before .before .before .before .before .match .rest .0 .1) (c .before .before .before .before .before .before .before .before .before .before .match .rest .1)))
+returns-6 c = cell-kind (c .before .before .before .before .before .before .before .before .before .before .before .before .before .before .before .before .args .words .now) (c .before .before .before .before .before .before .before .before .before .before .before .before .before .before .before .before .args .at) (given (c .before .before .before .before .before .before .before .before .before .before .before .before .before .before .before .before .args .signals .now) (c .before .before .before .before .before .before .before .before .before .before .before .before .before .before .before .before .args .wires .now) (c .before .before .before .before .before .before .before .before .before .before .before .before .before .before .before .before .args .places .now) (c .before .before .before .before .before .before .before .before .before .before .before .before .before .before .before .before .args .t)) (c .before .before .before .before .before .before .before .before .before .before .before .before .before .before .before .before .args .owner) (gave (c .before .before .before .before .before .before .reserve-late .result) (c .before .before .before .before .before .before .reserve-late .last .0) (c .before .before .before .before .before .before .reserve-late .last .1 .0) (c .before .before .before .before .before .before .reserve-late .last .1 .1 .0)) (c .before .before .before .before .before .before .before .before .before .before .before .field .result) (c .before .before .before .before .before .before .before .before .before .before .before .field .ensures) (c .before .before .before .before .before .before .reserve-late .ensures (kind-first (c .before .before .before .before .before .before .before .before .before .before .match .rest .0 .0 .0 .0 .1) (c .before .before .before .before .before .before .before .before .before .before .match .rest .0 .0 .0 .1) (c .before .before .before .before .before .before .before .before .before .before .match .rest .0 .0 .1) (c .before .before .before .before .before .before .before .before .before .before .match .rest .0 .1) (c .before .before .before .before .before .before .before .before .before .before .match .rest .1)))
 
 pub reserve-cell-output-spec : {M : Type 1} → statement M
 reserve-cell-output-spec =

@@ -40,7 +40,7 @@ reserve-pll-requires : tie.Need-reserve-pll-requires
 reserve-pll-requires c κs = search needs
 
 returns : tie.Need-returns
-returns c = λ h. kind-as (c .before .before .before .before .before .args .words .now) (c .before .before .before .before .before .args .at) (given (c .before .before .before .before .before .args .list .now) (c .before .before .before .before .before .args .signals .now) (c .before .before .before .before .before .args .places .now) (c .before .before .before .before .before .args .t)) (c .before .before .before .before .before .args .owner) _ 5 (c .match .keys1) (cell-flip-flop (c .before .before .before .before .before .args .words .now) (c .before .before .before .before .before .args .at) (given (c .before .before .before .before .before .args .list .now) (c .before .before .before .before .before .args .signals .now) (c .before .before .before .before .before .args .places .now) (c .before .before .before .before .before .args .t)) (c .before .before .before .before .before .args .owner))
+returns c = λ h. kind-as (c .before .before .before .before .before .args .words .now) (c .before .before .before .before .before .args .at) (given (c .before .before .before .before .before .args .signals .now) (c .before .before .before .before .before .args .wires .now) (c .before .before .before .before .before .args .places .now) (c .before .before .before .before .before .args .t)) (c .before .before .before .before .before .args .owner) _ 5 (c .match .keys1) (cell-flip-flop (c .before .before .before .before .before .args .words .now) (c .before .before .before .before .before .args .at) (given (c .before .before .before .before .before .args .signals .now) (c .before .before .before .before .before .args .wires .now) (c .before .before .before .before .before .args .places .now) (c .before .before .before .before .before .args .t)) (c .before .before .before .before .before .args .owner))
 
 same-length : tie.Need-same-length
 same-length c = search needs
@@ -52,7 +52,7 @@ same-length-3 : tie.Need-same-length-3
 same-length-3 c = search needs
 
 returns-2 : tie.Need-returns-2
-returns-2 c = λ h. kind-as (c .before .before .before .before .before .before .before .before .before .before .before .before .before .before .before .args .words .now) (c .before .before .before .before .before .before .before .before .before .before .before .before .before .before .before .args .at) (given (c .before .before .before .before .before .before .before .before .before .before .before .before .before .before .before .args .list .now) (c .before .before .before .before .before .before .before .before .before .before .before .before .before .before .before .args .signals .now) (c .before .before .before .before .before .before .before .before .before .before .before .before .before .before .before .args .places .now) (c .before .before .before .before .before .before .before .before .before .before .before .before .before .before .before .args .t)) (c .before .before .before .before .before .before .before .before .before .before .before .before .before .before .before .args .owner) (gave (c .before .before .before .before .before .before .reserve-block-ram .result) (c .before .before .before .before .before .before .reserve-block-ram .last .0) (c .before .before .before .before .before .before .reserve-block-ram .last .1 .0) (c .before .before .before .before .before .before .reserve-block-ram .last .1 .1 .0)) 6 (c .before .before .before .before .before .before .before .before .before .before .match .keys2) (c .before .before .before .before .before .before .reserve-block-ram .ensures)
+returns-2 c = λ h. kind-as (c .before .before .before .before .before .before .before .before .before .before .before .before .before .before .before .args .words .now) (c .before .before .before .before .before .before .before .before .before .before .before .before .before .before .before .args .at) (given (c .before .before .before .before .before .before .before .before .before .before .before .before .before .before .before .args .signals .now) (c .before .before .before .before .before .before .before .before .before .before .before .before .before .before .before .args .wires .now) (c .before .before .before .before .before .before .before .before .before .before .before .before .before .before .before .args .places .now) (c .before .before .before .before .before .before .before .before .before .before .before .before .before .before .before .args .t)) (c .before .before .before .before .before .before .before .before .before .before .before .before .before .before .before .args .owner) (gave (c .before .before .before .before .before .before .reserve-block-ram .result) (c .before .before .before .before .before .before .reserve-block-ram .last .0) (c .before .before .before .before .before .before .reserve-block-ram .last .1 .0) (c .before .before .before .before .before .before .reserve-block-ram .last .1 .1 .0)) 6 (c .before .before .before .before .before .before .before .before .before .before .match .keys2) (c .before .before .before .before .before .before .reserve-block-ram .ensures)
 
 same-length-4 : tie.Need-same-length-4
 same-length-4 c = search needs
@@ -64,7 +64,7 @@ same-length-6 : tie.Need-same-length-6
 same-length-6 c = search needs
 
 returns-3 : tie.Need-returns-3
-returns-3 c = λ h. kind-as (c .before .before .before .before .before .before .before .before .before .before .before .before .before .before .before .before .args .words .now) (c .before .before .before .before .before .before .before .before .before .before .before .before .before .before .before .before .args .at) (given (c .before .before .before .before .before .before .before .before .before .before .before .before .before .before .before .before .args .list .now) (c .before .before .before .before .before .before .before .before .before .before .before .before .before .before .before .before .args .signals .now) (c .before .before .before .before .before .before .before .before .before .before .before .before .before .before .before .before .args .places .now) (c .before .before .before .before .before .before .before .before .before .before .before .before .before .before .before .before .args .t)) (c .before .before .before .before .before .before .before .before .before .before .before .before .before .before .before .before .args .owner) (gave (c .before .before .before .before .before .before .reserve-vector .result) (c .before .before .before .before .before .before .reserve-vector .last .0) (c .before .before .before .before .before .before .reserve-vector .last .1 .0) (c .before .before .before .before .before .before .reserve-vector .last .1 .1 .0)) 7 (c .before .before .before .before .before .before .before .before .before .before .before .match .keys3) (cell-distributed (c .before .before .before .before .before .before .before .before .before .before .before .before .before .before .before .before .args .words .now) (c .before .before .before .before .before .before .before .before .before .before .before .before .before .before .before .before .args .at) (given (c .before .before .before .before .before .before .before .before .before .before .before .before .before .before .before .before .args .list .now) (c .before .before .before .before .before .before .before .before .before .before .before .before .before .before .before .before .args .signals .now) (c .before .before .before .before .before .before .before .before .before .before .before .before .before .before .before .before .args .places .now) (c .before .before .before .before .before .before .before .before .before .before .before .before .before .before .before .before .args .t)) (c .before .before .before .before .before .before .before .before .before .before .before .before .before .before .before .before .args .owner) (gave (c .before .before .before .before .before .before .reserve-vector .result) (c .before .before .before .before .before .before .reserve-vector .last .0) (c .before .before .before .before .before .before .reserve-vector .last .1 .0) (c .before .before .before .before .before .before .reserve-vector .last .1 .1 .0)) (c .before .before .before .before .before .before .before .ahead .ensures) (c .before .before .before .before .before .before .reserve-vector .ensures))
+returns-3 c = λ h. kind-as (c .before .before .before .before .before .before .before .before .before .before .before .before .before .before .before .before .args .words .now) (c .before .before .before .before .before .before .before .before .before .before .before .before .before .before .before .before .args .at) (given (c .before .before .before .before .before .before .before .before .before .before .before .before .before .before .before .before .args .signals .now) (c .before .before .before .before .before .before .before .before .before .before .before .before .before .before .before .before .args .wires .now) (c .before .before .before .before .before .before .before .before .before .before .before .before .before .before .before .before .args .places .now) (c .before .before .before .before .before .before .before .before .before .before .before .before .before .before .before .before .args .t)) (c .before .before .before .before .before .before .before .before .before .before .before .before .before .before .before .before .args .owner) (gave (c .before .before .before .before .before .before .reserve-vector .result) (c .before .before .before .before .before .before .reserve-vector .last .0) (c .before .before .before .before .before .before .reserve-vector .last .1 .0) (c .before .before .before .before .before .before .reserve-vector .last .1 .1 .0)) 7 (c .before .before .before .before .before .before .before .before .before .before .before .match .keys3) (cell-distributed (c .before .before .before .before .before .before .before .before .before .before .before .before .before .before .before .before .args .words .now) (c .before .before .before .before .before .before .before .before .before .before .before .before .before .before .before .before .args .at) (given (c .before .before .before .before .before .before .before .before .before .before .before .before .before .before .before .before .args .signals .now) (c .before .before .before .before .before .before .before .before .before .before .before .before .before .before .before .before .args .wires .now) (c .before .before .before .before .before .before .before .before .before .before .before .before .before .before .before .before .args .places .now) (c .before .before .before .before .before .before .before .before .before .before .before .before .before .before .before .before .args .t)) (c .before .before .before .before .before .before .before .before .before .before .before .before .before .before .before .before .args .owner) (gave (c .before .before .before .before .before .before .reserve-vector .result) (c .before .before .before .before .before .before .reserve-vector .last .0) (c .before .before .before .before .before .before .reserve-vector .last .1 .0) (c .before .before .before .before .before .before .reserve-vector .last .1 .1 .0)) (c .before .before .before .before .before .before .before .ahead .ensures) (c .before .before .before .before .before .before .reserve-vector .ensures))
 
 same-length-7 : tie.Need-same-length-7
 same-length-7 c = search needs
@@ -76,7 +76,7 @@ same-length-9 : tie.Need-same-length-9
 same-length-9 c = search needs
 
 returns-4 : tie.Need-returns-4
-returns-4 c = λ h. kind-as (c .before .before .before .before .before .before .before .before .before .before .before .before .before .before .before .before .args .words .now) (c .before .before .before .before .before .before .before .before .before .before .before .before .before .before .before .before .args .at) (given (c .before .before .before .before .before .before .before .before .before .before .before .before .before .before .before .before .args .list .now) (c .before .before .before .before .before .before .before .before .before .before .before .before .before .before .before .before .args .signals .now) (c .before .before .before .before .before .before .before .before .before .before .before .before .before .before .before .before .args .places .now) (c .before .before .before .before .before .before .before .before .before .before .before .before .before .before .before .before .args .t)) (c .before .before .before .before .before .before .before .before .before .before .before .before .before .before .before .before .args .owner) (gave (c .before .before .before .before .before .before .reserve-scalar .result) (c .before .before .before .before .before .before .reserve-scalar .last .0) (c .before .before .before .before .before .before .reserve-scalar .last .1 .0) (c .before .before .before .before .before .before .reserve-scalar .last .1 .1 .0)) 8 (c .before .before .before .before .before .before .before .before .before .before .before .match .keys4) (cell-io (c .before .before .before .before .before .before .before .before .before .before .before .before .before .before .before .before .args .words .now) (c .before .before .before .before .before .before .before .before .before .before .before .before .before .before .before .before .args .at) (given (c .before .before .before .before .before .before .before .before .before .before .before .before .before .before .before .before .args .list .now) (c .before .before .before .before .before .before .before .before .before .before .before .before .before .before .before .before .args .signals .now) (c .before .before .before .before .before .before .before .before .before .before .before .before .before .before .before .before .args .places .now) (c .before .before .before .before .before .before .before .before .before .before .before .before .before .before .before .before .args .t)) (c .before .before .before .before .before .before .before .before .before .before .before .before .before .before .before .before .args .owner) (gave (c .before .before .before .before .before .before .reserve-scalar .result) (c .before .before .before .before .before .before .reserve-scalar .last .0) (c .before .before .before .before .before .before .reserve-scalar .last .1 .0) (c .before .before .before .before .before .before .reserve-scalar .last .1 .1 .0)) (c .before .before .before .before .before .before .before .field .ensures) (c .before .before .before .before .before .before .reserve-scalar .ensures))
+returns-4 c = λ h. kind-as (c .before .before .before .before .before .before .before .before .before .before .before .before .before .before .before .before .args .words .now) (c .before .before .before .before .before .before .before .before .before .before .before .before .before .before .before .before .args .at) (given (c .before .before .before .before .before .before .before .before .before .before .before .before .before .before .before .before .args .signals .now) (c .before .before .before .before .before .before .before .before .before .before .before .before .before .before .before .before .args .wires .now) (c .before .before .before .before .before .before .before .before .before .before .before .before .before .before .before .before .args .places .now) (c .before .before .before .before .before .before .before .before .before .before .before .before .before .before .before .before .args .t)) (c .before .before .before .before .before .before .before .before .before .before .before .before .before .before .before .before .args .owner) (gave (c .before .before .before .before .before .before .reserve-scalar .result) (c .before .before .before .before .before .before .reserve-scalar .last .0) (c .before .before .before .before .before .before .reserve-scalar .last .1 .0) (c .before .before .before .before .before .before .reserve-scalar .last .1 .1 .0)) 8 (c .before .before .before .before .before .before .before .before .before .before .before .match .keys4) (cell-io (c .before .before .before .before .before .before .before .before .before .before .before .before .before .before .before .before .args .words .now) (c .before .before .before .before .before .before .before .before .before .before .before .before .before .before .before .before .args .at) (given (c .before .before .before .before .before .before .before .before .before .before .before .before .before .before .before .before .args .signals .now) (c .before .before .before .before .before .before .before .before .before .before .before .before .before .before .before .before .args .wires .now) (c .before .before .before .before .before .before .before .before .before .before .before .before .before .before .before .before .args .places .now) (c .before .before .before .before .before .before .before .before .before .before .before .before .before .before .before .before .args .t)) (c .before .before .before .before .before .before .before .before .before .before .before .before .before .before .before .before .args .owner) (gave (c .before .before .before .before .before .before .reserve-scalar .result) (c .before .before .before .before .before .before .reserve-scalar .last .0) (c .before .before .before .before .before .before .reserve-scalar .last .1 .0) (c .before .before .before .before .before .before .reserve-scalar .last .1 .1 .0)) (c .before .before .before .before .before .before .before .field .ensures) (c .before .before .before .before .before .before .reserve-scalar .ensures))
 
 same-length-10 : tie.Need-same-length-10
 same-length-10 c = search needs
@@ -88,7 +88,7 @@ same-length-12 : tie.Need-same-length-12
 same-length-12 c = search needs
 
 returns-5 : tie.Need-returns-5
-returns-5 c = λ h. kind-as (c .before .before .before .before .before .before .before .before .before .before .before .before .before .before .before .before .args .words .now) (c .before .before .before .before .before .before .before .before .before .before .before .before .before .before .before .before .args .at) (given (c .before .before .before .before .before .before .before .before .before .before .before .before .before .before .before .before .args .list .now) (c .before .before .before .before .before .before .before .before .before .before .before .before .before .before .before .before .args .signals .now) (c .before .before .before .before .before .before .before .before .before .before .before .before .before .before .before .before .args .places .now) (c .before .before .before .before .before .before .before .before .before .before .before .before .before .before .before .before .args .t)) (c .before .before .before .before .before .before .before .before .before .before .before .before .before .before .before .before .args .owner) (gave (c .before .before .before .before .before .before .reserve-scalars .result) (c .before .before .before .before .before .before .reserve-scalars .last .0) (c .before .before .before .before .before .before .reserve-scalars .last .1 .0) (c .before .before .before .before .before .before .reserve-scalars .last .1 .1 .0)) 9 (c .before .before .before .before .before .before .before .before .before .before .before .match .keys5) (cell-jtagg (c .before .before .before .before .before .before .before .before .before .before .before .before .before .before .before .before .args .words .now) (c .before .before .before .before .before .before .before .before .before .before .before .before .before .before .before .before .args .at) (given (c .before .before .before .before .before .before .before .before .before .before .before .before .before .before .before .before .args .list .now) (c .before .before .before .before .before .before .before .before .before .before .before .before .before .before .before .before .args .signals .now) (c .before .before .before .before .before .before .before .before .before .before .before .before .before .before .before .before .args .places .now) (c .before .before .before .before .before .before .before .before .before .before .before .before .before .before .before .before .args .t)) (c .before .before .before .before .before .before .before .before .before .before .before .before .before .before .before .before .args .owner) (gave (c .before .before .before .before .before .before .reserve-scalars .result) (c .before .before .before .before .before .before .reserve-scalars .last .0) (c .before .before .before .before .before .before .reserve-scalars .last .1 .0) (c .before .before .before .before .before .before .reserve-scalars .last .1 .1 .0)) (c .before .before .before .before .before .before .before .ahead2 .ensures) (c .before .before .before .before .before .before .reserve-scalars .ensures))
+returns-5 c = λ h. kind-as (c .before .before .before .before .before .before .before .before .before .before .before .before .before .before .before .before .args .words .now) (c .before .before .before .before .before .before .before .before .before .before .before .before .before .before .before .before .args .at) (given (c .before .before .before .before .before .before .before .before .before .before .before .before .before .before .before .before .args .signals .now) (c .before .before .before .before .before .before .before .before .before .before .before .before .before .before .before .before .args .wires .now) (c .before .before .before .before .before .before .before .before .before .before .before .before .before .before .before .before .args .places .now) (c .before .before .before .before .before .before .before .before .before .before .before .before .before .before .before .before .args .t)) (c .before .before .before .before .before .before .before .before .before .before .before .before .before .before .before .before .args .owner) (gave (c .before .before .before .before .before .before .reserve-scalars .result) (c .before .before .before .before .before .before .reserve-scalars .last .0) (c .before .before .before .before .before .before .reserve-scalars .last .1 .0) (c .before .before .before .before .before .before .reserve-scalars .last .1 .1 .0)) 9 (c .before .before .before .before .before .before .before .before .before .before .before .match .keys5) (cell-jtagg (c .before .before .before .before .before .before .before .before .before .before .before .before .before .before .before .before .args .words .now) (c .before .before .before .before .before .before .before .before .before .before .before .before .before .before .before .before .args .at) (given (c .before .before .before .before .before .before .before .before .before .before .before .before .before .before .before .before .args .signals .now) (c .before .before .before .before .before .before .before .before .before .before .before .before .before .before .before .before .args .wires .now) (c .before .before .before .before .before .before .before .before .before .before .before .before .before .before .before .before .args .places .now) (c .before .before .before .before .before .before .before .before .before .before .before .before .before .before .before .before .args .t)) (c .before .before .before .before .before .before .before .before .before .before .before .before .before .before .before .before .args .owner) (gave (c .before .before .before .before .before .before .reserve-scalars .result) (c .before .before .before .before .before .before .reserve-scalars .last .0) (c .before .before .before .before .before .before .reserve-scalars .last .1 .0) (c .before .before .before .before .before .before .reserve-scalars .last .1 .1 .0)) (c .before .before .before .before .before .before .before .ahead2 .ensures) (c .before .before .before .before .before .before .reserve-scalars .ensures))
 
 same-length-13 : tie.Need-same-length-13
 same-length-13 c = search needs
@@ -100,7 +100,7 @@ same-length-15 : tie.Need-same-length-15
 same-length-15 c = search needs
 
 returns-6 : tie.Need-returns-6
-returns-6 c = λ h. kind-last (c .before .before .before .before .before .before .before .before .before .before .before .before .before .before .before .args .words .now) (c .before .before .before .before .before .before .before .before .before .before .before .before .before .before .before .args .at) (given (c .before .before .before .before .before .before .before .before .before .before .before .before .before .before .before .args .list .now) (c .before .before .before .before .before .before .before .before .before .before .before .before .before .before .before .args .signals .now) (c .before .before .before .before .before .before .before .before .before .before .before .before .before .before .before .args .places .now) (c .before .before .before .before .before .before .before .before .before .before .before .before .before .before .before .args .t)) (c .before .before .before .before .before .before .before .before .before .before .before .before .before .before .before .args .owner) (gave (c .before .before .before .before .before .before .reserve-pll .result) (c .before .before .before .before .before .before .reserve-pll .last .0) (c .before .before .before .before .before .before .reserve-pll .last .1 .0) (c .before .before .before .before .before .before .reserve-pll .last .1 .1 .0)) h (c .before .before .before .before .before .before .before .before .before .before .match .rest .0 .0 .0 .0 .1) (c .before .before .before .before .before .before .before .before .before .before .match .rest .0 .0 .0 .1) (c .before .before .before .before .before .before .before .before .before .before .match .rest .0 .0 .1) (c .before .before .before .before .before .before .before .before .before .before .match .rest .0 .1) (c .before .before .before .before .before .before .before .before .before .before .match .rest .1) (c .before .before .before .before .before .before .reserve-pll .ensures)
+returns-6 c = λ h. kind-last (c .before .before .before .before .before .before .before .before .before .before .before .before .before .before .before .args .words .now) (c .before .before .before .before .before .before .before .before .before .before .before .before .before .before .before .args .at) (given (c .before .before .before .before .before .before .before .before .before .before .before .before .before .before .before .args .signals .now) (c .before .before .before .before .before .before .before .before .before .before .before .before .before .before .before .args .wires .now) (c .before .before .before .before .before .before .before .before .before .before .before .before .before .before .before .args .places .now) (c .before .before .before .before .before .before .before .before .before .before .before .before .before .before .before .args .t)) (c .before .before .before .before .before .before .before .before .before .before .before .before .before .before .before .args .owner) (gave (c .before .before .before .before .before .before .reserve-pll .result) (c .before .before .before .before .before .before .reserve-pll .last .0) (c .before .before .before .before .before .before .reserve-pll .last .1 .0) (c .before .before .before .before .before .before .reserve-pll .last .1 .1 .0)) h (c .before .before .before .before .before .before .before .before .before .before .match .rest .0 .0 .0 .0 .1) (c .before .before .before .before .before .before .before .before .before .before .match .rest .0 .0 .0 .1) (c .before .before .before .before .before .before .before .before .before .before .match .rest .0 .0 .1) (c .before .before .before .before .before .before .before .before .before .before .match .rest .0 .1) (c .before .before .before .before .before .before .before .before .before .before .match .rest .1) (c .before .before .before .before .before .before .reserve-pll .ensures)
 
 pub reserve-late-spec : {M : Type 1} → statement M
 reserve-late-spec =

@@ -21,7 +21,7 @@ same-length : tie.Need-same-length
 same-length c = search needs
 
 returns : tie.Need-returns
-returns c = unless-there (given (c .before .before .before .before .before .before .before .args .list .now) (c .before .before .before .before .before .before .before .args .signals .now) (c .before .before .before .before .before .before .before .args .places .now) (c .before .before .before .before .before .before .before .args .t)) (c .before .before .before .before .before .before .before .args .label) (c .before .before .before .before .before .before .before .args .owner) (c .before .before .wide .ensures) (c .before .word .ensures) (c .if1 .taken)
+returns c = unless-there (given (c .before .before .before .before .before .before .before .args .signals .now) (c .before .before .before .before .before .before .before .args .wires .now) (c .before .before .before .before .before .before .before .args .places .now) (c .before .before .before .before .before .before .before .args .t)) (c .before .before .before .before .before .before .before .args .label) (c .before .before .before .before .before .before .before .args .owner) (c .before .before .wide .ensures) (c .before .word .ensures) (c .if1 .taken)
 
 reserve-scalar-requires : tie.Need-reserve-scalar-requires
 reserve-scalar-requires c κs = search needs
@@ -36,7 +36,7 @@ same-length-4 : tie.Need-same-length-4
 same-length-4 c = search needs
 
 returns-2 : tie.Need-returns-2
-returns-2 c = unless-not (given (c .before .before .before .before .before .before .before .before .before .before .before .before .before .before .before .before .before .args .list .now) (c .before .before .before .before .before .before .before .before .before .before .before .before .before .before .before .before .before .args .signals .now) (c .before .before .before .before .before .before .before .before .before .before .before .before .before .before .before .before .before .args .places .now) (c .before .before .before .before .before .before .before .before .before .before .before .before .before .before .before .before .before .args .t)) (c .before .before .before .before .before .before .before .before .before .before .before .before .before .before .before .before .before .args .label) (c .before .before .before .before .before .before .before .before .before .before .before .before .before .before .before .before .before .args .owner) (c .before .before .before .before .before .before .before .before .before .before .before .before .wide .ensures) (c .before .before .before .before .before .before .before .before .before .before .before .word .ensures) (c .before .before .before .before .before .before .before .before .before .before .if1 .left) (gave (c .before .before .before .before .before .before .reserve-scalar .result) (c .before .before .before .before .before .before .reserve-scalar .last .0) (c .before .before .before .before .before .before .reserve-scalar .last .1 .0) (c .before .before .before .before .before .before .reserve-scalar .last .1 .1 .0)) (c .before .before .before .before .before .before .reserve-scalar .ensures)
+returns-2 c = unless-not (given (c .before .before .before .before .before .before .before .before .before .before .before .before .before .before .before .before .before .args .signals .now) (c .before .before .before .before .before .before .before .before .before .before .before .before .before .before .before .before .before .args .wires .now) (c .before .before .before .before .before .before .before .before .before .before .before .before .before .before .before .before .before .args .places .now) (c .before .before .before .before .before .before .before .before .before .before .before .before .before .before .before .before .before .args .t)) (c .before .before .before .before .before .before .before .before .before .before .before .before .before .before .before .before .before .args .label) (c .before .before .before .before .before .before .before .before .before .before .before .before .before .before .before .before .before .args .owner) (c .before .before .before .before .before .before .before .before .before .before .before .before .wide .ensures) (c .before .before .before .before .before .before .before .before .before .before .before .word .ensures) (c .before .before .before .before .before .before .before .before .before .before .if1 .left) (gave (c .before .before .before .before .before .before .reserve-scalar .result) (c .before .before .before .before .before .before .reserve-scalar .last .0) (c .before .before .before .before .before .before .reserve-scalar .last .1 .0) (c .before .before .before .before .before .before .reserve-scalar .last .1 .1 .0)) (c .before .before .before .before .before .before .reserve-scalar .ensures)
 
 pub reserve-unless-spec : {M : Type 1} → statement M
 reserve-unless-spec =
