@@ -53,8 +53,8 @@ pub judged-as : {o o′ : f.Conflict} (t : Tapes) → o ≡ o′ → (l : Lists)
 judged-as t e l = ap (λ (z : f.Conflict). judged (foundOf z) t l l .answer) (sym e)
 
 module _ (s m : List ℕ) {p : r.Stated} where
-  pub answered-done : {t : Tapes} {o : f.Conflict} {q : c.Lowered} {s′ : List ℕ} → p ≡ r.the-variants.Done t → foundOf o ≡ lowestFrom 0 (counted s m) → s′ ≡ restored (counted s m) → ((l : Lists) → answerOf q ≡ judged (foundOf o) t l l .answer) → AnswersTo s m p q s′
-  answered-done {t} {o} d found left a = record {
+  pub answered-done : {t : Tapes} (o : f.Conflict) {q : c.Lowered} {s′ : List ℕ} → p ≡ r.the-variants.Done t → foundOf o ≡ lowestFrom 0 (counted s m) → s′ ≡ restored (counted s m) → ((l : Lists) → answerOf q ≡ judged (foundOf o) t l l .answer) → AnswersTo s m p q s′
+  answered-done {t} o d found left a = record {
     refused = λ x e. let z : _≡_ {A = ℕ} 0 1 = cc in absurd (omega arith);
     recorded = λ u e k n xs ts g h l.
         let same : t ≡ u = cc in

@@ -1,4 +1,4 @@
--- What the functions of reserve.rt promise: with tables that have the netlist's wires, they write what the definitions say.
+-- What the functions of ports.rt, reserve.rt and scalar.rt promise: with tables that have the netlist's wires, they write what the definitions say.
 use mathlib.Core.List.{List, [], _∷_}
 use Prim.Native.Nat.{ℕ, zero, suc, _+_, _<_, _≤_}
 use lib.ListN.{length, getD}

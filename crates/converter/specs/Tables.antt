@@ -1,4 +1,4 @@
--- What the functions of reserve.rt say of the tables that hold the wire map.
+-- What the functions of insert.rt and scalar.rt say of the tables that hold the wire map.
 use mathlib.Core.Path.{_≡_}
 use mathlib.Core.List.{List, [], _∷_}
 use Prim.Native.Nat.{ℕ, zero, suc, _+_, _<_}

@@ -35,10 +35,10 @@ same-length : tie.Need-same-length Inv-loop μ-loop
 same-length c = c .before .before .before .before .before .before .before .before .reserve-flip-flop-bank .kept .0 ∙ c .before .before .before .before .before .before .before .before .before .before .before .before .before .loop .inv .1
 
 same-length-2 : tie.Need-same-length-2 Inv-loop μ-loop
-same-length-2 c = c .before .before .before .before .before .before .before .before .reserve-flip-flop-bank .kept .1 .0 ∙ c .before .before .before .before .before .before .before .before .before .before .before .before .before .loop .inv .2 .kept-ss
+same-length-2 c = c .before .before .before .before .before .before .before .before .reserve-flip-flop-bank .kept .1 .0 ∙ c .before .before .before .before .before .before .before .before .before .before .before .before .before .loop .inv .2 .kept-wires
 
 same-length-3 : tie.Need-same-length-3 Inv-loop μ-loop
-same-length-3 c = c .before .before .before .before .before .before .before .before .reserve-flip-flop-bank .kept .1 .1 .0 ∙ c .before .before .before .before .before .before .before .before .before .before .before .before .before .loop .inv .2 .kept-ps
+same-length-3 c = c .before .before .before .before .before .before .before .before .reserve-flip-flop-bank .kept .1 .1 .0 ∙ c .before .before .before .before .before .before .before .before .before .before .before .before .before .loop .inv .2 .kept-places
 
 returns : tie.Need-returns Inv-loop μ-loop
 returns c = banks-stop (c .before .before .before .before .before .before .before .before .before .before .before .before .before .before .before .before .before .before .before .args .words .now) (c .before .before .before .before .before .before .before .before .before .before .before .before .before .before .before .before .before .before .before .args .at) (c .before .before .before .before .before .before .before .before .before .before .before .before .before .before .before .before .before .before .before .args .n) (c .before .before .before .before .before .before .before .before .before .before .before .before .before .before .before .before .before .before .before .args .banks .now) (c .before .before .before .before .before .before .before .before .before .before .before .before .before .before .before .before .before .before .before .args .count) (c .before .before .before .before .before .before .before .before .before .before .before .before .before .loop .inv .2) (c .before .before .before .before .before .before .before .before .before .before .before .before .loop-test .taken) (c .before .before .before .before .before .before .before .before .reserve-flip-flop-bank .result) (c .before .before .before .before .before .before .before .before .reserve-flip-flop-bank .last .0) (c .before .before .before .before .before .before .before .before .reserve-flip-flop-bank .last .1 .0) (c .before .before .before .before .before .before .before .before .reserve-flip-flop-bank .last .1 .1 .0) (c .before .before .before .before .before .before .before .before .reserve-flip-flop-bank .ensures) (c .enum-told .given .1)
@@ -56,10 +56,10 @@ same-length-4 : tie.Need-same-length-4 Inv-loop μ-loop
 same-length-4 c = c .before .loop .inv .1
 
 same-length-5 : tie.Need-same-length-5 Inv-loop μ-loop
-same-length-5 c = c .before .loop .inv .2 .kept-ss
+same-length-5 c = c .before .loop .inv .2 .kept-wires
 
 same-length-6 : tie.Need-same-length-6 Inv-loop μ-loop
-same-length-6 c = c .before .loop .inv .2 .kept-ps
+same-length-6 c = c .before .loop .inv .2 .kept-places
 
 returns-2 : tie.Need-returns-2 Inv-loop μ-loop
 returns-2 c = banks-done (c .before .before .before .before .before .before .before .args .words .now) (c .before .before .before .before .before .before .before .args .at) (c .before .before .before .before .before .before .before .args .n) (c .before .before .before .before .before .before .before .args .banks .now) (c .before .before .before .before .before .before .before .args .count) (c .before .loop .inv .2) (c .loop-test .left)

@@ -23,7 +23,7 @@ same-length : tie.Need-same-length
 same-length c = search needs
 
 returns : tie.Need-returns
-returns c = answered-done _ _ (c .before .before .before .before .before .before .r .given .1) (c .before .before .before .overdriven .ensures .0) (c .before .before .before .overdriven .ensures .1) (c .judged .ensures)
+returns c = answered-done _ _ (c .before .before .before .overdriven .result) (c .before .before .before .before .before .before .r .given .1) (c .before .before .before .overdriven .ensures .0) (c .before .before .before .overdriven .ensures .1) (c .judged .ensures)
 
 returns-2 : tie.Need-returns-2
 returns-2 c = answered-refused _ _ (c .before .r2 .given .1)
