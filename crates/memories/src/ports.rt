@@ -29,7 +29,7 @@ ghost use Rattle.memories.specs.Steps.{secondAt};
 fn data_expression(
     exprs: &mut [u32],
     parts: &mut [u32],
-    signals: &[u32],
+    wires: &[u32],
     places: &[u32],
     t: Tapes,
     words: &[u32],
@@ -38,18 +38,18 @@ fn data_expression(
     n: u32,
 ) -> Emitted
     requires { ⌜ n ≤ length (now parts) ⌝ }
-    ensures { λ r. ⌜ WroteExprs (now (exprs .entry)) t (bitsExpression (wiresOf (now (signals .entry)) (now (places .entry))) (bitsAt (now (words .entry)) (at + offset) n)) (emitted r) (now (exprs .exit)) ⌝ }
+    ensures { λ r. ⌜ WroteExprs (now (exprs .entry)) t (bitsExpression (wiresOf (now (wires .entry)) (now (places .entry))) (bitsAt (now (words .entry)) (at + offset) n)) (emitted r) (now (exprs .exit)) ⌝ }
 {
     let i = ahead(words, at, offset);
     let end = wide(n);
-    bits_expression(exprs, parts, signals, places, t, words, i, end, n)
+    bits_expression(exprs, parts, wires, places, t, words, i, end, n)
 }
 
 // So many of the 14 bits at an offset of a record, from the shift on.
 fn address_at(
     exprs: &mut [u32],
     parts: &mut [u32],
-    signals: &[u32],
+    wires: &[u32],
     places: &[u32],
     t: Tapes,
     words: &[u32],
@@ -59,33 +59,33 @@ fn address_at(
     width: u32,
 ) -> Emitted
     requires { ⌜ width ≤ length (now parts) ⌝ }
-    ensures { λ r. ⌜ WroteExprs (now (exprs .entry)) t (vectorExpression (wiresOf (now (signals .entry)) (now (places .entry))) (bitsAt (now (words .entry)) (at + offset) 14) shift width) (emitted r) (now (exprs .exit)) ⌝ }
+    ensures { λ r. ⌜ WroteExprs (now (exprs .entry)) t (vectorExpression (wiresOf (now (wires .entry)) (now (places .entry))) (bitsAt (now (words .entry)) (at + offset) 14) shift width) (emitted r) (now (exprs .exit)) ⌝ }
 {
     let bits = fields::address(words, at, offset);
-    address_expression(exprs, parts, signals, places, t, bits, shift, width)
+    address_expression(exprs, parts, wires, places, t, bits, shift, width)
 }
 
 // Whether the control at an offset of a record is asserted.
 fn asserted_at(
     exprs: &mut [u32],
-    signals: &[u32],
+    wires: &[u32],
     places: &[u32],
     t: Tapes,
     words: &[u32],
     at: usize,
     offset: usize,
 ) -> Emitted
-    ensures { λ r. ⌜ WroteExprs (now (exprs .entry)) t (assertedExpression (wiresOf (now (signals .entry)) (now (places .entry))) (controlAt (now (words .entry)) (at + offset))) (emitted r) (now (exprs .exit)) ⌝ }
+    ensures { λ r. ⌜ WroteExprs (now (exprs .entry)) t (assertedExpression (wiresOf (now (wires .entry)) (now (places .entry))) (controlAt (now (words .entry)) (at + offset))) (emitted r) (now (exprs .exit)) ⌝ }
 {
     let write = control(words, at, offset);
-    asserted_expression(exprs, signals, places, t, write)
+    asserted_expression(exprs, wires, places, t, write)
 }
 
 // The first port of the block RAM at an index, whose address has so many bits from the shift on.
 pub fn first_port(
     exprs: &mut [u32],
     parts: &mut [u32],
-    signals: &[u32],
+    wires: &[u32],
     places: &[u32],
     t: Tapes,
     words: &[u32],
@@ -94,13 +94,13 @@ pub fn first_port(
     address: u32,
 ) -> Ported
     requires { ⌜ (address ≤ length (now parts)) × (wordAt (now words) (at + 2) ≤ length (now parts)) ⌝ }
-    ensures { λ r. ⌜ WroteExprs (now (exprs .entry)) t (firstExprs (wiresOf (now (signals .entry)) (now (places .entry))) shift address (ramAt (now (words .entry)) at)) (ported (ramAt (now (words .entry)) at .output) (ramAt (now (words .entry)) at .readEnable) r) (now (exprs .exit)) ⌝ }
+    ensures { λ r. ⌜ WroteExprs (now (exprs .entry)) t (firstExprs (wiresOf (now (wires .entry)) (now (places .entry))) shift address (ramAt (now (words .entry)) at)) (ported (ramAt (now (words .entry)) at .output) (ramAt (now (words .entry)) at .readEnable) r) (now (exprs .exit)) ⌝ }
 {
     let width = field(words, at, 2);
     match address_at(
         exprs,
         parts,
-        signals,
+        wires,
         places,
         t,
         words,
@@ -112,7 +112,7 @@ pub fn first_port(
         Emitted::Done(writes, t2) => match address_at(
             exprs,
             parts,
-            signals,
+            wires,
             places,
             t2,
             words,
@@ -122,9 +122,9 @@ pub fn first_port(
             address,
         ) {
             Emitted::Done(reads, t3) => {
-                match data_expression(exprs, parts, signals, places, t3, words, at, 43, width) {
+                match data_expression(exprs, parts, wires, places, t3, words, at, 43, width) {
                     Emitted::Done(input, t4) => {
-                        match asserted_at(exprs, signals, places, t4, words, at, 18) {
+                        match asserted_at(exprs, wires, places, t4, words, at, 18) {
                             Emitted::Done(asserted, t5) => Ported::Done(
                                 Port {
                                     writes,
@@ -158,7 +158,7 @@ pub fn first_size(words: &[u32], at: usize) -> usize
 pub fn second_port(
     exprs: &mut [u32],
     parts: &mut [u32],
-    signals: &[u32],
+    wires: &[u32],
     places: &[u32],
     t: Tapes,
     words: &[u32],
@@ -167,7 +167,7 @@ pub fn second_port(
     address: u32,
 ) -> Seconded
     requires { ⌜ (address ≤ length (now parts)) × (wordAt (now words) (at + 2) ≤ length (now parts)) ⌝ }
-    ensures { λ r. ⌜ WroteExprs (now (exprs .entry)) t (secondExprs (wiresOf (now (signals .entry)) (now (places .entry))) shift address (ramAt (now (words .entry)) at .second)) (seconded (secondAt (now (words .entry)) at .output) (secondAt (now (words .entry)) at .readEnable) r) (now (exprs .exit)) ⌝ }
+    ensures { λ r. ⌜ WroteExprs (now (exprs .entry)) t (secondExprs (wiresOf (now (wires .entry)) (now (places .entry))) shift address (ramAt (now (words .entry)) at .second)) (seconded (secondAt (now (words .entry)) at .output) (secondAt (now (words .entry)) at .readEnable) r) (now (exprs .exit)) ⌝ }
 {
     if field(words, at, 42) == 0 {
         return Seconded::Done(Second::Absent, t);
@@ -177,7 +177,7 @@ pub fn second_port(
     match address_at(
         exprs,
         parts,
-        signals,
+        wires,
         places,
         t,
         words,
@@ -190,7 +190,7 @@ pub fn second_port(
             match data_expression(
                 exprs,
                 parts,
-                signals,
+                wires,
                 places,
                 t2,
                 words,
@@ -199,7 +199,7 @@ pub fn second_port(
                 width,
             ) {
                 Emitted::Done(input, t3) => {
-                    match asserted_at(exprs, signals, places, t3, words, at, start + 14) {
+                    match asserted_at(exprs, wires, places, t3, words, at, start + 14) {
                         Emitted::Done(asserted, t4) => Seconded::Done(
                             Second::Present(Port {
                                 writes: a,
@@ -223,22 +223,22 @@ pub fn second_port(
 pub fn dram_port(
     exprs: &mut [u32],
     parts: &mut [u32],
-    signals: &[u32],
+    wires: &[u32],
     places: &[u32],
     t: Tapes,
     words: &[u32],
     at: usize,
 ) -> Ported
     requires { ⌜ 4 ≤ length (now parts) ⌝ }
-    ensures { λ r. ⌜ WroteExprs (now (exprs .entry)) t (dramExprs (wiresOf (now (signals .entry)) (now (places .entry))) (dramAt (now (words .entry)) at)) (ported (dramAt (now (words .entry)) at .output) none r) (now (exprs .exit)) ⌝ }
+    ensures { λ r. ⌜ WroteExprs (now (exprs .entry)) t (dramExprs (wiresOf (now (wires .entry)) (now (places .entry))) (dramAt (now (words .entry)) at)) (ported (dramAt (now (words .entry)) at .output) none r) (now (exprs .exit)) ⌝ }
 {
-    match data_expression(exprs, parts, signals, places, t, words, at, 1, 4) {
+    match data_expression(exprs, parts, wires, places, t, words, at, 1, 4) {
         Emitted::Done(writes, t2) => {
-            match data_expression(exprs, parts, signals, places, t2, words, at, 11, 4) {
+            match data_expression(exprs, parts, wires, places, t2, words, at, 11, 4) {
                 Emitted::Done(reads, t3) => {
-                    match data_expression(exprs, parts, signals, places, t3, words, at, 5, 4) {
+                    match data_expression(exprs, parts, wires, places, t3, words, at, 5, 4) {
                         Emitted::Done(input, t4) => {
-                            match asserted_at(exprs, signals, places, t4, words, at, 9) {
+                            match asserted_at(exprs, wires, places, t4, words, at, 9) {
                                 Emitted::Done(asserted, t5) => Ported::Done(
                                     Port {
                                         writes,

@@ -28,24 +28,24 @@ fn to_copy(n: usize, a: usize, b: usize) -> usize
 pub fn balanced_address_mux_of_nodes(
     exprs: &mut [u32],
     nodes: &[AddressMuxNode],
-    matched: &mut [u32],
-    value: &mut [u32],
+    parts: &mut [u32],
+    values: &mut [u32],
     t: Tapes,
     width: u32,
     zero: ExprId,
 ) -> Emitted
-    ensures { λ r. ⌜ WroteExprs (now (exprs .entry)) t (muxOfNodes (now (matched .entry)) (now (value .entry)) width (now (nodes .entry)) (zero .0)) (emitted r) (now (exprs .exit)) ⌝ }
+    ensures { λ r. ⌜ WroteExprs (now (exprs .entry)) t (muxOfNodes (now (parts .entry)) (now (values .entry)) width (now (nodes .entry)) (zero .0)) (emitted r) (now (exprs .exit)) ⌝ }
 {
     let n = nodes.len();
-    let m = to_copy(n, matched.len(), value.len());
+    let m = to_copy(n, parts.len(), values.len());
     let mut i = 0;
     while i < m {
         let d = nodes[i];
-        matched[i] = d.matched.0;
-        value[i] = d.value.0;
+        parts[i] = d.matched.0;
+        values[i] = d.value.0;
         i = i + 1;
     }
-    balanced_address_mux(exprs, matched, value, t, n, width, zero)
+    balanced_address_mux(exprs, parts, values, t, n, width, zero)
 }
 
 // An array of nodes goes by value; here its first n are lent.
@@ -53,16 +53,16 @@ fn lend_nodes(
     exprs: &mut [u32],
     nodes: [AddressMuxNode; 16384],
     n: usize,
-    matched: &mut [u32],
-    value: &mut [u32],
+    parts: &mut [u32],
+    values: &mut [u32],
     t: Tapes,
     width: u32,
     zero: ExprId,
 ) -> Emitted
     requires { ⌜ n ≤ 16384 ⌝ }
-    ensures { λ r. ⌜ WroteExprs (now (exprs .entry)) t (muxOfNodes (now (matched .entry)) (now (value .entry)) width (take n nodes) (zero .0)) (emitted r) (now (exprs .exit)) ⌝ }
+    ensures { λ r. ⌜ WroteExprs (now (exprs .entry)) t (muxOfNodes (now (parts .entry)) (now (values .entry)) width (take n nodes) (zero .0)) (emitted r) (now (exprs .exit)) ⌝ }
 {
-    balanced_address_mux_of_nodes(exprs, &nodes[..n], matched, value, t, width, zero)
+    balanced_address_mux_of_nodes(exprs, &nodes[..n], parts, values, t, width, zero)
 }
 
 // The first n nodes of an array; it holds as many as the deepest block RAM has words. More than it holds are refused.
@@ -70,16 +70,16 @@ pub fn balanced_address_mux_of_array(
     exprs: &mut [u32],
     nodes: [AddressMuxNode; 16384],
     n: usize,
-    matched: &mut [u32],
-    value: &mut [u32],
+    parts: &mut [u32],
+    values: &mut [u32],
     t: Tapes,
     width: u32,
     zero: ExprId,
 ) -> Emitted
-    ensures { λ r. ⌜ WroteExprs (now (exprs .entry)) t (atMost 16384 n (muxOfNodes (now (matched .entry)) (now (value .entry)) width (take n nodes) (zero .0))) (emitted r) (now (exprs .exit)) ⌝ }
+    ensures { λ r. ⌜ WroteExprs (now (exprs .entry)) t (atMost 16384 n (muxOfNodes (now (parts .entry)) (now (values .entry)) width (take n nodes) (zero .0))) (emitted r) (now (exprs .exit)) ⌝ }
 {
     if n > 16384 {
         return Emitted::Refused(Refusal::BufferTooShort(n));
     }
-    lend_nodes(exprs, nodes, n, matched, value, t, width, zero)
+    lend_nodes(exprs, nodes, n, parts, values, t, width, zero)
 }

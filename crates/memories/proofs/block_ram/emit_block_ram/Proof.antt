@@ -20,11 +20,11 @@ work-of-requires c κs = search needs
 
 -- src/block_ram.rt:286:9
 returns : tie.Need-returns
-returns c = wrote-as (roomy-no (workOf (ramAt (c .before .before .before .before .before .before .before .before .before .before .args .words .now) (c .before .before .before .before .before .before .before .before .before .before .args .at))) (c .before .before .before .before .before .before .before .before .before .before .args .matched .now) _ (subst (λ (k : ℕ). length (c .before .before .before .before .before .before .before .before .before .before .args .matched .now) < k) (c .before .work-of .ensures) (c .if1 .taken)) ∙ ap (λ (k : ℕ). refuse 1 k) (sym (c .before .work-of .ensures))) wrote-refuse
+returns c = wrote-as (roomy-no (workOf (ramAt (c .before .before .before .before .before .before .before .before .before .before .args .words .now) (c .before .before .before .before .before .before .before .before .before .before .args .at))) (c .before .before .before .before .before .before .before .before .before .before .args .parts .now) _ (subst (λ (k : ℕ). length (c .before .before .before .before .before .before .before .before .before .before .args .parts .now) < k) (c .before .work-of .ensures) (c .if1 .taken)) ∙ ap (λ (k : ℕ). refuse 1 k) (sym (c .before .work-of .ensures))) wrote-refuse
 
 -- src/block_ram.rt:289:9
 returns-2 : tie.Need-returns-2
-returns-2 c = wrote-as (roomy-yes (workOf (ramAt (c .before .before .before .before .before .before .before .before .before .before .before .args .words .now) (c .before .before .before .before .before .before .before .before .before .before .before .args .at))) (c .before .before .before .before .before .before .before .before .before .before .before .args .matched .now) _ (subst (λ (k : ℕ). k ≤ length (c .before .before .before .before .before .before .before .before .before .before .before .args .matched .now)) (c .before .before .work-of .ensures) (c .before .if1 .left)) ∙ roomy-no (workOf (ramAt (c .before .before .before .before .before .before .before .before .before .before .before .args .words .now) (c .before .before .before .before .before .before .before .before .before .before .before .args .at))) (c .before .before .before .before .before .before .before .before .before .before .before .args .value .now) _ (subst (λ (k : ℕ). length (c .before .before .before .before .before .before .before .before .before .before .before .args .value .now) < k) (c .before .before .work-of .ensures) (c .if2 .taken)) ∙ ap (λ (k : ℕ). refuse 1 k) (sym (c .before .before .work-of .ensures))) wrote-refuse
+returns-2 c = wrote-as (roomy-yes (workOf (ramAt (c .before .before .before .before .before .before .before .before .before .before .before .args .words .now) (c .before .before .before .before .before .before .before .before .before .before .before .args .at))) (c .before .before .before .before .before .before .before .before .before .before .before .args .parts .now) _ (subst (λ (k : ℕ). k ≤ length (c .before .before .before .before .before .before .before .before .before .before .before .args .parts .now)) (c .before .before .work-of .ensures) (c .before .if1 .left)) ∙ roomy-no (workOf (ramAt (c .before .before .before .before .before .before .before .before .before .before .before .args .words .now) (c .before .before .before .before .before .before .before .before .before .before .before .args .at))) (c .before .before .before .before .before .before .before .before .before .before .before .args .values .now) _ (subst (λ (k : ℕ). length (c .before .before .before .before .before .before .before .before .before .before .before .args .values .now) < k) (c .before .before .work-of .ensures) (c .if2 .taken)) ∙ ap (λ (k : ℕ). refuse 1 k) (sym (c .before .before .work-of .ensures))) wrote-refuse
 
 -- src/block_ram.rt:291:5
 with-work-requires : tie.Need-with-work-requires
@@ -52,7 +52,7 @@ same-length-5 c = c .before .before .before .before .before .before .before .bef
 
 -- src/block_ram.rt:268:1
 returns-3 : tie.Need-returns-3
-returns-3 c = wrote-as (roomy-yes (workOf (ramAt (c .before .before .before .before .before .before .before .before .before .before .before .before .before .before .before .before .before .before .before .before .before .before .before .before .before .before .before .args .words .now) (c .before .before .before .before .before .before .before .before .before .before .before .before .before .before .before .before .before .before .before .before .before .before .before .before .before .before .before .args .at))) (c .before .before .before .before .before .before .before .before .before .before .before .before .before .before .before .before .before .before .before .before .before .before .before .before .before .before .before .args .matched .now) _ (subst (λ (k : ℕ). k ≤ length (c .before .before .before .before .before .before .before .before .before .before .before .before .before .before .before .before .before .before .before .before .before .before .before .before .before .before .before .args .matched .now)) (c .before .before .before .before .before .before .before .before .before .before .before .before .before .before .before .before .before .before .work-of .ensures) (c .before .before .before .before .before .before .before .before .before .before .before .before .before .before .before .before .before .if1 .left)) ∙ roomy-yes (workOf (ramAt (c .before .before .before .before .before .before .before .before .before .before .before .before .before .before .before .before .before .before .before .before .before .before .before .before .before .before .before .args .words .now) (c .before .before .before .before .before .before .before .before .before .before .before .before .before .before .before .before .before .before .before .before .before .before .before .before .before .before .before .args .at))) (c .before .before .before .before .before .before .before .before .before .before .before .before .before .before .before .before .before .before .before .before .before .before .before .before .before .before .before .args .value .now) _ (subst (λ (k : ℕ). k ≤ length (c .before .before .before .before .before .before .before .before .before .before .before .before .before .before .before .before .before .before .before .before .before .before .before .before .before .before .before .args .value .now)) (c .before .before .before .before .before .before .before .before .before .before .before .before .before .before .before .before .before .before .work-of .ensures) (c .before .before .before .before .before .before .before .before .before .before .before .before .before .before .before .before .if2 .left))) (c .before .before .before .before .before .before .before .before .before .before .with-work .ensures)
+returns-3 c = wrote-as (roomy-yes (workOf (ramAt (c .before .before .before .before .before .before .before .before .before .before .before .before .before .before .before .before .before .before .before .before .before .before .before .before .before .before .before .args .words .now) (c .before .before .before .before .before .before .before .before .before .before .before .before .before .before .before .before .before .before .before .before .before .before .before .before .before .before .before .args .at))) (c .before .before .before .before .before .before .before .before .before .before .before .before .before .before .before .before .before .before .before .before .before .before .before .before .before .before .before .args .parts .now) _ (subst (λ (k : ℕ). k ≤ length (c .before .before .before .before .before .before .before .before .before .before .before .before .before .before .before .before .before .before .before .before .before .before .before .before .before .before .before .args .parts .now)) (c .before .before .before .before .before .before .before .before .before .before .before .before .before .before .before .before .before .before .work-of .ensures) (c .before .before .before .before .before .before .before .before .before .before .before .before .before .before .before .before .before .if1 .left)) ∙ roomy-yes (workOf (ramAt (c .before .before .before .before .before .before .before .before .before .before .before .before .before .before .before .before .before .before .before .before .before .before .before .before .before .before .before .args .words .now) (c .before .before .before .before .before .before .before .before .before .before .before .before .before .before .before .before .before .before .before .before .before .before .before .before .before .before .before .args .at))) (c .before .before .before .before .before .before .before .before .before .before .before .before .before .before .before .before .before .before .before .before .before .before .before .before .before .before .before .args .values .now) _ (subst (λ (k : ℕ). k ≤ length (c .before .before .before .before .before .before .before .before .before .before .before .before .before .before .before .before .before .before .before .before .before .before .before .before .before .before .before .args .values .now)) (c .before .before .before .before .before .before .before .before .before .before .before .before .before .before .before .before .before .before .work-of .ensures) (c .before .before .before .before .before .before .before .before .before .before .before .before .before .before .before .before .if2 .left))) (c .before .before .before .before .before .before .before .before .before .before .with-work .ensures)
 
 pub emit-block-ram-spec : {M : Type 1} → statement M
 emit-block-ram-spec =

@@ -83,7 +83,7 @@ same-length-4 c = search needs
 -- src/distributed_ram.rt:185:1
 returns-2 : tie.Need-returns-2
 unfolding recordsAt
-returns-2 c = wrote-as (roomy-yes 4 (c .before .before .before .before .before .before .before .before .before .before .before .before .before .before .before .before .before .before .before .before .before .before .before .before .before .before .before .before .before .before .before .before .before .before .before .args .parts .now) _ (omega (arith, c .before .before .before .before .before .before .before .before .before .before .before .before .before .before .before .before .before .before .before .before .before .before .before .before .before .before .before .if1 .left)) ∙ dram-split (wiresOf (c .before .before .before .before .before .before .before .before .before .before .before .before .before .before .before .before .before .before .before .before .before .before .before .before .before .before .before .before .before .before .before .before .before .before .before .args .signals .now) (c .before .before .before .before .before .before .before .before .before .before .before .before .before .before .before .before .before .before .before .before .before .before .before .before .before .before .before .before .before .before .before .before .before .before .before .args .places .now)) (c .before .before .before .before .before .before .before .before .before .before .before .before .before .before .before .before .before .before .before .before .before .before .before .before .before .before .before .before .before .before .before .before .before .before .before .args .constants) (c .before .before .before .before .before .before .before .before .before .before .before .before .before .before .before .before .before .before .before .before .before .before .before .before .before .before .before .before .before .before .before .before .before .before .before .args .owner) (dramAt (c .before .before .before .before .before .before .before .before .before .before .before .before .before .before .before .before .before .before .before .before .before .before .before .before .before .before .before .before .before .before .before .before .before .before .before .args .words .now) (c .before .before .before .before .before .before .before .before .before .before .before .before .before .before .before .before .before .before .before .before .before .before .before .before .before .before .before .before .before .before .before .before .before .before .before .args .at))) (then-done (c .before .before .before .before .before .before .before .before .before .before .before .before .before .before .before .before .before .before .before .before .before .before .before .before .dram-port .ensures _ _) _ (ap (λ (q : Ported). ported ((dramAt (c .before .before .before .before .before .before .before .before .before .before .before .before .before .before .before .before .before .before .before .before .before .before .before .before .before .before .before .before .before .before .before .before .before .before .before .args .words .now) (c .before .before .before .before .before .before .before .before .before .before .before .before .before .before .before .before .before .before .before .before .before .before .before .before .before .before .before .before .before .before .before .before .before .before .before .args .at)) .output) none q) (c .before .before .before .before .before .before .before .before .before .before .before .before .before .before .before .before .before .before .port .given .1)) (wrote-as (signal-known (reads-as (wiresOf (c .before .before .before .before .before .before .before .before .before .before .before .before .before .before .before .before .before .before .before .before .before .before .before .before .before .before .before .before .before .before .before .before .before .before .before .args .signals .now) (c .before .before .before .before .before .before .before .before .before .before .before .before .before .before .before .before .before .before .before .before .before .before .before .before .before .before .before .before .before .before .before .before .before .before .before .args .places .now)) (c .before .before .before .before .before .before .before .before .before .before .before .before .before .before .before .before .before .before .before .before .before .before .before .before .before .before .before .before .before .before .before .before .before .before .before .args .constants) _ (sym (c .before .before .before .before .before .before .before .before .before .before .before .before .before .before .before .before .bit-at .ensures)) (c .before .before .before .before .before .before .before .before .before .before .before .before .before .before .before .bit-signal .ensures)) _ (c .before .before .before .before .before .before .before .before .before .before .before .before .before .clock .given .1) ∙ dram-body-writing (wiresOf (c .before .before .before .before .before .before .before .before .before .before .before .before .before .before .before .before .before .before .before .before .before .before .before .before .before .before .before .before .before .before .before .before .before .before .before .args .signals .now) (c .before .before .before .before .before .before .before .before .before .before .before .before .before .before .before .before .before .before .before .before .before .before .before .before .before .before .before .before .before .before .before .before .before .before .before .args .places .now)) ((dramAt (c .before .before .before .before .before .before .before .before .before .before .before .before .before .before .before .before .before .before .before .before .before .before .before .before .before .before .before .before .before .before .before .before .before .before .before .args .words .now) (c .before .before .before .before .before .before .before .before .before .before .before .before .before .before .before .before .before .before .before .before .before .before .before .before .before .before .before .before .before .before .before .before .before .before .before .args .at)) .output) none (c .before .before .before .before .before .before .before .before .before .before .before .before .before .before .before .before .before .before .port .given .0 .0) (c .before .before .before .before .before .before .before .before .before .before .before .before .before .before .before .before .before .before .before .before .before .before .before .before .before .before .before .before .before .before .before .before .before .before .before .args .owner) (c .before .before .before .before .before .before .before .before .before .before .before .before .before .clock .given .0 .0 .0) (c .before .before .before .before .before .before .before .before .before .before .before .field .ensures) (c .before .before .before .before .before .before .before .before .before .before .field2 .ensures)) (c .before .before .before .before .before .before .dram-body .ensures)))
+returns-2 c = wrote-as (roomy-yes 4 (c .before .before .before .before .before .before .before .before .before .before .before .before .before .before .before .before .before .before .before .before .before .before .before .before .before .before .before .before .before .before .before .before .before .before .before .args .parts .now) _ (omega (arith, c .before .before .before .before .before .before .before .before .before .before .before .before .before .before .before .before .before .before .before .before .before .before .before .before .before .before .before .if1 .left)) ∙ dram-split (wiresOf (c .before .before .before .before .before .before .before .before .before .before .before .before .before .before .before .before .before .before .before .before .before .before .before .before .before .before .before .before .before .before .before .before .before .before .before .args .wires .now) (c .before .before .before .before .before .before .before .before .before .before .before .before .before .before .before .before .before .before .before .before .before .before .before .before .before .before .before .before .before .before .before .before .before .before .before .args .places .now)) (c .before .before .before .before .before .before .before .before .before .before .before .before .before .before .before .before .before .before .before .before .before .before .before .before .before .before .before .before .before .before .before .before .before .before .before .args .constants) (c .before .before .before .before .before .before .before .before .before .before .before .before .before .before .before .before .before .before .before .before .before .before .before .before .before .before .before .before .before .before .before .before .before .before .before .args .owner) (dramAt (c .before .before .before .before .before .before .before .before .before .before .before .before .before .before .before .before .before .before .before .before .before .before .before .before .before .before .before .before .before .before .before .before .before .before .before .args .words .now) (c .before .before .before .before .before .before .before .before .before .before .before .before .before .before .before .before .before .before .before .before .before .before .before .before .before .before .before .before .before .before .before .before .before .before .before .args .at))) (then-done (c .before .before .before .before .before .before .before .before .before .before .before .before .before .before .before .before .before .before .before .before .before .before .before .before .dram-port .ensures _ _) _ (ap (λ (q : Ported). ported ((dramAt (c .before .before .before .before .before .before .before .before .before .before .before .before .before .before .before .before .before .before .before .before .before .before .before .before .before .before .before .before .before .before .before .before .before .before .before .args .words .now) (c .before .before .before .before .before .before .before .before .before .before .before .before .before .before .before .before .before .before .before .before .before .before .before .before .before .before .before .before .before .before .before .before .before .before .before .args .at)) .output) none q) (c .before .before .before .before .before .before .before .before .before .before .before .before .before .before .before .before .before .before .port .given .1)) (wrote-as (signal-known (reads-as (wiresOf (c .before .before .before .before .before .before .before .before .before .before .before .before .before .before .before .before .before .before .before .before .before .before .before .before .before .before .before .before .before .before .before .before .before .before .before .args .wires .now) (c .before .before .before .before .before .before .before .before .before .before .before .before .before .before .before .before .before .before .before .before .before .before .before .before .before .before .before .before .before .before .before .before .before .before .before .args .places .now)) (c .before .before .before .before .before .before .before .before .before .before .before .before .before .before .before .before .before .before .before .before .before .before .before .before .before .before .before .before .before .before .before .before .before .before .before .args .constants) _ (sym (c .before .before .before .before .before .before .before .before .before .before .before .before .before .before .before .before .bit-at .ensures)) (c .before .before .before .before .before .before .before .before .before .before .before .before .before .before .before .bit-signal .ensures)) _ (c .before .before .before .before .before .before .before .before .before .before .before .before .before .clock .given .1) ∙ dram-body-writing (wiresOf (c .before .before .before .before .before .before .before .before .before .before .before .before .before .before .before .before .before .before .before .before .before .before .before .before .before .before .before .before .before .before .before .before .before .before .before .args .wires .now) (c .before .before .before .before .before .before .before .before .before .before .before .before .before .before .before .before .before .before .before .before .before .before .before .before .before .before .before .before .before .before .before .before .before .before .before .args .places .now)) ((dramAt (c .before .before .before .before .before .before .before .before .before .before .before .before .before .before .before .before .before .before .before .before .before .before .before .before .before .before .before .before .before .before .before .before .before .before .before .args .words .now) (c .before .before .before .before .before .before .before .before .before .before .before .before .before .before .before .before .before .before .before .before .before .before .before .before .before .before .before .before .before .before .before .before .before .before .before .args .at)) .output) none (c .before .before .before .before .before .before .before .before .before .before .before .before .before .before .before .before .before .before .port .given .0 .0) (c .before .before .before .before .before .before .before .before .before .before .before .before .before .before .before .before .before .before .before .before .before .before .before .before .before .before .before .before .before .before .before .before .before .before .before .args .owner) (c .before .before .before .before .before .before .before .before .before .before .before .before .before .clock .given .0 .0 .0) (c .before .before .before .before .before .before .before .before .before .before .before .field .ensures) (c .before .before .before .before .before .before .before .before .before .before .field2 .ensures)) (c .before .before .before .before .before .before .dram-body .ensures)))
 
 -- src/distributed_ram.rt:185:1
 same-length-5 : tie.Need-same-length-5
@@ -95,7 +95,7 @@ same-length-6 c = search needs
 
 -- src/distributed_ram.rt:185:1
 returns-3 : tie.Need-returns-3
-returns-3 c = wrote-as (roomy-yes 4 (c .before .before .before .before .before .before .before .before .before .before .before .before .before .before .before .before .before .before .before .before .before .before .before .args .parts .now) _ (omega (arith, c .before .before .before .before .before .before .before .before .before .before .before .before .before .before .before .if1 .left)) ∙ dram-split (wiresOf (c .before .before .before .before .before .before .before .before .before .before .before .before .before .before .before .before .before .before .before .before .before .before .before .args .signals .now) (c .before .before .before .before .before .before .before .before .before .before .before .before .before .before .before .before .before .before .before .before .before .before .before .args .places .now)) (c .before .before .before .before .before .before .before .before .before .before .before .before .before .before .before .before .before .before .before .before .before .before .before .args .constants) (c .before .before .before .before .before .before .before .before .before .before .before .before .before .before .before .before .before .before .before .before .before .before .before .args .owner) (dramAt (c .before .before .before .before .before .before .before .before .before .before .before .before .before .before .before .before .before .before .before .before .before .before .before .args .words .now) (c .before .before .before .before .before .before .before .before .before .before .before .before .before .before .before .before .before .before .before .before .before .before .before .args .at))) (then-done (c .before .before .before .before .before .before .before .before .before .before .before .before .dram-port .ensures _ _) _ (ap (λ (q : Ported). ported ((dramAt (c .before .before .before .before .before .before .before .before .before .before .before .before .before .before .before .before .before .before .before .before .before .before .before .args .words .now) (c .before .before .before .before .before .before .before .before .before .before .before .before .before .before .before .before .before .before .before .before .before .before .before .args .at)) .output) none q) (c .before .before .before .before .before .before .port .given .1)) (wrote-as (signal-refused (reads-as (wiresOf (c .before .before .before .before .before .before .before .before .before .before .before .before .before .before .before .before .before .before .before .before .before .before .before .args .signals .now) (c .before .before .before .before .before .before .before .before .before .before .before .before .before .before .before .before .before .before .before .before .before .before .before .args .places .now)) (c .before .before .before .before .before .before .before .before .before .before .before .before .before .before .before .before .before .before .before .before .before .before .before .args .constants) _ (sym (c .before .before .before .before .bit-at .ensures)) (c .before .before .before .bit-signal .ensures)) _ (c .before .x .given .1)) wrote-refuse))
+returns-3 c = wrote-as (roomy-yes 4 (c .before .before .before .before .before .before .before .before .before .before .before .before .before .before .before .before .before .before .before .before .before .before .before .args .parts .now) _ (omega (arith, c .before .before .before .before .before .before .before .before .before .before .before .before .before .before .before .if1 .left)) ∙ dram-split (wiresOf (c .before .before .before .before .before .before .before .before .before .before .before .before .before .before .before .before .before .before .before .before .before .before .before .args .wires .now) (c .before .before .before .before .before .before .before .before .before .before .before .before .before .before .before .before .before .before .before .before .before .before .before .args .places .now)) (c .before .before .before .before .before .before .before .before .before .before .before .before .before .before .before .before .before .before .before .before .before .before .before .args .constants) (c .before .before .before .before .before .before .before .before .before .before .before .before .before .before .before .before .before .before .before .before .before .before .before .args .owner) (dramAt (c .before .before .before .before .before .before .before .before .before .before .before .before .before .before .before .before .before .before .before .before .before .before .before .args .words .now) (c .before .before .before .before .before .before .before .before .before .before .before .before .before .before .before .before .before .before .before .before .before .before .before .args .at))) (then-done (c .before .before .before .before .before .before .before .before .before .before .before .before .dram-port .ensures _ _) _ (ap (λ (q : Ported). ported ((dramAt (c .before .before .before .before .before .before .before .before .before .before .before .before .before .before .before .before .before .before .before .before .before .before .before .args .words .now) (c .before .before .before .before .before .before .before .before .before .before .before .before .before .before .before .before .before .before .before .before .before .before .before .args .at)) .output) none q) (c .before .before .before .before .before .before .port .given .1)) (wrote-as (signal-refused (reads-as (wiresOf (c .before .before .before .before .before .before .before .before .before .before .before .before .before .before .before .before .before .before .before .before .before .before .before .args .wires .now) (c .before .before .before .before .before .before .before .before .before .before .before .before .before .before .before .before .before .before .before .before .before .before .before .args .places .now)) (c .before .before .before .before .before .before .before .before .before .before .before .before .before .before .before .before .before .before .before .before .before .before .before .args .constants) _ (sym (c .before .before .before .before .bit-at .ensures)) (c .before .before .before .bit-signal .ensures)) _ (c .before .x .given .1)) wrote-refuse))
 
 -- src/distributed_ram.rt:185:1
 same-length-7 : tie.Need-same-length-7
@@ -107,7 +107,7 @@ same-length-8 c = search needs
 
 -- src/distributed_ram.rt:185:1
 returns-4 : tie.Need-returns-4
-returns-4 c = wrote-as (roomy-yes 4 (c .before .before .before .before .before .before .before .before .before .before .before .before .before .before .before .before .before .before .args .parts .now) _ (omega (arith, c .before .before .before .before .before .before .before .before .before .before .if1 .left)) ∙ dram-split (wiresOf (c .before .before .before .before .before .before .before .before .before .before .before .before .before .before .before .before .before .before .args .signals .now) (c .before .before .before .before .before .before .before .before .before .before .before .before .before .before .before .before .before .before .args .places .now)) (c .before .before .before .before .before .before .before .before .before .before .before .before .before .before .before .before .before .before .args .constants) (c .before .before .before .before .before .before .before .before .before .before .before .before .before .before .before .before .before .before .args .owner) (dramAt (c .before .before .before .before .before .before .before .before .before .before .before .before .before .before .before .before .before .before .args .words .now) (c .before .before .before .before .before .before .before .before .before .before .before .before .before .before .before .before .before .before .args .at))) (then-stop (c .before .before .before .before .before .before .before .dram-port .ensures _ _) _ (ap (λ (q : Ported). ported ((dramAt (c .before .before .before .before .before .before .before .before .before .before .before .before .before .before .before .before .before .before .args .words .now) (c .before .before .before .before .before .before .before .before .before .before .before .before .before .before .before .before .before .before .args .at)) .output) none q) (c .before .x2 .given .1)))
+returns-4 c = wrote-as (roomy-yes 4 (c .before .before .before .before .before .before .before .before .before .before .before .before .before .before .before .before .before .before .args .parts .now) _ (omega (arith, c .before .before .before .before .before .before .before .before .before .before .if1 .left)) ∙ dram-split (wiresOf (c .before .before .before .before .before .before .before .before .before .before .before .before .before .before .before .before .before .before .args .wires .now) (c .before .before .before .before .before .before .before .before .before .before .before .before .before .before .before .before .before .before .args .places .now)) (c .before .before .before .before .before .before .before .before .before .before .before .before .before .before .before .before .before .before .args .constants) (c .before .before .before .before .before .before .before .before .before .before .before .before .before .before .before .before .before .before .args .owner) (dramAt (c .before .before .before .before .before .before .before .before .before .before .before .before .before .before .before .before .before .before .args .words .now) (c .before .before .before .before .before .before .before .before .before .before .before .before .before .before .before .before .before .before .args .at))) (then-stop (c .before .before .before .before .before .before .before .dram-port .ensures _ _) _ (ap (λ (q : Ported). ported ((dramAt (c .before .before .before .before .before .before .before .before .before .before .before .before .before .before .before .before .before .before .args .words .now) (c .before .before .before .before .before .before .before .before .before .before .before .before .before .before .before .before .before .before .args .at)) .output) none q) (c .before .x2 .given .1)))
 
 pub emit-distributed-ram-spec : {M : Type 1} → statement M
 emit-distributed-ram-spec =
