@@ -38,7 +38,7 @@ fn address_bit(bits: [Bit; 14], i: usize) -> Bit
     Bit::Zero
 }
 
-// So many bits of an address, at most 14, from the shift on; the highest is read first.
+// So many bits of an address, from the shift on; the highest is read first. No depth takes an address of more than 33 bits.
 pub fn address_expression(
     exprs: &mut [u32],
     wires: &[u32],
@@ -48,14 +48,14 @@ pub fn address_expression(
     shift: u32,
     width: u32,
 ) -> Emitted
-    ensures { λ r. ⌜ WroteExprs (now (exprs .entry)) t (atMost 14 width (vectorExpression (wiresOf (now (wires .entry)) (now (places .entry))) bits shift width)) (emitted r) (now (exprs .exit)) ⌝ }
+    ensures { λ r. ⌜ WroteExprs (now (exprs .entry)) t (atMost 33 width (vectorExpression (wiresOf (now (wires .entry)) (now (places .entry))) bits shift width)) (emitted r) (now (exprs .exit)) ⌝ }
 {
     let end = wide(width);
     let start = wide(shift);
-    if end > 14 {
+    if end > 33 {
         return Emitted::Refused(Refusal::BufferTooShort(end));
     }
-    let mut parts = [0u32; 14];
+    let mut parts = [0u32; 33];
     let mut now = t;
     let mut left = end;
     while left > 0 {

@@ -12,6 +12,7 @@ use crate::ram_words::update_words;
 use crate::read_port::first_read_port;
 use crate::read_port::second_read_port;
 use address_mux::address::shift_in;
+use netlist::Bit;
 use netlist::fields::bit_at;
 use netlist::fields::field;
 use netlist::fields::wide;
@@ -20,6 +21,7 @@ use recorder::ExprId;
 use recorder::SignalId;
 use recorder::Stated;
 use recorder::Tapes;
+use recorder::words::zero_words;
 use refusal::Refusal;
 use wires::Constants;
 use wires::Controlled;
@@ -29,9 +31,10 @@ ghost use Prim.Native.Nat.{_+_, _≤_, max};
 ghost use lib.ListN.{length};
 ghost use Rattle.netlist.specs.Fields.{wordAt, ramAt};
 ghost use Rattle.recorder.specs.Lists.{lists, Wrote, stated, WroteBoth};
+ghost use Rattle.recorder.specs.Words.{zeroed};
 ghost use Rattle.wires.specs.Wires.{wiresOf};
 ghost use Rattle.memories.specs.Memories.{emitBlockRam};
-ghost use Rattle.memories.specs.Rams.{portOf, secondOf, lastOf, wordsOf, Spaced, workOf, blockRamIn};
+ghost use Rattle.memories.specs.Rams.{portOf, secondOf, lastOf, wordsOf, Spaced, addressed, workOf, blockRamIn};
 ghost use Rattle.memories.specs.Steps.{secondAt, ramReads, ramBody};
 
 // Both ports read the words, which then take their next values.
@@ -172,13 +175,13 @@ fn larger(a: usize, b: usize) -> usize
     if a < b { b } else { a }
 }
 
-// The words of work that the block RAM at an index takes.
-fn work_of(words: &[u32], at: usize) -> usize
+// How many words each of the two works must have for the block RAM at an index.
+pub fn block_ram_work(words: &[u32], at: usize) -> usize
     ensures { λ r. ⌜ r ≡ workOf (ramAt (now (words .entry)) at) ⌝ }
 {
     let depth = wide(field(words, at, 1));
     let width = wide(field(words, at, 2));
-    larger(16384, larger(depth, width))
+    larger(depth, width)
 }
 
 // With enough work.
@@ -195,9 +198,12 @@ fn with_work(
     owner: u32,
     words: &[u32],
     at: usize,
+    write_address: [Bit; 14],
+    read_address: [Bit; 14],
+    second_address: [Bit; 14],
 ) -> Stated
     requires { ⌜ (workOf (ramAt (now words) at) ≤ length (now parts)) × (workOf (ramAt (now words) at) ≤ length (now values)) ⌝ }
-    ensures { λ r. ⌜ Wrote (lists (now (signals .entry)) (now (exprs .entry)) (now (stmts .entry))) t (emitBlockRam (wiresOf (now (wires .entry)) (now (places .entry))) constants owner (ramAt (now (words .entry)) at)) (stated r) (lists (now (signals .exit)) (now (exprs .exit)) (now (stmts .exit))) ⌝ }
+    ensures { λ r. ⌜ Wrote (lists (now (signals .entry)) (now (exprs .entry)) (now (stmts .entry))) t (emitBlockRam (wiresOf (now (wires .entry)) (now (places .entry))) constants owner (addressed (ramAt (now (words .entry)) at) «write_address» «read_address» «second_address»)) (stated r) (lists (now (signals .exit)) (now (exprs .exit)) (now (stmts .exit))) ⌝ }
 {
     let address = address_width(field(words, at, 1));
     let shift = shift_in(field(words, at, 3));
@@ -209,6 +215,8 @@ fn with_work(
         t,
         words,
         at,
+        write_address,
+        read_address,
         shift,
         address,
     ) {
@@ -221,6 +229,7 @@ fn with_work(
                 t2,
                 words,
                 at,
+                second_address,
                 shift,
                 address,
             ) {
@@ -264,8 +273,8 @@ fn with_work(
     }
 }
 
-// The block RAM at an index, cell number `owner`. Both work slices are checked first.
-pub fn emit_block_ram(
+// Both works are checked first.
+fn in_work(
     signals: &mut [u32],
     exprs: &mut [u32],
     stmts: &mut [u32],
@@ -278,10 +287,13 @@ pub fn emit_block_ram(
     owner: u32,
     words: &[u32],
     at: usize,
+    write_address: [Bit; 14],
+    read_address: [Bit; 14],
+    second_address: [Bit; 14],
 ) -> Stated
-    ensures { λ r. ⌜ Wrote (lists (now (signals .entry)) (now (exprs .entry)) (now (stmts .entry))) t (blockRamIn (now (parts .entry)) (now (values .entry)) (wiresOf (now (wires .entry)) (now (places .entry))) constants owner (ramAt (now (words .entry)) at)) (stated r) (lists (now (signals .exit)) (now (exprs .exit)) (now (stmts .exit))) ⌝ }
+    ensures { λ r. ⌜ Wrote (lists (now (signals .entry)) (now (exprs .entry)) (now (stmts .entry))) t (blockRamIn (now (parts .entry)) (now (values .entry)) (wiresOf (now (wires .entry)) (now (places .entry))) constants owner (addressed (ramAt (now (words .entry)) at) «write_address» «read_address» «second_address»)) (stated r) (lists (now (signals .exit)) (now (exprs .exit)) (now (stmts .exit))) ⌝ }
 {
-    let work = work_of(words, at);
+    let work = block_ram_work(words, at);
     if parts.len() < work {
         return Stated::Refused(Refusal::BufferTooShort(work));
     }
@@ -301,5 +313,51 @@ pub fn emit_block_ram(
         owner,
         words,
         at,
+        write_address,
+        read_address,
+        second_address,
     )
+}
+
+// The block RAM at an index, cell number `owner`. Its addresses come by themselves; the second port's counts if there is one.
+pub fn emit_block_ram(
+    signals: &mut [u32],
+    exprs: &mut [u32],
+    stmts: &mut [u32],
+    parts: &mut [u32],
+    values: &mut [u32],
+    wires: &[u32],
+    places: &[u32],
+    t: Tapes,
+    constants: Constants,
+    owner: u32,
+    words: &[u32],
+    at: usize,
+    write_address: [Bit; 14],
+    read_address: [Bit; 14],
+    second_address: [Bit; 14],
+) -> Stated
+    ensures wrote { λ r. ⌜ Wrote (lists (now (signals .entry)) (now (exprs .entry)) (now (stmts .entry))) t (blockRamIn (now (parts .entry)) (now (values .entry)) (wiresOf (now (wires .entry)) (now (places .entry))) constants owner (addressed (ramAt (now (words .entry)) at) «write_address» «read_address» «second_address»)) (stated r) (lists (now (signals .exit)) (now (exprs .exit)) (now (stmts .exit))) ⌝ }
+    ensures works { λ _. ⌜ (now (parts .exit) ≡ zeroed (now (parts .entry))) × (now (values .exit) ≡ zeroed (now (values .entry))) ⌝ }
+{
+    let r = in_work(
+        signals,
+        exprs,
+        stmts,
+        parts,
+        values,
+        wires,
+        places,
+        t,
+        constants,
+        owner,
+        words,
+        at,
+        write_address,
+        read_address,
+        second_address,
+    );
+    zero_words(parts);
+    zero_words(values);
+    r
 }

@@ -6,6 +6,7 @@ use crate::Worded;
 use crate::ports::dram_port;
 use crate::ram_words::ram_word;
 use address_mux::address::match_address;
+use netlist::Bit;
 use netlist::fields::bit_at;
 use netlist::fields::field;
 use recorder::AsyncReset;
@@ -16,7 +17,6 @@ use recorder::SignalId;
 use recorder::Stated;
 use recorder::Tapes;
 use recorder::builder;
-use refusal::Refusal;
 use wires::Constants;
 use wires::Controlled;
 use wires::expressions::assign_wire;
@@ -26,8 +26,8 @@ ghost use Prim.Native.Nat.{ℕ, _≤_};
 ghost use lib.ListN.{length};
 ghost use Rattle.recorder.specs.Lists.{lists, Wrote, WroteExprs, emitted, stated, WroteBoth};
 ghost use Rattle.wires.specs.Wires.{wiresOf};
-ghost use Rattle.memories.specs.Memories.{dramWords, dramSelect};
-ghost use Rattle.memories.specs.Rams.{writing, worded, wordsFrom, reach, distributedRamIn, dramAt};
+ghost use Rattle.memories.specs.Memories.{dramWords, dramSelect, emitDistributedRam};
+ghost use Rattle.memories.specs.Rams.{writing, worded, wordsFrom, reach, dramAt, dramAddressed};
 ghost use Rattle.memories.specs.Steps.{dramWord, FilledAll, selectOne, dramRead, dramBody};
 
 // The word at an index, with its register.
@@ -187,12 +187,11 @@ fn dram_body(
     dram_read(exprs, stmts, wires, places, t2, reads, current, output)
 }
 
-// The distributed RAM at an index, cell number `owner`. The work is checked first.
+// The distributed RAM at an index, cell number `owner`. Its addresses come by themselves.
 pub fn emit_distributed_ram(
     signals: &mut [u32],
     exprs: &mut [u32],
     stmts: &mut [u32],
-    parts: &mut [u32],
     wires: &[u32],
     places: &[u32],
     t: Tapes,
@@ -200,13 +199,21 @@ pub fn emit_distributed_ram(
     owner: u32,
     words: &[u32],
     at: usize,
+    write_address: [Bit; 4],
+    read_address: [Bit; 4],
 ) -> Stated
-    ensures { λ r. ⌜ Wrote (lists (now (signals .entry)) (now (exprs .entry)) (now (stmts .entry))) t (distributedRamIn (now (parts .entry)) (wiresOf (now (wires .entry)) (now (places .entry))) constants owner (dramAt (now (words .entry)) at)) (stated r) (lists (now (signals .exit)) (now (exprs .exit)) (now (stmts .exit))) ⌝ }
+    ensures { λ r. ⌜ Wrote (lists (now (signals .entry)) (now (exprs .entry)) (now (stmts .entry))) t (emitDistributedRam (wiresOf (now (wires .entry)) (now (places .entry))) constants owner (dramAddressed (dramAt (now (words .entry)) at) «write_address» «read_address»)) (stated r) (lists (now (signals .exit)) (now (exprs .exit)) (now (stmts .exit))) ⌝ }
 {
-    if parts.len() < 4 {
-        return Stated::Refused(Refusal::BufferTooShort(4));
-    }
-    match dram_port(exprs, parts, wires, places, t, words, at) {
+    match dram_port(
+        exprs,
+        wires,
+        places,
+        t,
+        words,
+        at,
+        write_address,
+        read_address,
+    ) {
         Ported::Done(port, t2) => {
             let bit = bit_at(words, at, 19);
             match bit_signal(wires, places, constants, bit) {

@@ -21,8 +21,8 @@ use Rattle.wires.proofs.expressions.bit_expression.Reads as bit-expression-read
 use Rattle.wires.proofs.expressions.concat_parts.Reads as concat-parts-reads
 
 abbrev Inv-loop : tie.InvT-loop
-Inv-loop exprs₀ wires places bits shift width end start parts₀ now₀ left₀ exprs parts now left = (left ≤ end) × (end ≤ 14) × (length parts ≡ 14) × (length exprs ≡ length exprs₀)
-    × Doing (wiresOf wires places) bits shift (atMost 14 width (vectorExpression (wiresOf wires places) bits shift width)) end exprs₀ now₀ exprs now left parts
+Inv-loop exprs₀ wires places bits shift width end start parts₀ now₀ left₀ exprs parts now left = (left ≤ end) × (end ≤ 33) × (length parts ≡ 33) × (length exprs ≡ length exprs₀)
+    × Doing (wiresOf wires places) bits shift (atMost 33 width (vectorExpression (wiresOf wires places) bits shift width)) end exprs₀ now₀ exprs now left parts
 
 abbrev μ-loop : tie.MeasureT-loop
 μ-loop exprs₀ wires places bits shift width end start parts₀ now₀ left₀ exprs parts now left = left
@@ -37,11 +37,11 @@ wide-requires-2 c κs = search needs
 
 -- src/address.rt:56:9
 returns : tie.Need-returns Inv-loop μ-loop
-returns c = λ s m. wrote-as (at-most-no 14 (c .before .before .before .before .before .before .args .width) _ (omega arith) ∙ ap (λ (x : ℕ). refuse 1 x) (sym (c .before .before .wide .ensures))) wrote-refuse
+returns c = λ s m. wrote-as (at-most-no 33 (c .before .before .before .before .before .before .args .width) _ (omega arith) ∙ ap (λ (x : ℕ). refuse 1 x) (sym (c .before .before .wide .ensures))) wrote-refuse
 
 -- src/address.rt:61:5
 loop-holds : tie.Need-loop-holds Inv-loop μ-loop
-loop-holds c = (search needs, search needs, refl, refl, doing-start _ (at-most-yes 14 (c .before .before .before .before .before .before .args .width) _ (omega arith) ∙ ap (λ (k : ℕ). vectorExpression (wiresOf (c .before .before .before .before .before .before .args .wires .now) (c .before .before .before .before .before .before .args .places .now)) (c .before .before .before .before .before .before .args .bits) (c .before .before .before .before .before .before .args .shift) k) (sym (c .before .before .wide .ensures))))
+loop-holds c = (search needs, search needs, refl, refl, doing-start _ (at-most-yes 33 (c .before .before .before .before .before .before .args .width) _ (omega arith) ∙ ap (λ (k : ℕ). vectorExpression (wiresOf (c .before .before .before .before .before .before .args .wires .now) (c .before .before .before .before .before .before .args .places .now)) (c .before .before .before .before .before .before .args .bits) (c .before .before .before .before .before .before .args .shift) k) (sym (c .before .before .wide .ensures))))
 
 -- src/address.rt:62:9
 sub-left : tie.Need-sub-left Inv-loop μ-loop
