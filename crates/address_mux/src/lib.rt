@@ -145,8 +145,7 @@ pub fn balanced_address_mux(
     width: u32,
     zero: ExprId,
 ) -> Emitted
-    ensures wrote { λ r. ⌜ WroteExprs (now (exprs .entry)) t (roomy n (now (parts .entry)) (roomy n (now (values .entry)) (balancedAddressMux width (nodesFrom (now (parts .entry)) (now (values .entry)) 0 n) (zero .0)))) (emitted r) (now (exprs .exit)) ⌝ }
-    ensures works { λ _. ⌜ (now (parts .exit) ≡ zeroed (now (parts .entry))) × (now (values .exit) ≡ zeroed (now (values .entry))) ⌝ }
+    ensures { λ r. ⌜ WroteExprs (now (exprs .entry)) t (roomy n (now (parts .entry)) (roomy n (now (values .entry)) (balancedAddressMux width (nodesFrom (now (parts .entry)) (now (values .entry)) 0 n) (zero .0)))) (emitted r) (now (exprs .exit)) × ((now (parts .exit) ≡ zeroed (now (parts .entry))) × (now (values .exit) ≡ zeroed (now (values .entry)))) ⌝ }
 {
     let r = mux_levels(exprs, parts, values, t, n, width, zero);
     zero_words(parts);
