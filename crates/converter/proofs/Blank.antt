@@ -1,33 +1,23 @@
 -- Lists and works of zeros, and the judgement. Assumes nothing.
-use Prim.Native.Nat.{ℕ, zero, suc, _+_, _≤_, _<_}
+use Prim.Native.Nat.{ℕ, zero, suc}
 use mathlib.Core.Path.{_≡_, refl, sym, _∙_, ap, ap₂}
 use mathlib.Core.Bool.{Bool, true, false}
-use mathlib.Core.List.{List, [], _∷_, _++_, append-nil}
+use mathlib.Core.List.{List, [], _∷_}
 use mathlib.Core.Option.{Option}
 use native.Mathlib.Omega.{arith}
-use lib.ListN.{length, drop, replicate, length-append, length-replicate, length-drop, drop-of-length-le}
 use Rattle.bits.specs.Bits.{pick}
 use Rattle.refusal.specs.Refusal.{numberOf, placeOf}
 use Rattle.refusal.specs.declared.Refusal as x
 use Rattle.recorder.specs.declared.Tapes.{Tapes}
 use Rattle.recorder.specs.declared.Stated as r
 use Rattle.recorder.specs.Lists.{Lists, lists}
-use Rattle.recorder.specs.Words.{zeroed}
-use Rattle.lowering.specs.Lower.{Lowered, Accepted, Refused, Lowering, judged}
+use Rattle.lowering.specs.Lower.{Lowered, Accepted, Refused, judged}
 use Rattle.conflict.specs.declared.Conflict as f
 use Rattle.conflict.specs.Conflicts.{foundOf}
 use Rattle.conflict.specs.Counting.{counted, lowestFrom, restored}
 use Rattle.conflict.proofs.Marked.{judges}
 use Rattle.converter.specs.declared.Lowered as c
 use Rattle.converter.specs.Entry.{answerOf, short, anyShort, kept, blankOf, Keeps, AnswersTo, ZerosThree}
-
--- ZEROS
-
-pub filled : (i : ℕ) (l l₀ : List ℕ) → l ≡ replicate i 0 ++ drop i l₀ → i ≡ length l₀ → l ≡ zeroed l₀
-filled i l l₀ p e = p ∙ ap (λ (r : List ℕ). replicate i 0 ++ r) (let h : length l₀ ≤ i = omega arith in drop-of-length-le l₀ h) ∙ append-nil (replicate i 0) ∙ ap (λ (n : ℕ). replicate n 0) e
-
-pub fill-length : (i : ℕ) (l l₀ : List ℕ) → i ≤ length l₀ → l ≡ replicate i 0 ++ drop i l₀ → length l ≡ length l₀
-fill-length i l l₀ h p = omega (arith, ap length p, length-append (replicate {A = ℕ} i 0) (drop i l₀), length-replicate {A = ℕ} i 0, length-drop i l₀)
 
 -- WORKS
 

@@ -1,43 +1,43 @@
 -- The arms of the dispatch by kind.
 use mathlib.Core.Path.{_≡_, refl, ap, sym, _∙_, subst}
-use mathlib.Core.Bool.{Bool, true, false}
+use mathlib.Core.Bool.{Bool}
 use mathlib.Core.List.{List, [], _∷_}
-use Prim.Native.Nat.{ℕ, zero, suc, _+_, _≤_, _<_, _%_, max}
+use Prim.Native.Nat.{ℕ, zero, suc, _+_, _≤_, _<_, _%_, min}
 use native.Mathlib.Nat.{add-zero}
 use native.Mathlib.Omega.{arith}
 use native.Mathlib.Decide.{ℕ-discrete}
-use lib.Dec.{eqb}
-use lib.ListN.{length, getD, List·getD-eq-default}
+use lib.ListN.{length, take, List·getD-eq-default}
+use lib.Seq.{length-take-le}
 use borrow.Author.Tests.{eq-eqb, ne-eqb}
 use Rattle.bits.specs.Bits.{pick}
 use Rattle.refusal.specs.declared.Refusal.the-variants.{UnsupportedTrueDualPortMemory}
-use Rattle.netlist.specs.declared.Limits.{Limits}
 use Rattle.netlist.specs.declared.Bit.{Bit}
 use Rattle.netlist.specs.declared.records.Pfumx.{Pfumx}
 use Rattle.netlist.specs.declared.records.L6mux21.{L6mux21}
 use Rattle.netlist.specs.declared.records.Ccu2c as code-ccu2c
 use Rattle.netlist.specs.declared.records.Io.{Io}
 use Rattle.netlist.specs.Netlist.{Cell}
-use Rattle.netlist.specs.Fields.{wordAt, bitsAt, wiresAt, lut4At, pfumxAt, l6mux21At, ccu2cAt, multiplierAt, flipFlopAt, blockRamAt, distributedRamAt, ioAt, jtaggAt, pllAt, kindsAt, cellAt, ramAt}
+use Rattle.netlist.specs.Fields.{wordAt, bitsAt, wiresAt, lut4At, pfumxAt, l6mux21At, ccu2cAt, multiplierAt, flipFlopAt, blockRamAt, distributedRamAt, ioAt, jtaggAt, pllAt, kindsAt, cellAt, ramAt, firstSize}
 use Rattle.netlist.specs.Records.{pfumxOf, l6mux21Of, ioOf, ccu2cWith}
 use Rattle.netlist.specs.Shape.{FitsCell}
 use Rattle.recorder.specs.declared.Tapes.{Tapes}
 use Rattle.recorder.specs.declared.Stated.{Stated}
 use Rattle.recorder.specs.declared.Stated.the-variants as S
-use Rattle.recorder.specs.Writer.{Writer, pure, refuse}
-use Rattle.recorder.specs.Lists.{Lists, lists, Answer, Answer.Failed, Wrote, WroteStmts, stated, WroteBoth}
+use Rattle.recorder.specs.Writer.{refuse}
+use Rattle.recorder.specs.Lists.{Lists, lists, Answer.Failed, Wrote, WroteStmts, stated, WroteBoth}
 use Rattle.recorder.proofs.Wrote.{wrote-as, wrote-pure, wrote-refuse}
 use Rattle.wires.specs.declared.Constants.{Constants}
 use Rattle.wires.specs.Wires.{Wires}
-use Rattle.wires.specs.Expressions.{roomy}
 use Rattle.wires.proofs.Laws.{roomy-yes}
 use Rattle.cells.specs.Cells.{emitLut4, emitPfumx, emitL6mux21, emitCcu2c, emitMultiplier, emitIo, emitIdleJtagg, emitCyclePll}
 use Rattle.cells.specs.Answers.{ccuOf, pllOf}
-use Rattle.memories.specs.Memories.{emitBlockRam, emitDistributedRam}
-use Rattle.memories.specs.Rams.{dramAt, workOf, blockRamIn, distributedRamIn}
+use Rattle.cells.proofs.Laws.{bits-ahead}
+use Rattle.memories.specs.Memories.{emitDistributedRam}
+use Rattle.memories.specs.Rams.{dramAt, dramAddressed, addressed, workOf, blockRamIn}
+use Rattle.memories.proofs.PortLaws.{addressed-same}
 use Rattle.lowering.specs.Emit.{emitCell}
 use Rattle.converter.specs.Reserves.{ofKind}
-use Rattle.converter.specs.Emits.{Emits, Work, CellFits, OneFits, EmitsCell, EmitsDistributed, EmitsKind}
+use Rattle.converter.specs.Emits.{Emits, Work, EmitsCell, EmitsDistributed, EmitsKind}
 
 -- ---- a kind's cell
 
@@ -74,22 +74,25 @@ module _ (m : Wires) (z : Constants) (owner : ℕ) (words : List ℕ) (at : ℕ)
   unfolding emitCell
   ccu2c-is f a b c p q = λ i. emitCcu2c m (ccuOf (sym a i) (f .«carry_in») (f .sum0 ∷ f .sum1 ∷ []) (f .carry) (table refl b p i ∷ table refl c q i ∷ []) (f .inject0 ∷ f .inject1 ∷ []))
 
-  multiplier-is : (parts : List ℕ) → Work parts → emitCell m z owner (multiplierAt words at) ≡ roomy 36 parts (emitMultiplier m (bitsAt words (at + 1) 18) (bitsAt words (at + 19) 18) (wiresAt words (at + 37) 36))
+  -- so many words of each work
+  block-is : (parts values : List ℕ) (written read second : List Bit) {work p v : ℕ} → work ≡ workOf (ramAt words at) → p ≡ min work (length parts) → v ≡ min work (length values)
+      → addressed (ramAt words at) written read second ≡ ramAt words at
+      → Work parts → Work values → wordAt words (at + 1) ≤ 16384 → wordAt words (at + 2) ≤ 18
+      → emitCell m z owner (blockRamAt words at) ≡ blockRamIn (take p parts) (take v values) m z owner (addressed (ramAt words at) written read second)
   unfolding emitCell
-  multiplier-is parts h = sym (roomy-yes 36 parts _ (omega (arith, h)))
+  block-is parts values written read second {work} {p} {v} is ip iv same a b d w =
+      let need = workOf (ramAt words at) in
+      let few : need ≤ 16384 = omega (arith, d, w) in
+      let fp : need ≤ length (take p parts) = omega (arith, length-take-le p parts (omega (arith, ip)), is, ip, few, a) in
+      let fv : need ≤ length (take v values) = omega (arith, length-take-le v values (omega (arith, iv)), is, iv, few, b) in
+      sym (ap (blockRamIn (take p parts) (take v values) m z owner) same ∙ roomy-yes need (take p parts) _ fp ∙ roomy-yes need (take v values) _ fv)
 
-  block-is : (parts value : List ℕ) → Work parts → Work value → wordAt words (at + 1) ≤ 16384 → wordAt words (at + 2) ≤ 18 → emitCell m z owner (blockRamAt words at) ≡ blockRamIn parts value m z owner (ramAt words at)
+  distributed-one : {written read : List Bit} → written ≡ bitsAt words (at + 1) 4 → read ≡ bitsAt words (at + 11) 4 → (wordAt words (at + 21) ≡ 1 → ⊥)
+      → emitCell m z owner (distributedRamAt words at) ≡ emitDistributedRam m z owner (dramAddressed (dramAt words at) written read)
   unfolding emitCell
-  block-is parts value a b d w =
-      let p : workOf (ramAt words at) ≤ length parts = omega (arith, a, d, w) in
-      let q : workOf (ramAt words at) ≤ length value = omega (arith, b, d, w) in
-      sym (roomy-yes (workOf (ramAt words at)) parts _ p ∙ roomy-yes (workOf (ramAt words at)) value _ q)
-
-  distributed-one : (parts : List ℕ) → Work parts → (wordAt words (at + 21) ≡ 1 → ⊥) → emitCell m z owner (distributedRamAt words at) ≡ distributedRamIn parts m z owner (dramAt words at)
-  unfolding emitCell
-  distributed-one parts h n =
+  distributed-one a b n =
       ap (λ (b : Bool). pick b (refuse 10 owner) (emitDistributedRam m z owner (dramAt words at))) (ne-eqb (wordAt words (at + 21)) 1 n)
-      ∙ sym (roomy-yes 4 parts _ (omega (arith, h)))
+      ∙ (λ i. emitDistributedRam m z owner (dramAddressed (dramAt words at) (sym a i) (sym b i)))
 
   distributed-two : wordAt words (at + 21) ≡ 1 → emitCell m z owner (distributedRamAt words at) ≡ refuse 10 owner
   unfolding emitCell
@@ -122,6 +125,10 @@ module _ (e s : List ℕ) (t : Tapes) (m : Wires) (r : Stated) (e′ s′ : List
         → WroteBoth e s t (emitCcu2c m (ccuOf inputs (f .«carry_in») (f .sum0 ∷ f .sum1 ∷ []) (f .carry) (init0 ∷ init1 ∷ []) (f .inject0 ∷ f .inject1 ∷ []))) (stated r) e′ s′ → EmitsKind e s t m (ccu2cAt words at) r e′ s′
     kind-ccu2c f q a b c h = subst (λ (x : Cell). EmitsKind e s t m x r e′ s′) q (λ l z owner. record { so = λ limits p. wrote-as (ccu2c-is m z owner words at f a b c (p .init0) (p .init1)) (h l) })
 
+    pub kind-multiplier : WroteBoth e s t (emitMultiplier m (bitsAt words (at + 1) 18) (bitsAt words (at + 19) 18) (wiresAt words (at + 37) 36)) (stated r) e′ s′ → EmitsKind e s t m (multiplierAt words at) r e′ s′
+    unfolding emitCell
+    kind-multiplier h l z owner = record { so = λ limits p. h l }
+
     pub kind-jtagg : e ≡ e′ → WroteStmts s t (emitIdleJtagg m (wiresAt words (at + 1) 9)) (stated r) s′ → EmitsKind e s t m (jtaggAt words at) r e′ s′
     unfolding emitCell
     kind-jtagg q h l z owner = subst (λ (x : List ℕ). Emits (λ limits. FitsCell limits (jtaggAt words at)) (lists l e s) t (emitCell m z owner (jtaggAt words at)) r (lists l x s′)) q (record { so = λ limits p. h l e })
@@ -134,21 +141,6 @@ module _ (e s : List ℕ) (t : Tapes) (m : Wires) (r : Stated) (e′ s′ : List
     pub late-as : {k : ℕ} (n : ℕ) → k ≡ n → EmitsKind e s t m (ofKind words at n) r e′ s′ → EmitsKind e s t m (ofKind words at k) r e′ s′
     late-as n q h = kind-as (ap (λ (j : ℕ). ofKind words at j) q) h
 
-    -- with a work
-    module _ (parts : List ℕ) (l : List ℕ) (z : Constants) (owner : ℕ) where
-      abbrev Small : Cell → Type 0
-      Small x = Emits (OneFits parts x) (lists l e s) t (emitCell m z owner x) r (lists l e′ s′)
-
-      pub small-rest : (x : Cell) → EmitsKind e s t m x r e′ s′ → Emits (OneFits parts x) (lists l e s) t (emitCell m z owner x) r (lists l e′ s′)
-      small-rest x h = record { so = λ limits p. h l z owner .so limits (p .1) }
-
-      pub small-as : {k : ℕ} (n : ℕ) → k ≡ n → EmitsKind e s t m (ofKind words at n) r e′ s′ → Emits (OneFits parts (ofKind words at k)) (lists l e s) t (emitCell m z owner (ofKind words at k)) r (lists l e′ s′)
-      small-as n q h = subst (λ (j : ℕ). Small (ofKind words at j)) (sym q) (small-rest (ofKind words at n) h)
-
-      pub small-multiplier : {k : ℕ} → k ≡ 4 → WroteBoth e s t (roomy 36 parts (emitMultiplier m (bitsAt words (at + 1) 18) (bitsAt words (at + 19) 18) (wiresAt words (at + 37) 36))) (stated r) e′ s′
-          → Emits (OneFits parts (ofKind words at k)) (lists l e s) t (emitCell m z owner (ofKind words at k)) r (lists l e′ s′)
-      small-multiplier q h = subst (λ (j : ℕ). Small (ofKind words at j)) (sym q) (record { so = λ limits p. wrote-as (multiplier-is m z owner words at parts (p .0)) (h l) })
-
 -- a flip-flop writes nothing here
 pub kind-flip-flop : (e s : List ℕ) (t : Tapes) (m : Wires) (words : List ℕ) (at : ℕ) → EmitsKind e s t m (flipFlopAt words at) (S.Done t) e s
 unfolding emitCell
@@ -156,30 +148,40 @@ kind-flip-flop e s t m words at l z owner = record { so = λ limits p. wrote-pur
 
 -- ---- the RAMs, and every cell
 
-module _ (l : Lists) (t : Tapes) (m : Wires) (z : Constants) (owner : ℕ) (words : List ℕ) (at : ℕ) (parts : List ℕ) where
-  pub distributed-refused : {f o : ℕ} → f ≡ wordAt words (at + 21) → f ≡ 1 → o ≡ owner → EmitsDistributed l parts t m z owner (distributedRamAt words at) (S.Refused (UnsupportedTrueDualPortMemory o)) l
+-- a RAM whose addresses were read from its words
+pub addressed-read : (words : List ℕ) (at : ℕ) {written read more : List Bit} {second : ℕ} → written ≡ bitsAt words (at + 4) 14 → read ≡ bitsAt words (at + 20) 14
+    → second ≡ min (at + firstSize words (wordAt words (at + 2))) (length words) → more ≡ bitsAt words (second + 0) 14 → addressed (ramAt words at) written read more ≡ ramAt words at
+addressed-read words at {second = second} a b cut d =
+    let s = at + firstSize words (wordAt words (at + 2)) in
+    let e = d ∙ ap (λ (k : ℕ). bitsAt words k 14) (add-zero second) ∙ bits-ahead words s second cut 14 in
+    (λ i. addressed (ramAt words at) (a i) (b i) (e i)) ∙ addressed-same words at
+
+module _ (l : Lists) (t : Tapes) (m : Wires) (z : Constants) (owner : ℕ) (words : List ℕ) (at : ℕ) where
+  pub distributed-refused : {f o : ℕ} → f ≡ wordAt words (at + 21) → f ≡ 1 → o ≡ owner → EmitsDistributed l t m z owner (distributedRamAt words at) (S.Refused (UnsupportedTrueDualPortMemory o)) l
   distributed-refused {f} {o} a b c = record {
     so = λ limits p. wrote-as (distributed-two m z owner words at (sym a ∙ b)) (subst (λ (i : ℕ). Wrote {A = Unit {0}} l t (refuse 10 owner) (Failed 10 i) l) (sym c) wrote-refuse);
   }
 
   module _ (r : Stated) (l′ : Lists) where
-    pub distributed-wrote : {f : ℕ} → f ≡ wordAt words (at + 21) → (f ≡ 1 → ⊥) → Wrote l t (distributedRamIn parts m z owner (dramAt words at)) (stated r) l′ → EmitsDistributed l parts t m z owner (distributedRamAt words at) r l′
-    distributed-wrote a n h = record { so = λ limits p. wrote-as (distributed-one m z owner words at parts (p .0) (λ e. n (a ∙ e))) h }
+    pub distributed-wrote : {f : ℕ} {written read : List Bit} → f ≡ wordAt words (at + 21) → (f ≡ 1 → ⊥) → written ≡ bitsAt words (at + 1) 4 → read ≡ bitsAt words (at + 11) 4
+        → Wrote l t (emitDistributedRam m z owner (dramAddressed (dramAt words at) written read)) (stated r) l′ → EmitsDistributed l t m z owner (distributedRamAt words at) r l′
+    distributed-wrote a n w d h = record { so = λ limits p. wrote-as (distributed-one m z owner words at w d (λ e. n (a ∙ e))) h }
 
-    module _ (value : List ℕ) where
+    module _ (parts values : List ℕ) where
       abbrev Cells : Cell → Type 0
-      Cells x = EmitsCell l parts value t m z owner x r l′
+      Cells x = EmitsCell l parts values t m z owner x r l′
 
       -- the kind is n
-      pub cell-kind : {k : ℕ} (n : ℕ) → k ≡ wordAt words (at + 0) → k ≡ n → EmitsCell l parts value t m z owner (ofKind words at n) r l′ → EmitsCell l parts value t m z owner (cellAt words at) r l′
+      pub cell-kind : {k : ℕ} (n : ℕ) → k ≡ wordAt words (at + 0) → k ≡ n → EmitsCell l parts values t m z owner (ofKind words at n) r l′ → EmitsCell l parts values t m z owner (cellAt words at) r l′
       cell-kind {k} n a b h = subst Cells (sym (kind-at words at k a ∙ ap (λ (j : ℕ). ofKind words at j) b)) h
 
-      pub cell-block : Wrote l t (blockRamIn parts value m z owner (ramAt words at)) (stated r) l′ → EmitsCell l parts value t m z owner (blockRamAt words at) r l′
-      cell-block h = record { so = λ limits p. wrote-as (block-is m z owner words at parts value (p .0) (p .1) (p .2 .depth .1) (p .2 .width .1)) h }
+      pub cell-block : (written read second : List Bit) {work p v : ℕ} → work ≡ workOf (ramAt words at) → p ≡ min work (length parts) → v ≡ min work (length values) → addressed (ramAt words at) written read second ≡ ramAt words at
+          → Wrote l t (blockRamIn (take p parts) (take v values) m z owner (addressed (ramAt words at) written read second)) (stated r) l′ → EmitsCell l parts values t m z owner (blockRamAt words at) r l′
+      cell-block written read second is ip iv same h = record { so = λ limits p. wrote-as (block-is m z owner words at parts values written read second is ip iv same (p .0) (p .1) (p .2 .depth .1) (p .2 .width .1)) h }
 
-      -- one that takes one work
-      pub cell-one : (x : Cell) → Emits (OneFits parts x) l t (emitCell m z owner x) r l′ → EmitsCell l parts value t m z owner x r l′
-      cell-one x h = record { so = λ limits p. h .so limits (p .0, p .2) }
+      -- one that takes no work
+      pub cell-alone : (x : Cell) → Emits (λ limits. FitsCell limits x) l t (emitCell m z owner x) r l′ → EmitsCell l parts values t m z owner x r l′
+      cell-alone x h = record { so = λ limits p. h .so limits (p .2) }
 
-      pub cell-rest : {k : ℕ} → k ≡ wordAt words (at + 0) → Emits (OneFits parts (ofKind words at k)) l t (emitCell m z owner (ofKind words at k)) r l′ → EmitsCell l parts value t m z owner (cellAt words at) r l′
-      cell-rest {k} a h = subst Cells (sym (kind-at words at k a)) (cell-one (ofKind words at k) h)
+      pub cell-rest : {k : ℕ} → k ≡ wordAt words (at + 0) → Emits (λ limits. FitsCell limits (ofKind words at k)) l t (emitCell m z owner (ofKind words at k)) r l′ → EmitsCell l parts values t m z owner (cellAt words at) r l′
+      cell-rest {k} a h = subst Cells (sym (kind-at words at k a)) (cell-alone (ofKind words at k) h)

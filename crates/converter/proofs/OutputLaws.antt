@@ -6,7 +6,8 @@ use Prim.Native.Nat.{ℕ, _+_, _≤_, min}
 use native.Mathlib.Nat.{add-zero}
 use native.Mathlib.Omega.{arith}
 use lib.Dec.{eqb}
-use lib.ListN.{length}
+use lib.ListN.{length, take}
+use lib.Seq.{length-take-le}
 use borrow.Author.Tests.{eq-eqb, ne-eqb}
 use Rattle.bits.specs.Bits.{pick}
 use Rattle.refusal.specs.declared.Refusal.{Refusal}
@@ -44,7 +45,7 @@ module _ (m : Wires) (p : ℕ) (words : List ℕ) (at : ℕ) {d : ℕ} (directio
     so = λ limits f. wrote-as (ap (λ (b : Bool). pick b (driven (portAt words at .bits)) (pure tt)) (ne-eqb (portAt words at .direction) 1 (λ q. n (way ∙ q)))) wrote-pure;
   }
 
-  module _ (is : d ≡ 1) {width from n : ℕ} (wide-is : width ≡ wordAt words (at + 1)) (cut : from ≡ min (at + 2) (length words)) (n-is : n ≡ width) (parts : List ℕ) where
+  module _ (is : d ≡ 1) {width from n : ℕ} (wide-is : width ≡ wordAt words (at + 1)) (cut : from ≡ min (at + 2) (length words)) (n-is : n ≡ width) {k : ℕ} (parts : List ℕ) (k-is : k ≡ min n (length parts)) where
     bits-are : bitsAt words from n ≡ portAt words at .bits
     unfolding portAt
     bits-are = bits-ahead words (at + 2) from cut n ∙ ap (bitsAt words (at + 2)) (n-is ∙ wide-is)
@@ -54,16 +55,16 @@ module _ (m : Wires) (p : ℕ) (words : List ℕ) (at : ℕ) {d : ℕ} (directio
     width-is = bits-length words (at + 2) (wordAt words (at + 1)) ∙ sym wide-is
 
     abbrev read : Writer ℕ
-    read = roomy width parts (vectorExpression m (bitsAt words from n) 0 width)
+    read = roomy width (take k parts) (vectorExpression m (bitsAt words from n) 0 width)
 
     output-is : {most : ℕ} → most ≤ length parts → length (portAt words at .bits) ≤ most → emitOutput m p (portAt words at) ≡ (read >>= λ e. state (assign p e))
     output-is a b =
-        let room : width ≤ length parts = omega (arith, a, b, width-is) in
+        let room : width ≤ length (take k parts) = omega (arith, length-take-le k parts (omega (arith, k-is)), k-is, n-is, a, b, width-is) in
         ap (λ (b : Bool). pick b (driven (portAt words at .bits)) (pure tt)) (eq-eqb (portAt words at .direction) 1 (sym way ∙ is))
         ∙ ap (λ (w : Writer ℕ). w >>= λ e. state (assign p e))
-        (ap (λ (k : ℕ). vectorExpression m (portAt words at .bits) 0 k) width-is ∙ ap (λ (bits : List Bit). vectorExpression m bits 0 width) (sym bits-are) ∙ sym (roomy-yes width parts (vectorExpression m (bitsAt words from n) 0 width) room))
+        (ap (λ (k : ℕ). vectorExpression m (portAt words at .bits) 0 k) width-is ∙ ap (λ (bits : List Bit). vectorExpression m bits 0 width) (sym bits-are) ∙ sym (roomy-yes width (take k parts) (vectorExpression m (bitsAt words from n) 0 width) room))
 
-    module _ {e s : List ℕ} {t : Tapes} {q : Emitted} {e₁ : List ℕ} (h : WroteExprs e t (roomy width parts (vectorExpression m (bitsAt words from n) 0 width)) (emitted q) e₁) where
+    module _ {e s : List ℕ} {t : Tapes} {q : Emitted} {e₁ : List ℕ} (h : WroteExprs e t (roomy width (take k parts) (vectorExpression m (bitsAt words from n) 0 width)) (emitted q) e₁) where
       pub port-stop : {x : Refusal} (r : Stated) → q ≡ E.Refused x → stated r ≡ changed nothing (emitted q) → EmitsPort e s parts t m p (portAt words at) r e₁ s
       port-stop r z c l = record { so = λ limits f. wrote-as (output-is (f .0) (f .1 .width .1)) (then-changed nothing (h l s) (λ e. state (assign p e)) (ap emitted z) c) }
 

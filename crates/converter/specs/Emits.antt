@@ -60,12 +60,9 @@ CellFits parts values x limits = Work parts × Work values × FitsCell limits x
 abbrev pub EmitsCell : Lists → List ℕ → List ℕ → Tapes → Wires → Constants → ℕ → Cell → Stated → Lists → Type 0
 EmitsCell l parts values t m z owner x r l′ = Emits (CellFits parts values x) l t (emitCell m z owner x) r l′
 
--- one that takes one work
-abbrev pub OneFits : List ℕ → Cell → Limits → Type 0
-OneFits parts x limits = Work parts × FitsCell limits x
-
-abbrev pub EmitsDistributed : Lists → List ℕ → Tapes → Wires → Constants → ℕ → Cell → Stated → Lists → Type 0
-EmitsDistributed l parts t m z owner x r l′ = Emits (OneFits parts x) l t (emitCell m z owner x) r l′
+-- one that takes no work
+abbrev pub EmitsDistributed : Lists → Tapes → Wires → Constants → ℕ → Cell → Stated → Lists → Type 0
+EmitsDistributed l t m z owner x r l′ = Emits (λ limits. FitsCell limits x) l t (emitCell m z owner x) r l′
 
 -- one that takes none and declares no signal: whatever the signals hold, and its number is
 abbrev pub EmitsKind : List ℕ → List ℕ → Tapes → Wires → Cell → Stated → List ℕ → List ℕ → Type 0
@@ -75,9 +72,8 @@ EmitsKind e s t m x r e′ s′ = (l : List ℕ) (z : Constants) (owner : ℕ) �
 abbrev pub EmitsLate : List ℕ → List ℕ → Tapes → Wires → List ℕ → ℕ → ℕ → Stated → List ℕ → List ℕ → Type 0
 EmitsLate e s t m words at kind r e′ s′ = 5 ≤ kind → (kind ≡ 6 → ⊥) → (kind ≡ 7 → ⊥) → EmitsKind e s t m (ofKind words at kind) r e′ s′
 
-abbrev pub EmitsSmall : List ℕ → List ℕ → List ℕ → Tapes → Wires → List ℕ → ℕ → ℕ → Stated → List ℕ → List ℕ → Type 0
-EmitsSmall e s parts t m words at kind r e′ s′ =
-    (kind ≡ 6 → ⊥) → (kind ≡ 7 → ⊥) → (l : List ℕ) (z : Constants) (owner : ℕ) → Emits (OneFits parts (ofKind words at kind)) (lists l e s) t (emitCell m z owner (ofKind words at kind)) r (lists l e′ s′)
+abbrev pub EmitsSmall : List ℕ → List ℕ → Tapes → Wires → List ℕ → ℕ → ℕ → Stated → List ℕ → List ℕ → Type 0
+EmitsSmall e s t m words at kind r e′ s′ = (kind ≡ 6 → ⊥) → (kind ≡ 7 → ⊥) → EmitsKind e s t m (ofKind words at kind) r e′ s′
 
 -- n cells that fit, from an index on
 abbrev pub CellsFit : List ℕ → List ℕ → List ℕ → ℕ → ℕ → Limits → Type 0

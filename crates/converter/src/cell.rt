@@ -1,7 +1,7 @@
 // Every cell by its kind.
 use crate::kinds::emit_small;
+use crate::rams::block_ram_cell;
 use crate::rams::distributed_ram_cell;
-use memories::block_ram::emit_block_ram;
 use netlist::fields::cell_end;
 use netlist::fields::field;
 use recorder::Stated;
@@ -31,7 +31,7 @@ fn emit_cell(
 {
     let kind = field(words, at, 0);
     match kind {
-        6 => emit_block_ram(
+        6 => block_ram_cell(
             signals,
             exprs,
             stmts,
@@ -49,7 +49,6 @@ fn emit_cell(
             signals,
             exprs,
             stmts,
-            parts,
             wires,
             places,
             t,
@@ -58,7 +57,7 @@ fn emit_cell(
             words,
             at,
         ),
-        _ => emit_small(exprs, stmts, parts, wires, places, t, words, at, kind),
+        _ => emit_small(exprs, stmts, wires, places, t, words, at, kind),
     }
 }
 

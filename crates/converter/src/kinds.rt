@@ -168,7 +168,6 @@ fn emit_late(
 pub fn emit_small(
     exprs: &mut [u32],
     stmts: &mut [u32],
-    parts: &mut [u32],
     wires: &[u32],
     places: &[u32],
     t: Tapes,
@@ -176,14 +175,14 @@ pub fn emit_small(
     at: usize,
     kind: u32,
 ) -> Stated
-    ensures { λ r. ⌜ EmitsSmall (now (exprs .entry)) (now (stmts .entry)) (now (parts .entry)) t (wiresOf (now (wires .entry)) (now (places .entry))) (now (words .entry)) at kind r (now (exprs .exit)) (now (stmts .exit)) ⌝ }
+    ensures { λ r. ⌜ EmitsSmall (now (exprs .entry)) (now (stmts .entry)) t (wiresOf (now (wires .entry)) (now (places .entry))) (now (words .entry)) at kind r (now (exprs .exit)) (now (stmts .exit)) ⌝ }
 {
     match kind {
         0 => lut4_cell(exprs, stmts, wires, places, t, words, at),
         1 => pfumx_cell(exprs, stmts, wires, places, t, words, at),
         2 => l6mux21_cell(exprs, stmts, wires, places, t, words, at),
         3 => ccu2c_cell(exprs, stmts, wires, places, t, words, at),
-        4 => emit_multiplier(exprs, stmts, parts, wires, places, t, words, at),
+        4 => emit_multiplier(exprs, stmts, wires, places, t, words, at),
         _ => emit_late(exprs, stmts, wires, places, t, words, at, kind),
     }
 }

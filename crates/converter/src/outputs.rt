@@ -1,4 +1,5 @@
 // The output ports: what is assigned to their signals, which have the ports' numbers.
+use crate::zeros::cut;
 use cells::answers::stopped;
 use netlist::fields::ahead;
 use netlist::fields::field;
@@ -33,15 +34,17 @@ fn emit_output(
     }
     let width = field(words, at, 1);
     let from = ahead(words, at, 2);
+    let n = wide(width);
+    let k = cut(parts, n);
     let r = bits_expression(
         exprs,
-        parts,
+        &mut parts[..k],
         wires,
         places,
         t,
         words,
         from,
-        wide(width),
+        n,
         width,
     );
     let Emitted::Done(value, next) = r else {

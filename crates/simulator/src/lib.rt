@@ -2,11 +2,11 @@
 use converter::Lowered;
 use converter::lower;
 use recorder::Tapes;
+use recorder::words::zero_words;
 use runner::run_list;
 use simulation::Ran;
 use simulation::zero::zero_bytes;
 use simulation::zero::zero_longs;
-use simulation::zero::zero_words;
 ghost use mathlib.Core.List.{[], _∷_};
 ghost use Rattle.netlist.specs.Reader.{base};
 ghost use Rattle.recorder.specs.Lists.{lists};

@@ -1,6 +1,5 @@
-use Rattle.converter.proofs.KindLaws.{small-as, small-rest, small-multiplier}
+use Rattle.converter.proofs.KindLaws.{late-as, kind-multiplier}
 use Rattle.converter.proofs.ReserveLaws.{kind-first}
-use Rattle.converter.specs.Reserves.{ofKind}
 use Rattle.wires.specs.Wires.{wiresOf}
 use borrow.Author.Needs.{needs}
 use Rattle.converter.proofs.kinds.emit_small.Statement.{statement}
@@ -39,7 +38,7 @@ same-length-2 : tie.Need-same-length-2
 same-length-2 c = search needs
 
 returns : tie.Need-returns
-returns c = λ a b l z owner. small-as (c .before .before .before .before .before .before .before .before .before .before .before .before .before .before .args .exprs .now) (c .before .before .before .before .before .before .before .before .before .before .before .before .before .before .args .stmts .now) (c .before .before .before .before .before .before .before .before .before .before .before .before .before .before .args .t) (wiresOf (c .before .before .before .before .before .before .before .before .before .before .before .before .before .before .args .wires .now) (c .before .before .before .before .before .before .before .before .before .before .before .before .before .before .args .places .now)) (c .before .before .before .before .lut4-cell .result) (c .before .before .before .before .lut4-cell .last .0) (c .before .before .before .before .lut4-cell .last .1 .0) (c .before .before .before .before .before .before .before .before .before .before .before .before .before .before .args .words .now) (c .before .before .before .before .before .before .before .before .before .before .before .before .before .before .args .at) (c .before .before .before .before .before .before .before .before .before .before .before .before .before .before .args .parts .now) l z owner 0 (c .before .before .before .before .before .before .before .match .keys1) (c .before .before .before .before .lut4-cell .ensures)
+returns c = λ a b. late-as (c .before .before .before .before .before .before .before .before .before .before .before .before .before .args .exprs .now) (c .before .before .before .before .before .before .before .before .before .before .before .before .before .args .stmts .now) (c .before .before .before .before .before .before .before .before .before .before .before .before .before .args .t) (wiresOf (c .before .before .before .before .before .before .before .before .before .before .before .before .before .args .wires .now) (c .before .before .before .before .before .before .before .before .before .before .before .before .before .args .places .now)) (c .before .before .before .before .lut4-cell .result) (c .before .before .before .before .lut4-cell .last .0) (c .before .before .before .before .lut4-cell .last .1 .0) (c .before .before .before .before .before .before .before .before .before .before .before .before .before .args .words .now) (c .before .before .before .before .before .before .before .before .before .before .before .before .before .args .at) 0 (c .before .before .before .before .before .before .before .match .keys1) (c .before .before .before .before .lut4-cell .ensures)
 
 same-length-3 : tie.Need-same-length-3
 same-length-3 c = search needs
@@ -48,7 +47,7 @@ same-length-4 : tie.Need-same-length-4
 same-length-4 c = search needs
 
 returns-2 : tie.Need-returns-2
-returns-2 c = λ a b l z owner. small-as (c .before .before .before .before .before .before .before .before .before .before .before .before .before .before .args .exprs .now) (c .before .before .before .before .before .before .before .before .before .before .before .before .before .before .args .stmts .now) (c .before .before .before .before .before .before .before .before .before .before .before .before .before .before .args .t) (wiresOf (c .before .before .before .before .before .before .before .before .before .before .before .before .before .before .args .wires .now) (c .before .before .before .before .before .before .before .before .before .before .before .before .before .before .args .places .now)) (c .before .before .before .before .pfumx-cell .result) (c .before .before .before .before .pfumx-cell .last .0) (c .before .before .before .before .pfumx-cell .last .1 .0) (c .before .before .before .before .before .before .before .before .before .before .before .before .before .before .args .words .now) (c .before .before .before .before .before .before .before .before .before .before .before .before .before .before .args .at) (c .before .before .before .before .before .before .before .before .before .before .before .before .before .before .args .parts .now) l z owner 1 (c .before .before .before .before .before .before .before .match .keys2) (c .before .before .before .before .pfumx-cell .ensures)
+returns-2 c = λ a b. late-as (c .before .before .before .before .before .before .before .before .before .before .before .before .before .args .exprs .now) (c .before .before .before .before .before .before .before .before .before .before .before .before .before .args .stmts .now) (c .before .before .before .before .before .before .before .before .before .before .before .before .before .args .t) (wiresOf (c .before .before .before .before .before .before .before .before .before .before .before .before .before .args .wires .now) (c .before .before .before .before .before .before .before .before .before .before .before .before .before .args .places .now)) (c .before .before .before .before .pfumx-cell .result) (c .before .before .before .before .pfumx-cell .last .0) (c .before .before .before .before .pfumx-cell .last .1 .0) (c .before .before .before .before .before .before .before .before .before .before .before .before .before .args .words .now) (c .before .before .before .before .before .before .before .before .before .before .before .before .before .args .at) 1 (c .before .before .before .before .before .before .before .match .keys2) (c .before .before .before .before .pfumx-cell .ensures)
 
 same-length-5 : tie.Need-same-length-5
 same-length-5 c = search needs
@@ -57,7 +56,7 @@ same-length-6 : tie.Need-same-length-6
 same-length-6 c = search needs
 
 returns-3 : tie.Need-returns-3
-returns-3 c = λ a b l z owner. small-as (c .before .before .before .before .before .before .before .before .before .before .before .before .before .before .args .exprs .now) (c .before .before .before .before .before .before .before .before .before .before .before .before .before .before .args .stmts .now) (c .before .before .before .before .before .before .before .before .before .before .before .before .before .before .args .t) (wiresOf (c .before .before .before .before .before .before .before .before .before .before .before .before .before .before .args .wires .now) (c .before .before .before .before .before .before .before .before .before .before .before .before .before .before .args .places .now)) (c .before .before .before .before .l6mux21-cell .result) (c .before .before .before .before .l6mux21-cell .last .0) (c .before .before .before .before .l6mux21-cell .last .1 .0) (c .before .before .before .before .before .before .before .before .before .before .before .before .before .before .args .words .now) (c .before .before .before .before .before .before .before .before .before .before .before .before .before .before .args .at) (c .before .before .before .before .before .before .before .before .before .before .before .before .before .before .args .parts .now) l z owner 2 (c .before .before .before .before .before .before .before .match .keys3) (c .before .before .before .before .l6mux21-cell .ensures)
+returns-3 c = λ a b. late-as (c .before .before .before .before .before .before .before .before .before .before .before .before .before .args .exprs .now) (c .before .before .before .before .before .before .before .before .before .before .before .before .before .args .stmts .now) (c .before .before .before .before .before .before .before .before .before .before .before .before .before .args .t) (wiresOf (c .before .before .before .before .before .before .before .before .before .before .before .before .before .args .wires .now) (c .before .before .before .before .before .before .before .before .before .before .before .before .before .args .places .now)) (c .before .before .before .before .l6mux21-cell .result) (c .before .before .before .before .l6mux21-cell .last .0) (c .before .before .before .before .l6mux21-cell .last .1 .0) (c .before .before .before .before .before .before .before .before .before .before .before .before .before .args .words .now) (c .before .before .before .before .before .before .before .before .before .before .before .before .before .args .at) 2 (c .before .before .before .before .before .before .before .match .keys3) (c .before .before .before .before .l6mux21-cell .ensures)
 
 same-length-7 : tie.Need-same-length-7
 same-length-7 c = search needs
@@ -66,7 +65,7 @@ same-length-8 : tie.Need-same-length-8
 same-length-8 c = search needs
 
 returns-4 : tie.Need-returns-4
-returns-4 c = λ a b l z owner. small-as (c .before .before .before .before .before .before .before .before .before .before .before .before .before .before .args .exprs .now) (c .before .before .before .before .before .before .before .before .before .before .before .before .before .before .args .stmts .now) (c .before .before .before .before .before .before .before .before .before .before .before .before .before .before .args .t) (wiresOf (c .before .before .before .before .before .before .before .before .before .before .before .before .before .before .args .wires .now) (c .before .before .before .before .before .before .before .before .before .before .before .before .before .before .args .places .now)) (c .before .before .before .before .ccu2c-cell .result) (c .before .before .before .before .ccu2c-cell .last .0) (c .before .before .before .before .ccu2c-cell .last .1 .0) (c .before .before .before .before .before .before .before .before .before .before .before .before .before .before .args .words .now) (c .before .before .before .before .before .before .before .before .before .before .before .before .before .before .args .at) (c .before .before .before .before .before .before .before .before .before .before .before .before .before .before .args .parts .now) l z owner 3 (c .before .before .before .before .before .before .before .match .keys4) (c .before .before .before .before .ccu2c-cell .ensures)
+returns-4 c = λ a b. late-as (c .before .before .before .before .before .before .before .before .before .before .before .before .before .args .exprs .now) (c .before .before .before .before .before .before .before .before .before .before .before .before .before .args .stmts .now) (c .before .before .before .before .before .before .before .before .before .before .before .before .before .args .t) (wiresOf (c .before .before .before .before .before .before .before .before .before .before .before .before .before .args .wires .now) (c .before .before .before .before .before .before .before .before .before .before .before .before .before .args .places .now)) (c .before .before .before .before .ccu2c-cell .result) (c .before .before .before .before .ccu2c-cell .last .0) (c .before .before .before .before .ccu2c-cell .last .1 .0) (c .before .before .before .before .before .before .before .before .before .before .before .before .before .args .words .now) (c .before .before .before .before .before .before .before .before .before .before .before .before .before .args .at) 3 (c .before .before .before .before .before .before .before .match .keys4) (c .before .before .before .before .ccu2c-cell .ensures)
 
 same-length-9 : tie.Need-same-length-9
 same-length-9 c = search needs
@@ -74,20 +73,17 @@ same-length-9 c = search needs
 same-length-10 : tie.Need-same-length-10
 same-length-10 c = search needs
 
+returns-5 : tie.Need-returns-5
+returns-5 c = λ a b. late-as (c .before .before .before .before .before .before .before .before .before .before .before .before .before .args .exprs .now) (c .before .before .before .before .before .before .before .before .before .before .before .before .before .args .stmts .now) (c .before .before .before .before .before .before .before .before .before .before .before .before .before .args .t) (wiresOf (c .before .before .before .before .before .before .before .before .before .before .before .before .before .args .wires .now) (c .before .before .before .before .before .before .before .before .before .before .before .before .before .args .places .now)) (c .before .before .before .before .emit-multiplier .result) (c .before .before .before .before .emit-multiplier .last .0) (c .before .before .before .before .emit-multiplier .last .1 .0) (c .before .before .before .before .before .before .before .before .before .before .before .before .before .args .words .now) (c .before .before .before .before .before .before .before .before .before .before .before .before .before .args .at) 4 (c .before .before .before .before .before .before .before .match .keys5) (kind-multiplier (c .before .before .before .before .before .before .before .before .before .before .before .before .before .args .exprs .now) (c .before .before .before .before .before .before .before .before .before .before .before .before .before .args .stmts .now) (c .before .before .before .before .before .before .before .before .before .before .before .before .before .args .t) (wiresOf (c .before .before .before .before .before .before .before .before .before .before .before .before .before .args .wires .now) (c .before .before .before .before .before .before .before .before .before .before .before .before .before .args .places .now)) (c .before .before .before .before .emit-multiplier .result) (c .before .before .before .before .emit-multiplier .last .0) (c .before .before .before .before .emit-multiplier .last .1 .0) (c .before .before .before .before .before .before .before .before .before .before .before .before .before .args .words .now) (c .before .before .before .before .before .before .before .before .before .before .before .before .before .args .at) (c .before .before .before .before .emit-multiplier .ensures))
+
 same-length-11 : tie.Need-same-length-11
 same-length-11 c = search needs
-
-returns-5 : tie.Need-returns-5
-returns-5 c = λ a b l z owner. small-multiplier (c .before .before .before .before .before .before .before .before .before .before .before .before .before .before .before .before .before .args .exprs .now) (c .before .before .before .before .before .before .before .before .before .before .before .before .before .before .before .before .before .args .stmts .now) (c .before .before .before .before .before .before .before .before .before .before .before .before .before .before .before .before .before .args .t) (wiresOf (c .before .before .before .before .before .before .before .before .before .before .before .before .before .before .before .before .before .args .wires .now) (c .before .before .before .before .before .before .before .before .before .before .before .before .before .before .before .before .before .args .places .now)) (c .before .before .before .before .before .before .emit-multiplier .result) (c .before .before .before .before .before .before .emit-multiplier .last .0) (c .before .before .before .before .before .before .emit-multiplier .last .1 .0) (c .before .before .before .before .before .before .before .before .before .before .before .before .before .before .before .before .before .args .words .now) (c .before .before .before .before .before .before .before .before .before .before .before .before .before .before .before .before .before .args .at) (c .before .before .before .before .before .before .before .before .before .before .before .before .before .before .before .before .before .args .parts .now) l z owner (c .before .before .before .before .before .before .before .before .before .before .match .keys5) (c .before .before .before .before .before .before .emit-multiplier .ensures)
 
 same-length-12 : tie.Need-same-length-12
 same-length-12 c = search needs
 
-same-length-13 : tie.Need-same-length-13
-same-length-13 c = search needs
-
 returns-6 : tie.Need-returns-6
-returns-6 c = λ a b l z owner. small-rest (c .before .before .before .before .before .before .before .before .before .before .before .before .before .before .args .exprs .now) (c .before .before .before .before .before .before .before .before .before .before .before .before .before .before .args .stmts .now) (c .before .before .before .before .before .before .before .before .before .before .before .before .before .before .args .t) (wiresOf (c .before .before .before .before .before .before .before .before .before .before .before .before .before .before .args .wires .now) (c .before .before .before .before .before .before .before .before .before .before .before .before .before .before .args .places .now)) (c .before .before .before .before .emit-late .result) (c .before .before .before .before .emit-late .last .0) (c .before .before .before .before .emit-late .last .1 .0) (c .before .before .before .before .before .before .before .before .before .before .before .before .before .before .args .words .now) (c .before .before .before .before .before .before .before .before .before .before .before .before .before .before .args .at) (c .before .before .before .before .before .before .before .before .before .before .before .before .before .before .args .parts .now) l z owner (ofKind (c .before .before .before .before .before .before .before .before .before .before .before .before .before .before .args .words .now) (c .before .before .before .before .before .before .before .before .before .before .before .before .before .before .args .at) (c .before .before .before .before .before .before .before .before .before .before .before .before .before .before .args .kind)) (c .before .before .before .before .emit-late .ensures (kind-first (c .before .before .before .before .before .before .before .match .rest .0 .0 .0 .0 .1) (c .before .before .before .before .before .before .before .match .rest .0 .0 .0 .1) (c .before .before .before .before .before .before .before .match .rest .0 .0 .1) (c .before .before .before .before .before .before .before .match .rest .0 .1) (c .before .before .before .before .before .before .before .match .rest .1)) a b)
+returns-6 c = λ a b. c .before .before .before .before .emit-late .ensures (kind-first (c .before .before .before .before .before .before .before .match .rest .0 .0 .0 .0 .1) (c .before .before .before .before .before .before .before .match .rest .0 .0 .0 .1) (c .before .before .before .before .before .before .before .match .rest .0 .0 .1) (c .before .before .before .before .before .before .before .match .rest .0 .1) (c .before .before .before .before .before .before .before .match .rest .1)) a b
 
 pub emit-small-spec : {M : Type 1} → statement M
 emit-small-spec =
@@ -113,8 +109,7 @@ emit-small-spec =
     returns-4
     same-length-9
     same-length-10
-    same-length-11
     returns-5
+    same-length-11
     same-length-12
-    same-length-13
     returns-6)
