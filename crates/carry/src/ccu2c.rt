@@ -40,7 +40,7 @@ fn gated_carry(inject: u32, carry: ExprId) -> ExprId
 fn emit_slice(
     exprs: &mut [u32],
     stmts: &mut [u32],
-    signals: &[u32],
+    wires: &[u32],
     places: &[u32],
     t: Tapes,
     inputs: [Bit; 4],
@@ -49,10 +49,10 @@ fn emit_slice(
     sum: u32,
     carry: ExprId,
 ) -> Emitted
-    ensures { λ r. ⌜ WroteBoth (now (exprs .entry)) (now (stmts .entry)) t (ccuRow (wiresOf (now (signals .entry)) (now (places .entry))) inputs init inject sum (carry .0)) (emitted r) (now (exprs .exit)) (now (stmts .exit)) ⌝ }
+    ensures { λ r. ⌜ WroteBoth (now (exprs .entry)) (now (stmts .entry)) t (ccuRow (wiresOf (now (wires .entry)) (now (places .entry))) inputs init inject sum (carry .0)) (emitted r) (now (exprs .exit)) (now (stmts .exit)) ⌝ }
 {
     let gated = gated_carry(inject, carry);
-    let r = read4(exprs, signals, places, t, inputs);
+    let r = read4(exprs, wires, places, t, inputs);
     let Read4::Done(a, b, c, d, after) = r else {
         return stopped_read(r);
     };
@@ -70,7 +70,7 @@ fn emit_slice(
     let Emitted::Done(value, after_value) = r4 else {
         return r4;
     };
-    let r5 = assign_wire(stmts, signals, places, after_value, sum, value);
+    let r5 = assign_wire(stmts, wires, places, after_value, sum, value);
     let Stated::Done(next) = r5 else {
         return stopped_stated(r5);
     };
@@ -80,7 +80,7 @@ fn emit_slice(
 pub fn emit_ccu2c(
     exprs: &mut [u32],
     stmts: &mut [u32],
-    signals: &[u32],
+    wires: &[u32],
     places: &[u32],
     t: Tapes,
     inputs: [[Bit; 4]; 2],
@@ -90,18 +90,18 @@ pub fn emit_ccu2c(
     init: [u16; 2],
     inject: [u32; 2],
 ) -> Stated
-    ensures { λ r. ⌜ WroteBoth (now (exprs .entry)) (now (stmts .entry)) t (emitCcu2c (wiresOf (now (signals .entry)) (now (places .entry))) (ccuOf inputs «carry_in» sums «carry_out» init inject)) (stated r) (now (exprs .exit)) (now (stmts .exit)) ⌝ }
+    ensures { λ r. ⌜ WroteBoth (now (exprs .entry)) (now (stmts .entry)) t (emitCcu2c (wiresOf (now (wires .entry)) (now (places .entry))) (ccuOf inputs «carry_in» sums «carry_out» init inject)) (stated r) (now (exprs .exit)) (now (stmts .exit)) ⌝ }
 {
     let row0 = inputs[0];
     let row1 = inputs[1];
-    let r = bit_expression(exprs, signals, places, t, carry_in);
+    let r = bit_expression(exprs, wires, places, t, carry_in);
     let Emitted::Done(carry, after) = r else {
         return stopped(r);
     };
     let r2 = emit_slice(
         exprs,
         stmts,
-        signals,
+        wires,
         places,
         after,
         row0,
@@ -116,7 +116,7 @@ pub fn emit_ccu2c(
     let r3 = emit_slice(
         exprs,
         stmts,
-        signals,
+        wires,
         places,
         after1,
         row1,
@@ -128,5 +128,5 @@ pub fn emit_ccu2c(
     let Emitted::Done(carry2, next) = r3 else {
         return stopped(r3);
     };
-    assign_wire(stmts, signals, places, next, carry_out, carry2)
+    assign_wire(stmts, wires, places, next, carry_out, carry2)
 }

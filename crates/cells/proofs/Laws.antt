@@ -22,6 +22,7 @@ use Rattle.optimize.specs.Rewrite.{xorOf, muxOf}
 use Rattle.optimize.specs.Lut.{lutCofactor}
 use Rattle.wires.specs.Wires.{Wires}
 use Rattle.wires.specs.Expressions.{bitExpression, vectorExpression, readBits, assignWire, roomy}
+use Rattle.wires.proofs.Laws.{roomy-yes}
 use Rattle.cells.specs.Cells.{emitMultiplier, ccuRow, emitCyclePll, pllClocks}
 use Rattle.cells.specs.Answers.{changed, pllOf}
 
@@ -69,24 +70,15 @@ records-from {A} value (suc n) i k h =
 pub bits-ahead : (words : List ℕ) (n i : ℕ) → i ≡ min n (length words) → (k : ℕ) → bitsAt words i k ≡ bitsAt words n k
 bits-ahead words n i cut k = records-from (bitAt words) k i n (λ j. bit-ahead words n i cut j)
 
--- two vectors over the same work
-roomy-two : {A B C : Type 0} (n : ℕ) (p q : List ℕ) → length q ≡ length p → (w : Writer A) (v : A → Writer B) (k : A → B → Writer C)
-    → roomy n p (w >>= λ a. v a >>= k a) ≡ (roomy n p w >>= λ a. roomy n q (v a) >>= k a)
-unfolding roomy
-roomy-two n p q e w v k = go (leb n (length p)) ∙ ap (λ (j : ℕ). pick (leb n (length p)) w (refuse 1 n) >>= λ a. pick (leb n j) (v a) (refuse 1 n) >>= k a) (sym e)
-  where
-    go : (b : Bool) → pick b (w >>= λ a. v a >>= k a) (refuse 1 n) ≡ (pick b w (refuse 1 n) >>= λ a. pick b (v a) (refuse 1 n) >>= k a)
-    go true = refl
-    go false = sym (bind-refuse 1 n (λ a. refuse 1 n >>= k a))
-
-pub multiplier-roomy : (m : Wires) (words : List ℕ) (at : ℕ) {lhs rhs product : ℕ} → lhs ≡ min (at + 1) (length words) → rhs ≡ min (at + 19) (length words) → product ≡ wordAt words (at + 37)
-    → (p q : List ℕ) → length q ≡ length p
-    → roomy 36 p (emitMultiplier m (bitsAt words (at + 1) 18) (bitsAt words (at + 19) 18) (wiresAt words (at + 37) 36))
+-- the works of its two vectors are long enough
+pub multiplier-from : (m : Wires) (words : List ℕ) (at : ℕ) {lhs rhs product : ℕ} → lhs ≡ min (at + 1) (length words) → rhs ≡ min (at + 19) (length words) → product ≡ wordAt words (at + 37)
+    → (p q : List ℕ) → length p ≡ 36 → length q ≡ 36
+    → emitMultiplier m (bitsAt words (at + 1) 18) (bitsAt words (at + 19) 18) (wiresAt words (at + 37) 36)
     ≡ (roomy 36 p (vectorExpression m (bitsAt words lhs 18) 0 36) >>= λ a. roomy 36 q (vectorExpression m (bitsAt words rhs 18) 0 36) >>= λ b. emit (mul a b) >>= λ v. assignWire m product v)
 unfolding emitMultiplier recordsAt
-multiplier-roomy m words at {product = product} el er ep p q e =
-    rw (bits-ahead words (at + 1) _ el 18, bits-ahead words (at + 19) _ er 18, ep)
-    (roomy-two 36 p q e (vectorExpression m (bitsAt words (at + 1) 18) 0 36) (λ a. vectorExpression m (bitsAt words (at + 19) 18) 0 36) (λ a b. emit (mul a b) >>= λ v. assignWire m (wordAt words (at + 37)) v))
+multiplier-from m words at {product = product} el er ep p q hp hq =
+    let room : (l : List ℕ) → length l ≡ 36 → 36 ≤ length l = λ l h. omega (arith, h) in
+    rw (bits-ahead words (at + 1) _ el 18, bits-ahead words (at + 19) _ er 18, ep, roomy-yes 36 p (vectorExpression m (bitsAt words (at + 1) 18) 0 36) (room p hp), roomy-yes 36 q (vectorExpression m (bitsAt words (at + 19) 18) 0 36) (room q hq))
 
 -- A ROW OF A CCU2C
 

@@ -22,7 +22,7 @@ ghost use Rattle.netlist.specs.Fields.{bitsAt, wiresAt};
 ghost use Rattle.recorder.specs.Lists.{WroteExprs, emitted, stated, WroteBoth};
 ghost use Rattle.optimize.specs.Lut.{numbers, lutCofactor};
 ghost use Rattle.wires.specs.Wires.{wiresOf};
-ghost use Rattle.wires.specs.Expressions.{readBits, roomy};
+ghost use Rattle.wires.specs.Expressions.{readBits};
 ghost use Rattle.cells.specs.Cells.{emitMultiplier, emitLut4, emitPfumx, emitL6mux21, emitIo};
 ghost use Rattle.cells.specs.Answers.{readOf, changed, fourfold};
 
@@ -37,55 +37,59 @@ fn unread(r: Emitted) -> Read4
 }
 
 // Four inputs, the lowest first.
-pub fn read4(
-    exprs: &mut [u32],
-    signals: &[u32],
-    places: &[u32],
-    t: Tapes,
-    inputs: [Bit; 4],
-) -> Read4
-    ensures { λ r. ⌜ WroteExprs (now (exprs .entry)) t (readBits (wiresOf (now (signals .entry)) (now (places .entry))) inputs []) (readOf r) (now (exprs .exit)) ⌝ }
+pub fn read4(exprs: &mut [u32], wires: &[u32], places: &[u32], t: Tapes, inputs: [Bit; 4]) -> Read4
+    ensures { λ r. ⌜ WroteExprs (now (exprs .entry)) t (readBits (wiresOf (now (wires .entry)) (now (places .entry))) inputs []) (readOf r) (now (exprs .exit)) ⌝ }
 {
-    let r = bit_expression(exprs, signals, places, t, inputs[0]);
+    let r = bit_expression(exprs, wires, places, t, inputs[0]);
     let Emitted::Done(a, after_a) = r else {
         return unread(r);
     };
-    let r2 = bit_expression(exprs, signals, places, after_a, inputs[1]);
+    let r2 = bit_expression(exprs, wires, places, after_a, inputs[1]);
     let Emitted::Done(b, after_b) = r2 else {
         return unread(r2);
     };
-    let r3 = bit_expression(exprs, signals, places, after_b, inputs[2]);
+    let r3 = bit_expression(exprs, wires, places, after_b, inputs[2]);
     let Emitted::Done(c, after_c) = r3 else {
         return unread(r3);
     };
-    let r4 = bit_expression(exprs, signals, places, after_c, inputs[3]);
+    let r4 = bit_expression(exprs, wires, places, after_c, inputs[3]);
     let Emitted::Done(d, after_d) = r4 else {
         return unread(r4);
     };
     Read4::Done(a, b, c, d, after_d)
 }
 
-// The multiplier at an index. `parts` is work of 36 words.
+// The multiplier at an index.
 pub fn emit_multiplier(
     exprs: &mut [u32],
     stmts: &mut [u32],
-    parts: &mut [u32],
-    signals: &[u32],
+    wires: &[u32],
     places: &[u32],
     t: Tapes,
     words: &[u32],
     at: usize,
 ) -> Stated
-    ensures { λ r. ⌜ WroteBoth (now (exprs .entry)) (now (stmts .entry)) t (roomy 36 (now (parts .entry)) (emitMultiplier (wiresOf (now (signals .entry)) (now (places .entry))) (bitsAt (now (words .entry)) (at + 1) 18) (bitsAt (now (words .entry)) (at + 19) 18) (wiresAt (now (words .entry)) (at + 37) 36))) (stated r) (now (exprs .exit)) (now (stmts .exit)) ⌝ }
+    ensures { λ r. ⌜ WroteBoth (now (exprs .entry)) (now (stmts .entry)) t (emitMultiplier (wiresOf (now (wires .entry)) (now (places .entry))) (bitsAt (now (words .entry)) (at + 1) 18) (bitsAt (now (words .entry)) (at + 19) 18) (wiresAt (now (words .entry)) (at + 37) 36)) (stated r) (now (exprs .exit)) (now (stmts .exit)) ⌝ }
 {
     let lhs = ahead(words, at, 1);
     let rhs = ahead(words, at, 19);
     let product = field(words, at, 37);
-    let r = bits_expression(exprs, parts, signals, places, t, words, lhs, 18, 36);
+    let mut parts = [0u32; 36];
+    let r = bits_expression(exprs, &mut parts, wires, places, t, words, lhs, 18, 36);
     let Emitted::Done(a, after_a) = r else {
         return stopped(r);
     };
-    let r2 = bits_expression(exprs, parts, signals, places, after_a, words, rhs, 18, 36);
+    let r2 = bits_expression(
+        exprs,
+        &mut parts,
+        wires,
+        places,
+        after_a,
+        words,
+        rhs,
+        18,
+        36,
+    );
     let Emitted::Done(b, after_b) = r2 else {
         return stopped(r2);
     };
@@ -93,7 +97,7 @@ pub fn emit_multiplier(
     let Emitted::Done(value, next) = r3 else {
         return stopped(r3);
     };
-    assign_wire(stmts, signals, places, next, product, value)
+    assign_wire(stmts, wires, places, next, product, value)
 }
 
 // A truth table of four inputs, by the optimizer.
@@ -106,16 +110,16 @@ pub fn lut_expression(exprs: &mut [u32], t: Tapes, inputs: [ExprId; 4], init: u1
 pub fn emit_lut4(
     exprs: &mut [u32],
     stmts: &mut [u32],
-    signals: &[u32],
+    wires: &[u32],
     places: &[u32],
     t: Tapes,
     inputs: [Bit; 4],
     output: u32,
     init: u16,
 ) -> Stated
-    ensures { λ r. ⌜ WroteBoth (now (exprs .entry)) (now (stmts .entry)) t (emitLut4 (wiresOf (now (signals .entry)) (now (places .entry))) inputs output init) (stated r) (now (exprs .exit)) (now (stmts .exit)) ⌝ }
+    ensures { λ r. ⌜ WroteBoth (now (exprs .entry)) (now (stmts .entry)) t (emitLut4 (wiresOf (now (wires .entry)) (now (places .entry))) inputs output init) (stated r) (now (exprs .exit)) (now (stmts .exit)) ⌝ }
 {
-    let r = read4(exprs, signals, places, t, inputs);
+    let r = read4(exprs, wires, places, t, inputs);
     let Read4::Done(a, b, c, d, after) = r else {
         return stopped(stopped_read(r));
     };
@@ -124,13 +128,13 @@ pub fn emit_lut4(
     let Emitted::Done(value, next) = r2 else {
         return stopped(r2);
     };
-    assign_wire(stmts, signals, places, next, output, value)
+    assign_wire(stmts, wires, places, next, output, value)
 }
 
 pub fn emit_pfumx(
     exprs: &mut [u32],
     stmts: &mut [u32],
-    signals: &[u32],
+    wires: &[u32],
     places: &[u32],
     t: Tapes,
     lut_true: Bit,
@@ -138,17 +142,17 @@ pub fn emit_pfumx(
     select: Bit,
     output: u32,
 ) -> Stated
-    ensures { λ r. ⌜ WroteBoth (now (exprs .entry)) (now (stmts .entry)) t (emitPfumx (wiresOf (now (signals .entry)) (now (places .entry))) «lut_true» «lut_false» select output) (stated r) (now (exprs .exit)) (now (stmts .exit)) ⌝ }
+    ensures { λ r. ⌜ WroteBoth (now (exprs .entry)) (now (stmts .entry)) t (emitPfumx (wiresOf (now (wires .entry)) (now (places .entry))) «lut_true» «lut_false» select output) (stated r) (now (exprs .exit)) (now (stmts .exit)) ⌝ }
 {
-    let r = bit_expression(exprs, signals, places, t, select);
+    let r = bit_expression(exprs, wires, places, t, select);
     let Emitted::Done(s, after_s) = r else {
         return stopped(r);
     };
-    let r2 = bit_expression(exprs, signals, places, after_s, lut_true);
+    let r2 = bit_expression(exprs, wires, places, after_s, lut_true);
     let Emitted::Done(high, after_high) = r2 else {
         return stopped(r2);
     };
-    let r3 = bit_expression(exprs, signals, places, after_high, lut_false);
+    let r3 = bit_expression(exprs, wires, places, after_high, lut_false);
     let Emitted::Done(low, after_low) = r3 else {
         return stopped(r3);
     };
@@ -156,13 +160,13 @@ pub fn emit_pfumx(
     let Emitted::Done(value, next) = r4 else {
         return stopped(r4);
     };
-    assign_wire(stmts, signals, places, next, output, value)
+    assign_wire(stmts, wires, places, next, output, value)
 }
 
 pub fn emit_l6mux21(
     exprs: &mut [u32],
     stmts: &mut [u32],
-    signals: &[u32],
+    wires: &[u32],
     places: &[u32],
     t: Tapes,
     data_zero: Bit,
@@ -170,17 +174,17 @@ pub fn emit_l6mux21(
     select: Bit,
     output: u32,
 ) -> Stated
-    ensures { λ r. ⌜ WroteBoth (now (exprs .entry)) (now (stmts .entry)) t (emitL6mux21 (wiresOf (now (signals .entry)) (now (places .entry))) «data_zero» «data_one» select output) (stated r) (now (exprs .exit)) (now (stmts .exit)) ⌝ }
+    ensures { λ r. ⌜ WroteBoth (now (exprs .entry)) (now (stmts .entry)) t (emitL6mux21 (wiresOf (now (wires .entry)) (now (places .entry))) «data_zero» «data_one» select output) (stated r) (now (exprs .exit)) (now (stmts .exit)) ⌝ }
 {
-    let r = bit_expression(exprs, signals, places, t, select);
+    let r = bit_expression(exprs, wires, places, t, select);
     let Emitted::Done(s, after_s) = r else {
         return stopped(r);
     };
-    let r2 = bit_expression(exprs, signals, places, after_s, data_zero);
+    let r2 = bit_expression(exprs, wires, places, after_s, data_zero);
     let Emitted::Done(low, after_low) = r2 else {
         return stopped(r2);
     };
-    let r3 = bit_expression(exprs, signals, places, after_low, data_one);
+    let r3 = bit_expression(exprs, wires, places, after_low, data_one);
     let Emitted::Done(high, after_high) = r3 else {
         return stopped(r3);
     };
@@ -188,13 +192,13 @@ pub fn emit_l6mux21(
     let Emitted::Done(value, next) = r4 else {
         return stopped(r4);
     };
-    assign_wire(stmts, signals, places, next, output, value)
+    assign_wire(stmts, wires, places, next, output, value)
 }
 
 pub fn emit_io(
     exprs: &mut [u32],
     stmts: &mut [u32],
-    signals: &[u32],
+    wires: &[u32],
     places: &[u32],
     t: Tapes,
     pad: u32,
@@ -202,17 +206,17 @@ pub fn emit_io(
     fabric_input: u32,
     tristate: Bit,
 ) -> Stated
-    ensures { λ r. ⌜ WroteBoth (now (exprs .entry)) (now (stmts .entry)) t (emitIo (wiresOf (now (signals .entry)) (now (places .entry))) pad «fabric_output» «fabric_input» tristate) (stated r) (now (exprs .exit)) (now (stmts .exit)) ⌝ }
+    ensures { λ r. ⌜ WroteBoth (now (exprs .entry)) (now (stmts .entry)) t (emitIo (wiresOf (now (wires .entry)) (now (places .entry))) pad «fabric_output» «fabric_input» tristate) (stated r) (now (exprs .exit)) (now (stmts .exit)) ⌝ }
 {
-    let r = bit_expression(exprs, signals, places, t, Bit::Wire(pad));
+    let r = bit_expression(exprs, wires, places, t, Bit::Wire(pad));
     let Emitted::Done(p, after_p) = r else {
         return stopped(r);
     };
-    let r2 = bit_expression(exprs, signals, places, after_p, fabric_output);
+    let r2 = bit_expression(exprs, wires, places, after_p, fabric_output);
     let Emitted::Done(driven, after_driven) = r2 else {
         return stopped(r2);
     };
-    let r3 = bit_expression(exprs, signals, places, after_driven, tristate);
+    let r3 = bit_expression(exprs, wires, places, after_driven, tristate);
     let Emitted::Done(s, after_s) = r3 else {
         return stopped(r3);
     };
@@ -220,5 +224,5 @@ pub fn emit_io(
     let Emitted::Done(resolved, next) = r4 else {
         return stopped(r4);
     };
-    assign_wire(stmts, signals, places, next, fabric_input, resolved)
+    assign_wire(stmts, wires, places, next, fabric_input, resolved)
 }

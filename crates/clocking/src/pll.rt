@@ -24,25 +24,25 @@ ghost use Rattle.cells.specs.Answers.{pllOf};
 // A wire unless it is this other one.
 fn assign_unless(
     stmts: &mut [u32],
-    signals: &[u32],
+    wires: &[u32],
     places: &[u32],
     t: Tapes,
     other: u32,
     wire: u32,
     value: ExprId,
 ) -> Stated
-    ensures { λ r. ⌜ WroteStmts (now (stmts .entry)) t (pick (eqb wire other) (pure tt) (assignWire (wiresOf (now (signals .entry)) (now (places .entry))) wire (value .0))) (stated r) (now (stmts .exit)) ⌝ }
+    ensures { λ r. ⌜ WroteStmts (now (stmts .entry)) t (pick (eqb wire other) (pure tt) (assignWire (wiresOf (now (wires .entry)) (now (places .entry))) wire (value .0))) (stated r) (now (stmts .exit)) ⌝ }
 {
     if wire == other {
         return Stated::Done(t);
     }
-    assign_wire(stmts, signals, places, t, wire, value)
+    assign_wire(stmts, wires, places, t, wire, value)
 }
 
 // A further clock, unless it is the feedback or the output.
 fn assign_clock(
     stmts: &mut [u32],
-    signals: &[u32],
+    wires: &[u32],
     places: &[u32],
     t: Tapes,
     feedback: u32,
@@ -50,18 +50,18 @@ fn assign_clock(
     wire: u32,
     value: ExprId,
 ) -> Stated
-    ensures { λ r. ⌜ WroteStmts (now (stmts .entry)) t (pick (eqb wire feedback || eqb wire output) (pure tt) (assignWire (wiresOf (now (signals .entry)) (now (places .entry))) wire (value .0))) (stated r) (now (stmts .exit)) ⌝ }
+    ensures { λ r. ⌜ WroteStmts (now (stmts .entry)) t (pick (eqb wire feedback || eqb wire output) (pure tt) (assignWire (wiresOf (now (wires .entry)) (now (places .entry))) wire (value .0))) (stated r) (now (stmts .exit)) ⌝ }
 {
     if wire == feedback {
         return Stated::Done(t);
     }
-    assign_unless(stmts, signals, places, t, output, wire, value)
+    assign_unless(stmts, wires, places, t, output, wire, value)
 }
 
 // The n further clocks that stand at an offset from an index.
 fn assign_clocks(
     stmts: &mut [u32],
-    signals: &[u32],
+    wires: &[u32],
     places: &[u32],
     t: Tapes,
     feedback: u32,
@@ -71,14 +71,14 @@ fn assign_clocks(
     n: usize,
     value: ExprId,
 ) -> Stated
-    ensures { λ r. ⌜ WroteStmts (now (stmts .entry)) t (pllClocks (wiresOf (now (signals .entry)) (now (places .entry))) feedback output (wiresAt (now (words .entry)) (at + 6) n) (value .0)) (stated r) (now (stmts .exit)) ⌝ }
+    ensures { λ r. ⌜ WroteStmts (now (stmts .entry)) t (pllClocks (wiresOf (now (wires .entry)) (now (places .entry))) feedback output (wiresAt (now (words .entry)) (at + 6) n) (value .0)) (stated r) (now (stmts .exit)) ⌝ }
 {
     let from = ahead(words, at, 6);
     let mut now = t;
     let mut i = 0;
     while i < n {
         let wire = field(words, from, i);
-        let r = assign_clock(stmts, signals, places, now, feedback, output, wire, value);
+        let r = assign_clock(stmts, wires, places, now, feedback, output, wire, value);
         let Stated::Done(next) = r else {
             return r;
         };
@@ -92,27 +92,27 @@ fn assign_clocks(
 pub fn emit_cycle_pll(
     exprs: &mut [u32],
     stmts: &mut [u32],
-    signals: &[u32],
+    wires: &[u32],
     places: &[u32],
     t: Tapes,
     words: &[u32],
     at: usize,
 ) -> Stated
-    ensures { λ r. ⌜ WroteBoth (now (exprs .entry)) (now (stmts .entry)) t (emitCyclePll (wiresOf (now (signals .entry)) (now (places .entry))) (pllOf (now (words .entry)) at)) (stated r) (now (exprs .exit)) (now (stmts .exit)) ⌝ }
+    ensures { λ r. ⌜ WroteBoth (now (exprs .entry)) (now (stmts .entry)) t (emitCyclePll (wiresOf (now (wires .entry)) (now (places .entry))) (pllOf (now (words .entry)) at)) (stated r) (now (exprs .exit)) (now (stmts .exit)) ⌝ }
 {
     let feedback = field(words, at, 2);
     let output = field(words, at, 3);
-    let r = bit_expression(exprs, signals, places, t, bit_at(words, at, 1));
+    let r = bit_expression(exprs, wires, places, t, bit_at(words, at, 1));
     let Emitted::Done(reference, after_reference) = r else {
         return stopped(r);
     };
-    let r2 = assign_wire(stmts, signals, places, after_reference, feedback, reference);
+    let r2 = assign_wire(stmts, wires, places, after_reference, feedback, reference);
     let Stated::Done(after_feedback) = r2 else {
         return r2;
     };
     let r3 = assign_unless(
         stmts,
-        signals,
+        wires,
         places,
         after_feedback,
         feedback,
@@ -125,7 +125,7 @@ pub fn emit_cycle_pll(
     let n = wide(field(words, at, 5));
     let r4 = assign_clocks(
         stmts,
-        signals,
+        wires,
         places,
         after_output,
         feedback,
@@ -138,12 +138,5 @@ pub fn emit_cycle_pll(
     let Stated::Done(next) = r4 else {
         return r4;
     };
-    assign_wire(
-        stmts,
-        signals,
-        places,
-        next,
-        field(words, at, 4),
-        ExprId::ONE,
-    )
+    assign_wire(stmts, wires, places, next, field(words, at, 4), ExprId::ONE)
 }

@@ -17,9 +17,8 @@ use Rattle.recorder.specs.Read.{split}
 use Rattle.recorder.specs.Words.{listWords, holding}
 use Rattle.recorder.proofs.Roundtrip.{Kind, stmt-kind, split-sized, split-nil, split-zero}
 use Rattle.lowering.specs.Lower.{statementsOn, allowed, overdrivenFrom}
-use Rattle.conflict.specs.declared.Conflict as c
-use Rattle.conflict.specs.Conflicts.{foundOf, Judges}
-use Rattle.conflict.specs.Counting.{more, raised, tally, exceeds, lowestFrom, restored}
+use Rattle.conflict.specs.Conflicts.{Judges}
+use Rattle.conflict.specs.Counting.{more, raised, tally, counted, exceeds, lowestFrom, restored}
 
 -- 4 and the count, two at most
 abbrev mark : ℕ → ℕ
@@ -169,23 +168,18 @@ restored-marked k c (x ∷ xs) i =
 
 -- THE WHOLE
 
-module _ (s m s₁ s₂ : List ℕ) (r : c.Conflict) (count : s₁ ≡ tally s (split m .records)) (low : foundOf r ≡ lowestFrom 0 s₁) (back : s₂ ≡ restored s₁) where
-  module _ (a b : ℕ) (xs : List Signal) (ts : List Stmt) (p : s ≡ holding a (listWords signalWords xs)) (q : m ≡ holding b (listWords stmtWords ts)) where
-    abbrev k : ℕ
-    k = a - length (listWords signalWords xs)
+module _ (s m : List ℕ) (a b : ℕ) (xs : List Signal) (ts : List Stmt) (p : s ≡ holding a (listWords signalWords xs)) (q : m ≡ holding b (listWords stmtWords ts)) where
+  abbrev k : ℕ
+  k = a - length (listWords signalWords xs)
 
-    counted : s₁ ≡ marked (λ s. statementsOn s ts) 0 xs ++ replicate k 0
-    counted =
-        count
-        ∙ ap₂ (λ (x : List ℕ) (rs : List (List ℕ)). tally x rs) (p ∙ ap (λ (l : List ℕ). l ++ replicate k 0) (sym (unmarked xs 0))) (ap (λ (l : List ℕ). split l .records) q ∙ records-held (b - length (listWords stmtWords ts)) ts)
-        ∙ tally-marked k xs ts (λ s. 0)
-        ∙ ap (λ (d : ℕ → ℕ). marked d 0 xs ++ replicate k 0) (fun-ext (λ s. zero-add (statementsOn s ts)))
+  counted-held : counted s m ≡ marked (λ s. statementsOn s ts) 0 xs ++ replicate k 0
+  counted-held =
+      ap₂ (λ (x : List ℕ) (rs : List (List ℕ)). tally x rs) (p ∙ ap (λ (l : List ℕ). l ++ replicate k 0) (sym (unmarked xs 0))) (ap (λ (l : List ℕ). split l .records) q ∙ records-held (b - length (listWords stmtWords ts)) ts)
+      ∙ tally-marked k xs ts (λ s. 0)
+      ∙ ap (λ (d : ℕ → ℕ). marked d 0 xs ++ replicate k 0) (fun-ext (λ s. zero-add (statementsOn s ts)))
 
-    judged-answer : foundOf r ≡ overdrivenFrom 0 xs ts
-    judged-answer = low ∙ ap (lowestFrom 0) counted ∙ lowest-marked k ts xs 0
-
-    judged-kept : s₂ ≡ s
-    judged-kept = back ∙ ap restored counted ∙ restored-marked k (λ s. statementsOn s ts) xs 0 ∙ sym p
-
-  pub judges : Judges s m r s₂
-  judges = record { answer = judged-answer; kept = judged-kept }
+  pub judges : Judges s m xs ts
+  judges = record {
+    answer = ap (lowestFrom 0) counted-held ∙ lowest-marked k ts xs 0;
+    kept = ap restored counted-held ∙ restored-marked k (λ s. statementsOn s ts) xs 0 ∙ sym p;
+  }

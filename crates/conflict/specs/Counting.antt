@@ -1,4 +1,4 @@
--- How the statements are counted: in the first words of the signals' records. For the parts of `overdriven`.
+-- How the statements are counted: in the first words of the signals' records. What `overdriven` answers and leaves, whatever the words.
 use mathlib.Core.Bool.{Bool, true, false}
 use mathlib.Core.List.{List, [], _∷_}
 use mathlib.Core.Option.{Option, none, some}
@@ -6,6 +6,7 @@ use Prim.Native.Nat.{ℕ, zero, suc, _*_}
 use lib.Dec.{eqb, ltb}
 use lib.ListN.{getD, set}
 use Rattle.bits.specs.Bits.{pick}
+use Rattle.recorder.specs.Read.{split}
 
 -- 4, a record's length, then 5, and 6 for two or more
 abbrev pub more : ℕ → ℕ
@@ -18,6 +19,10 @@ raised s at = set s at (more (getD s at 0))
 unfoldable pub tally : List ℕ → List (List ℕ) → List ℕ
 tally s [] = s
 tally s (r ∷ rs) = tally (raised s (4 * getD r 1 0)) rs
+
+-- the signals' words, with the statements in the words m counted
+abbrev pub counted : List ℕ → List ℕ → List ℕ
+counted s m = tally s (split m .records)
 
 -- a count and a label
 abbrev pub exceeds : ℕ → ℕ → Bool

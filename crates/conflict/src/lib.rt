@@ -8,10 +8,9 @@ use recorder::read::cut;
 use recorder::read::word;
 ghost use mathlib.Core.Path.{_≡_};
 ghost use lib.ListN.{getD};
-ghost use Rattle.recorder.specs.Read.{split};
 ghost use Rattle.recorder.specs.Standing.{sizeAt, fieldsAt};
-ghost use Rattle.conflict.specs.Conflicts.{Judges, foundOf};
-ghost use Rattle.conflict.specs.Counting.{raised, tally, lowestFrom, restored, exceeds};
+ghost use Rattle.conflict.specs.Conflicts.{foundOf};
+ghost use Rattle.conflict.specs.Counting.{raised, counted, lowestFrom, restored, exceeds};
 
 pub enum Conflict {
     Absent,
@@ -60,7 +59,7 @@ fn target(stmts: &[u32], at: usize, size: usize) -> u32
 }
 
 fn count_statements(signals: &mut [u32], stmts: &[u32])
-    ensures { λ _. ⌜ now (signals .exit) ≡ tally (now (signals .entry)) (split (now (stmts .entry)) .records) ⌝ }
+    ensures { λ _. ⌜ now (signals .exit) ≡ counted (now (signals .entry)) (now (stmts .entry)) ⌝ }
 {
     let mut at = 0;
     while at < stmts.len() {
@@ -115,9 +114,10 @@ fn restore(signals: &mut [u32])
     }
 }
 
-// The lowest overdriven signal of lists that hold a model.
+// The lowest overdriven signal: where lists hold a model, its own (proofs/Marked). The signals are then left as they were.
 pub fn overdriven(signals: &mut [u32], stmts: &[u32]) -> Conflict
-    ensures { λ r. ⌜ Judges (now (signals .entry)) (now (stmts .entry)) r (now (signals .exit)) ⌝ }
+    ensures found { λ r. ⌜ foundOf r ≡ lowestFrom 0 (counted (now (signals .entry)) (now (stmts .entry))) ⌝ }
+    ensures left { λ _. ⌜ now (signals .exit) ≡ restored (counted (now (signals .entry)) (now (stmts .entry))) ⌝ }
 {
     count_statements(signals, stmts);
     let found = lowest(signals);

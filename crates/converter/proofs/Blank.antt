@@ -1,31 +1,23 @@
 -- Lists and works of zeros, and the judgement. Assumes nothing.
-use Prim.Native.Nat.{ℕ, zero, suc, _+_, _≤_, _<_}
+use Prim.Native.Nat.{ℕ, zero, suc}
 use mathlib.Core.Path.{_≡_, refl, sym, _∙_, ap, ap₂}
 use mathlib.Core.Bool.{Bool, true, false}
-use mathlib.Core.List.{List, [], _∷_, _++_, append-nil}
+use mathlib.Core.List.{List, [], _∷_}
 use mathlib.Core.Option.{Option}
 use native.Mathlib.Omega.{arith}
-use lib.ListN.{length, drop, replicate, length-append, length-replicate, length-drop, drop-of-length-le}
 use Rattle.bits.specs.Bits.{pick}
 use Rattle.refusal.specs.Refusal.{numberOf, placeOf}
 use Rattle.refusal.specs.declared.Refusal as x
 use Rattle.recorder.specs.declared.Tapes.{Tapes}
 use Rattle.recorder.specs.declared.Stated as r
 use Rattle.recorder.specs.Lists.{Lists, lists}
-use Rattle.recorder.specs.Words.{zeroed}
-use Rattle.lowering.specs.Lower.{Lowered, Accepted, Refused, Lowering, judged}
+use Rattle.lowering.specs.Lower.{Lowered, Accepted, Refused, judged}
 use Rattle.conflict.specs.declared.Conflict as f
-use Rattle.conflict.specs.Conflicts.{foundOf, Judges}
+use Rattle.conflict.specs.Conflicts.{foundOf}
+use Rattle.conflict.specs.Counting.{counted, lowestFrom, restored}
+use Rattle.conflict.proofs.Marked.{judges}
 use Rattle.converter.specs.declared.Lowered as c
 use Rattle.converter.specs.Entry.{answerOf, short, anyShort, kept, blankOf, Keeps, AnswersTo, ZerosThree}
-
--- ZEROS
-
-pub filled : (i : ℕ) (l l₀ : List ℕ) → l ≡ replicate i 0 ++ drop i l₀ → i ≡ length l₀ → l ≡ zeroed l₀
-filled i l l₀ p e = p ∙ ap (λ (r : List ℕ). replicate i 0 ++ r) (let h : length l₀ ≤ i = omega arith in drop-of-length-le l₀ h) ∙ append-nil (replicate i 0) ∙ ap (λ (n : ℕ). replicate n 0) e
-
-pub fill-length : (i : ℕ) (l l₀ : List ℕ) → i ≤ length l₀ → l ≡ replicate i 0 ++ drop i l₀ → length l ≡ length l₀
-fill-length i l l₀ h p = omega (arith, ap length p, length-append (replicate {A = ℕ} i 0) (drop i l₀), length-replicate {A = ℕ} i 0, length-drop i l₀)
 
 -- WORKS
 
@@ -51,13 +43,13 @@ pub judged-as : {o o′ : f.Conflict} (t : Tapes) → o ≡ o′ → (l : Lists)
 judged-as t e l = ap (λ (z : f.Conflict). judged (foundOf z) t l l .answer) (sym e)
 
 module _ (s m : List ℕ) {p : r.Stated} where
-  pub answered-done : {t : Tapes} {o : f.Conflict} {q : c.Lowered} {s′ : List ℕ} → p ≡ r.the-variants.Done t → Judges s m o s′ → ((l : Lists) → answerOf q ≡ judged (foundOf o) t l l .answer) → AnswersTo s m p q s′
-  answered-done {t} {o} d j a = record {
+  pub answered-done : {t : Tapes} (o : f.Conflict) {q : c.Lowered} {s′ : List ℕ} → p ≡ r.the-variants.Done t → foundOf o ≡ lowestFrom 0 (counted s m) → s′ ≡ restored (counted s m) → ((l : Lists) → answerOf q ≡ judged (foundOf o) t l l .answer) → AnswersTo s m p q s′
+  answered-done {t} o d found left a = record {
     refused = λ x e. let z : _≡_ {A = ℕ} 0 1 = cc in absurd (omega arith);
     recorded = λ u e k n xs ts g h l.
         let same : t ≡ u = cc in
-        a l ∙ ap₂ (λ (w : Tapes) (d : Option ℕ). judged d w l l .answer) same (j .answer k n xs ts g h);
-    same = λ u e k n xs ts g h. j .kept k n xs ts g h;
+        a l ∙ ap₂ (λ (w : Tapes) (d : Option ℕ). judged d w l l .answer) same (found ∙ judges s m k n xs ts g h .answer);
+    same = λ u e k n xs ts g h. left ∙ judges s m k n xs ts g h .kept;
   }
 
   pub answered-refused : {w : x.Refusal} {s′ : List ℕ} → p ≡ r.the-variants.Refused w → AnswersTo s m p (c.the-variants.Refused w) s′

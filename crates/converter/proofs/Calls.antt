@@ -13,7 +13,7 @@ use Rattle.netlist.specs.Reader.{base}
 use Rattle.recorder.specs.Lists.{Lists, lists}
 use Rattle.recorder.specs.Words.{zeroed, blank}
 use Rattle.lowering.specs.Lower.{Lowered, Refused, Lowering, lowerWords}
-use Rattle.steps.specs.Steps.{Within}
+use Rattle.converter.specs.Steps.{Within}
 use Rattle.converter.specs.declared.Lowered as c
 use Rattle.converter.specs.Entry.{answerOf, short, anyShort, callOf, Lowers, LowersWithin, LowersLists, kept, blankOf, Keeps, Ready, Attempts, ZerosTwo, ZerosThree, ZerosFive}
 

@@ -1,4 +1,22 @@
 -- The laws of converter.
+pub mod Tables
+pub mod Declared
+pub mod Reserved
+pub mod Reserving
+pub mod ReserveLaws
+pub mod Keys
+pub mod Collecting
+pub mod Walking
+pub mod Noted
+pub mod Inserting
+pub mod BanksReserved
+pub mod NextBits
+pub mod Registers
+pub mod KindLaws
+pub mod Emitting
+pub mod OutputLaws
+pub mod StartLaws
+pub mod Sequence
 pub mod Blank
 pub mod Calls
 pub mod Whole

@@ -26,7 +26,7 @@ use Rattle.recorder.specs.Outcome.{none-yet, Ended, done, refused as turned, fi
 use Rattle.recorder.proofs.Outcomes.{wrote-ended}
 use Rattle.wires.specs.Wires.{entry, noWires, wiresOf}
 use Rattle.lowering.specs.Lower.{start, Lowered, Accepted, Refused, Lowering, overdrivenFrom, judged, ended, lowerNetlist, lowered, loweredRead, lowerWords}
-use Rattle.steps.specs.Steps.{Within, netlistBy, Checked, Unmapped, Roomy, RecordsNetlist}
+use Rattle.converter.specs.Steps.{Within, netlistBy, Checked, Unmapped, Roomy, RecordsNetlist}
 use Rattle.converter.specs.declared.Lowered as c
 use Rattle.converter.specs.Entry.{answerOf, kept, Ready, Attempts, AnswersTo}
 
@@ -41,8 +41,8 @@ no-wires : (n m : ℕ) → wiresOf (replicate n 0) (replicate m 0) ≡ noWires
 unfolding wiresOf
 no-wires n m = fun-ext (λ w. ap (λ (s : ℕ). entry s (getD (replicate m 0) w 0)) (zeros-at n w))
 
-unmapped : {ss ps parts values banks : List ℕ} → Ready ss ps parts values banks → Unmapped ss ps
-unmapped {ss} {ps} h = record { signals = h .wires-long; places = h .places-long; none-yet = ap₂ wiresOf (h .no-signals) (h .no-places) ∙ no-wires (length ss) (length ps) }
+unmapped : {wires places parts values banks : List ℕ} → Ready wires places parts values banks → Unmapped wires places
+unmapped {wires} {places} h = record { wires-long = h .wires-long; places-long = h .places-long; none-yet = ap₂ wiresOf (h .no-signals) (h .no-places) ∙ no-wires (length wires) (length places) }
 
 -- A CHECKED NETLIST
 
@@ -113,10 +113,10 @@ module _ (limits : Limits) (words : List ℕ) (l : Lists) (wires places parts va
     by-end (r.the-variants.Done u) d =
         let m = model (netlistAt words) s e t in
         let lies : l₁ ≡ holdingAll s e t m = held (netlistAt words) s e t (wrote-ended s e t (lowerNetlist (netlistAt words)) wrote) (ap stated d) in
-        let ps : l₁ .signals ≡ holding s (listWords signalWords (m .signals)) = ap (λ (y : Lists). y .signals) lies in
-        let pt : l₁ .stmts ≡ holding t (listWords stmtWords (m .stmts)) = ap (λ (y : Lists). y .stmts) lies in
-        let back : lists s′ (l₁ .exprs) (l₁ .stmts) ≡ l₁ = ap (λ (y : List ℕ). lists y (l₁ .exprs) (l₁ .stmts)) (answer .same u d s t (m .signals) (m .stmts) ps pt) in
-        finish (conflict (netlistAt words) s e t) u (answerOf q) l₁ (lists s′ (l₁ .exprs) (l₁ .stmts)) (blank s e t) (answer .recorded u d s t (m .signals) (m .stmts) ps pt l₁) back
+        let hs : l₁ .signals ≡ holding s (listWords signalWords (m .signals)) = ap (λ (y : Lists). y .signals) lies in
+        let ht : l₁ .stmts ≡ holding t (listWords stmtWords (m .stmts)) = ap (λ (y : Lists). y .stmts) lies in
+        let back : lists s′ (l₁ .exprs) (l₁ .stmts) ≡ l₁ = ap (λ (y : List ℕ). lists y (l₁ .exprs) (l₁ .stmts)) (answer .same u d s t (m .signals) (m .stmts) hs ht) in
+        finish (conflict (netlistAt words) s e t) u (answerOf q) l₁ (lists s′ (l₁ .exprs) (l₁ .stmts)) (blank s e t) (answer .recorded u d s t (m .signals) (m .stmts) hs ht l₁) back
         ∙ sym (lowered-as (netlistAt words) s e t (subst (λ (y : r.Stated). Wrote (blank s e t) start (lowerNetlist (netlistAt words)) (stated y) l₁) d wrote))
 
   pub attempt-done : {layout : Layout} → readWords limits words ≡ netlist (netlistAt words) → layout ≡ layoutOf words → {p : r.Stated} {l₁ : Lists} → RecordsNetlist l wires places parts values banks words layout p l₁

@@ -15,7 +15,7 @@ use Rattle.recorder.specs.Record.{Signal, Stmt, signalWords, stmtWords}
 use Rattle.recorder.specs.Lists.{Lists}
 use Rattle.recorder.specs.Words.{listWords, holding, blank, zeroed}
 use Rattle.lowering.specs.Lower.{Lowered, Accepted, Refused, Lowering, overdrivenFrom, judged, lowerWords}
-use Rattle.steps.specs.Steps.{Within}
+use Rattle.converter.specs.Steps.{Within}
 use Rattle.converter.specs.declared.Lowered as c
 
 -- the code's answer by number and values

@@ -31,11 +31,11 @@ pub fn answered(signals: &mut [u32], stmts: &[u32], r: Stated) -> Lowered
     }
 }
 
-pub fn zero_refused(a: &mut [u32], b: &mut [u32], c: &mut [u32], r: Lowered)
-    ensures { λ _. ⌜ Keeps r (lists (now (a .entry)) (now (b .entry)) (now (c .entry))) (lists (now (a .exit)) (now (b .exit)) (now (c .exit))) ⌝ }
+pub fn zero_refused(signals: &mut [u32], exprs: &mut [u32], stmts: &mut [u32], r: Lowered)
+    ensures { λ _. ⌜ Keeps r (lists (now (signals .entry)) (now (exprs .entry)) (now (stmts .entry))) (lists (now (signals .exit)) (now (exprs .exit)) (now (stmts .exit))) ⌝ }
 {
     let Lowered::Refused(_) = r else {
         return;
     };
-    zero_lists(a, b, c);
+    zero_lists(signals, exprs, stmts);
 }

@@ -1,6 +1,22 @@
-// The converter: from a netlist's words to the three lists of its model, or a refusal. (lib.rs of the Rust: lower.)
-mod judge; // judge.rt: the answer, once all is recorded
-pub mod zeros; // zeros.rt: lists and works of zeros
+// The converter: from a netlist's words to the three lists of its model, or a refusal. (lib.rs of the Rust: `lower` is its
+// `ecp5_frontend_artifact`. The files below stand in its order of functions.)
+mod steps; // the steps in the Rust's order
+mod ports; // signals of ports
+mod reserve; // signals of cells (reserve_cell_output)
+mod scalar; // a signal for a wire, or for several (reserve_scalar)
+mod cell; // every cell by its kind (emit_cell)
+mod kinds; // the small cells
+mod rams; // the RAMs
+mod outputs; // output ports (emit_outputs)
+mod constants; // the constants' signals
+mod collect; // the bank of each flip-flop (collect_flip_flop_banks)
+mod members; // the members of a bank
+mod bank; // signals of banks (reserve_flip_flop_banks)
+mod insert; // the wire map's tables (insert_wire)
+mod next; // the next value of a bank
+mod register; // registers of banks (emit_flip_flop_bank)
+mod judge; // the answer, once all is recorded: 11
+mod zeros; // lists and works of zeros
 
 use judge::answered;
 use judge::zero_refused;

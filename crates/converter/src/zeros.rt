@@ -1,35 +1,26 @@
 // Lists and works of zeros.
 use crate::WORK;
+use recorder::words::zero_words;
 ghost use mathlib.Core.Path.{_≡_};
 ghost use mathlib.Core.List.{[], _∷_};
+ghost use Prim.Native.Nat.{min};
 ghost use lib.ListN.{length};
 ghost use Rattle.recorder.specs.Words.{zeroed};
 ghost use Rattle.converter.specs.Entry.{short, anyShort, ZerosTwo, ZerosThree, ZerosFive};
 
-pub fn zero(list: &mut [u32])
-    ensures { λ _. ⌜ now (list .exit) ≡ zeroed (now (list .entry)) ⌝ }
-{
-    let n = list.len();
-    let mut i = 0;
-    while i < n {
-        list[i] = 0;
-        i += 1;
-    }
-}
-
 pub fn zero_tables(a: &mut [u32], b: &mut [u32])
     ensures { λ _. ⌜ ZerosTwo (now (a .entry)) (now (b .entry)) (now (a .exit)) (now (b .exit)) ⌝ }
 {
-    zero(a);
-    zero(b);
+    zero_words(a);
+    zero_words(b);
 }
 
 pub fn zero_lists(a: &mut [u32], b: &mut [u32], c: &mut [u32])
     ensures { λ _. ⌜ ZerosThree (now (a .entry)) (now (b .entry)) (now (c .entry)) (now (a .exit)) (now (b .exit)) (now (c .exit)) ⌝ }
 {
-    zero(a);
-    zero(b);
-    zero(c);
+    zero_words(a);
+    zero_words(b);
+    zero_words(c);
 }
 
 pub fn zero_works(a: &mut [u32], b: &mut [u32], c: &mut [u32], d: &mut [u32], e: &mut [u32])
@@ -37,6 +28,13 @@ pub fn zero_works(a: &mut [u32], b: &mut [u32], c: &mut [u32], d: &mut [u32], e:
 {
     zero_tables(a, b);
     zero_lists(c, d, e);
+}
+
+// So many words of a work, at most all of them.
+pub fn cut(work: &[u32], n: usize) -> usize
+    ensures { λ r. ⌜ r ≡ min n (length (now (work .entry))) ⌝ }
+{
+    if n <= work.len() { n } else { work.len() }
 }
 
 fn is_short(work: &[u32]) -> bool

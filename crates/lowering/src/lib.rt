@@ -1,2 +1,1 @@
-// Lowering a netlist. (lib.rs of the Rust.)
-pub mod reserve;
+// Lowering as a writer of records: what ports, cells and banks reserve and emit, and the whole. Definitions and cases; no code.

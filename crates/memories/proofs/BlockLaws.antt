@@ -6,6 +6,7 @@ use mathlib.Core.Option.{Option, none, some}
 use Prim.Native.Nat.{ℕ, zero, suc, _+_, _^_, _≤_, max}
 use native.Mathlib.Omega.{arith}
 use lib.Dec.{leb}
+use Rattle.netlist.specs.declared.Bit.{Bit}
 use Rattle.netlist.specs.declared.Control.{Control}
 use Rattle.netlist.specs.Netlist.{BlockRam}
 use Rattle.netlist.specs.Reader.{bitsFrom, addressWidth, shiftOf}
@@ -18,7 +19,7 @@ use Rattle.memories.specs.declared.Port.{Port}
 use Rattle.memories.specs.declared.Second.{Second}
 use Rattle.memories.specs.declared.Second.the-variants as B
 use Rattle.memories.specs.Memories.{Word, PortExprs, writeWord, ramWord, ramWords, secondExprs, emitBlockRam}
-use Rattle.memories.specs.Rams.{portOf, writing, secondOf, secondWriting, firstExprs}
+use Rattle.memories.specs.Rams.{portOf, writing, secondOf, secondWriting, firstExprs, secondAddressed, addressed}
 use Rattle.memories.specs.Steps.{ramReads, ramBody}
 use Rattle.address_mux.proofs.Binds.{bind-cong, bind-four}
 
@@ -31,20 +32,14 @@ bits-most (suc fuel) k n = go (leb n (2 ^ k)) (bits-most fuel (suc k) n)
     go true h = omega arith
     go false h = omega arith
 
-pub width-most : (depth : ℕ) → addressWidth depth ≤ 33
-width-most depth = bits-most 32 1 depth
+pub width-most : {a : ℕ} (depth : ℕ) → a ≡ addressWidth depth → a ≤ 33
+width-most {a} depth e = let h = bits-most 32 1 depth in omega arith
 
 pub le-same : {k m n : ℕ} → k ≤ n → m ≡ n → k ≤ m
 le-same h e = omega arith
 
 -- what the work has room for
-module _ (d w : ℕ) {n : ℕ} (work : max 16384 (max d w) ≤ n) where
-  pub room-address : {a : ℕ} (k : ℕ) → a ≡ addressWidth k → a ≤ n
-  room-address {a} k e = let h = go (addressWidth k) (width-most k) in omega arith
-    where
-      go : (b : ℕ) → b ≤ 33 → b ≤ n
-      go b h = omega arith
-
+module _ (d w : ℕ) {n : ℕ} (work : max d w ≤ n) where
   pub room-depth : d ≤ n
   room-depth = omega arith
 
@@ -91,9 +86,16 @@ module _ (m : Wires) (z : Constants) (owner : ℕ) (r : BlockRam) where
       (λ wa ra d y. record { writeAddress = wa; writeData = d; writeAsserted = y; readAddress = ra; readData = r .output; readEnable = r .readEnable })
       (λ a. secondExprs m (shiftIn (shiftOf (r .physical))) (addressWidth (r .depth)) (r .second) >>= λ b. afterPorts (addressWidth (r .depth)) a b))
 
-  pub block-split : {shift aw : ℕ} → shift ≡ shiftIn (shiftOf (r .physical)) → aw ≡ addressWidth (r .depth)
+  block-split : {shift aw : ℕ} → shift ≡ shiftIn (shiftOf (r .physical)) → aw ≡ addressWidth (r .depth)
       → emitBlockRam m z owner r ≡ (firstExprs m shift aw r >>= λ a. secondExprs m shift aw (r .second) >>= λ b. bitSignal m z (r .clock) >>= λ clock. ramBody m z owner a b (r .width) aw (r .depth) clock (r .edge))
   block-split p q = split ∙ ap₂ (λ (s w : ℕ). firstExprs m s w r >>= λ a. secondExprs m s w (r .second) >>= λ b. afterPorts w a b) (sym p) (sym q)
+
+-- addresses come by themselves, and the first port has nothing of the second
+pub addressed-split : (m : Wires) (z : Constants) (owner : ℕ) (r : BlockRam) (written read second : List Bit) {shift aw : ℕ} → shift ≡ shiftIn (shiftOf (r .physical)) → aw ≡ addressWidth (r .depth)
+    → emitBlockRam m z owner (addressed r written read second)
+    ≡ (firstExprs m shift aw (addressed r written read []) >>= λ a. secondExprs m shift aw (secondAddressed (r .second) second) >>= λ b. bitSignal m z (r .clock) >>= λ clock. ramBody m z owner a b (r .width) aw (r .depth) clock (r .edge))
+unfolding firstExprs
+addressed-split m z owner r written read second p q = block-split m z owner (addressed r written read second) p q
 
 pub body-same : (m : Wires) (z : Constants) (owner : ℕ) (a : PortExprs) (b : Option PortExprs) (aw depth clock : ℕ) {width width′ edge edge′ : ℕ} → width ≡ width′ → edge ≡ edge′
     → ramBody m z owner a b width′ aw depth clock edge′ ≡ ramBody m z owner a b width aw depth clock edge

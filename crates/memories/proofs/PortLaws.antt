@@ -5,11 +5,12 @@ use mathlib.Core.Option.{Option, none, some}
 use Prim.Native.Nat.{ℕ, zero, suc, _+_, _≤_, min}
 use native.Mathlib.Nat.{add-zero}
 use native.Mathlib.Omega.{arith}
-use lib.ListN.{length}
+use lib.ListN.{length, take}
+use lib.Seq.{length-take-le}
 use Rattle.netlist.specs.declared.Bit.{Bit}
 use Rattle.netlist.specs.declared.Control.{Control}
 use Rattle.netlist.specs.Netlist.{SecondPort}
-use Rattle.netlist.specs.Fields.{recordsAt, after, whenSet, bitAt, bitsAt}
+use Rattle.netlist.specs.Fields.{recordsAt, after, whenSet, wordAt, bitAt, bitsAt, firstSize, ramAt}
 use Rattle.netlist.proofs.WordLaws.{bit-ahead, set-absent, set-present}
 use Rattle.netlist.proofs.RecordLaws.{bits-length}
 use Rattle.recorder.specs.declared.Tapes.{Tapes}
@@ -20,6 +21,8 @@ use Rattle.wires.specs.Wires.{Wires}
 use Rattle.wires.specs.Expressions.{assertedExpression, vectorExpression, bitsExpression, roomy}
 use Rattle.wires.proofs.Laws.{roomy-yes}
 use Rattle.memories.specs.Memories.{PortExprs, secondExprs}
+use Rattle.memories.specs.Rams.{secondAddressed, addressed, dramAddressed, dramAt}
+use Rattle.memories.specs.Steps.{secondAt}
 
 -- bits from an index on that was cut to the number of words
 module _ (words : List ℕ) (j i : ℕ) (cut : i ≡ min j (length words)) where
@@ -35,6 +38,13 @@ module _ (words : List ℕ) (j i : ℕ) (cut : i ≡ min j (length words)) where
   pub bits-ahead : (n : ℕ) → bitsAt words i n ≡ bitsAt words j n
   bits-ahead n = ap (λ (a : ℕ). bitsAt words a n) (sym (add-zero i)) ∙ bits-from n 0 ∙ ap (λ (a : ℕ). bitsAt words a n) (add-zero j)
 
+-- the first words of a work are enough
+pub cut-room : (parts : List ℕ) {n k : ℕ} → k ≡ n → n ≤ length parts → n ≤ length (take k parts)
+cut-room parts {n} {k} e h =
+    let g : k ≤ length parts = omega arith in
+    let l : length (take k parts) ≡ k = length-take-le k parts g in
+    omega arith
+
 module _ {e : List ℕ} {t : Tapes} {r : Answer ℕ} {e′ : List ℕ} (m : Wires) where
   -- data: the work has room
   pub data-as : (words parts : List ℕ) (n i j k : ℕ) → n ≤ length parts → i ≡ min j (length words) → k ≡ n
@@ -45,11 +55,9 @@ module _ {e : List ℕ} {t : Tapes} {r : Answer ℕ} {e′ : List ℕ} (m : Wire
       ∙ sym (roomy-yes n parts (vectorExpression m (bitsAt words i k) 0 n) room))
       (h x y)
 
-  pub address-as : {bits bits′ : List Bit} (shift width : ℕ) (parts : List ℕ) → bits ≡ bits′ → width ≤ length parts
-      → WroteExprs e t (roomy width parts (vectorExpression m bits shift width)) r e′ → WroteExprs e t (vectorExpression m bits′ shift width) r e′
-  address-as {bits} shift width parts same room h x y = wrote-as
-      (ap (λ (b : List Bit). vectorExpression m b shift width) (sym same) ∙ sym (roomy-yes width parts (vectorExpression m bits shift width) room))
-      (h x y)
+  -- another name for the bits
+  pub vector-as : {bits bits′ : List Bit} (at k : ℕ) → bits ≡ bits′ → WroteExprs e t (vectorExpression m bits at k) r e′ → WroteExprs e t (vectorExpression m bits′ at k) r e′
+  vector-as at k same h x y = wrote-as (ap (λ (b : List Bit). vectorExpression m b at k) (sym same)) (h x y)
 
   pub asserted-as : {a a′ : Control} → a ≡ a′ → WroteExprs e t (assertedExpression m a) r e′ → WroteExprs e t (assertedExpression m a′) r e′
   asserted-as same h x y = wrote-as (ap (λ (c : Control). assertedExpression m c) (sym same)) (h x y)
@@ -58,17 +66,41 @@ module _ {e : List ℕ} {t : Tapes} {r : Answer ℕ} {e′ : List ℕ} (m : Wire
   pub data-same : (words : List ℕ) {i i′ n n′ : ℕ} → i ≡ i′ → n ≡ n′ → WroteExprs e t (bitsExpression m (bitsAt words i n)) r e′ → WroteExprs e t (bitsExpression m (bitsAt words i′ n′)) r e′
   data-same words p q h x y = wrote-as (ap₂ (λ (i n : ℕ). bitsExpression m (bitsAt words i n)) (sym p) (sym q)) (h x y)
 
-  pub address-same : (words : List ℕ) {i i′ : ℕ} (shift width : ℕ) → i ≡ i′ → WroteExprs e t (vectorExpression m (bitsAt words i 14) shift width) r e′ → WroteExprs e t (vectorExpression m (bitsAt words i′ 14) shift width) r e′
-  address-same words shift width p h x y = wrote-as (ap (λ (i : ℕ). vectorExpression m (bitsAt words i 14) shift width) (sym p)) (h x y)
-
 -- an offset of the second port
 pub second-offset : (at start size k : ℕ) → start ≡ size → at + (start + k) ≡ at + size + k
 second-offset at start size k e = omega arith
 
--- whether there is a second port
-module _ (m : Wires) (shift aw n : ℕ) (p : SecondPort) where
-  pub second-none : n ≡ 0 → secondExprs m shift aw (whenSet n p) ≡ pure none
-  second-none h = ap (λ (o : Option SecondPort). secondExprs m shift aw o) (sym (set-absent n p h))
+-- whether there is a second port; its address comes by itself
+module _ (m : Wires) (shift aw n : ℕ) (p : SecondPort) (a : List Bit) where
+  pub second-none : n ≡ 0 → secondExprs m shift aw (secondAddressed (whenSet n p) a) ≡ pure none
+  second-none h = ap (λ (o : Option SecondPort). secondExprs m shift aw (secondAddressed o a)) (sym (set-absent n p h))
 
-  pub second-some : (n ≡ 0 → ⊥) → secondExprs m shift aw (whenSet n p) ≡ secondExprs m shift aw (some p)
-  second-some h = ap (λ (o : Option SecondPort). secondExprs m shift aw o) (sym (set-present n p p h refl))
+  pub second-some : (n ≡ 0 → ⊥) → secondExprs m shift aw (secondAddressed (whenSet n p) a) ≡ secondExprs m shift aw (secondAddressed (some p) a)
+  second-some h = ap (λ (o : Option SecondPort). secondExprs m shift aw (secondAddressed o a)) (sym (set-present n p p h refl))
+
+-- ADDRESSES THAT COME BY THEMSELVES: those of the words make the cell at an index
+
+second-same : (n : ℕ) (p : SecondPort) → secondAddressed (whenSet n p) (p .address) ≡ whenSet n p
+second-same zero p = refl
+second-same (suc n) p = refl
+
+pub addressed-same : (words : List ℕ) (at : ℕ)
+    → addressed (ramAt words at) (bitsAt words (at + 4) 14) (bitsAt words (at + 20) 14) (bitsAt words (at + firstSize words (wordAt words (at + 2))) 14) ≡ ramAt words at
+addressed-same words at = λ i. record {
+  depth = ramAt words at .depth;
+  width = ramAt words at .width;
+  physical = ramAt words at .physical;
+  writeAddress = bitsAt words (at + 4) 14;
+  write = ramAt words at .write;
+  readAddress = bitsAt words (at + 20) 14;
+  readEnable = ramAt words at .readEnable;
+  clockEnable = ramAt words at .clockEnable;
+  clock = ramAt words at .clock;
+  edge = ramAt words at .edge;
+  second = second-same (wordAt words (at + 42)) (secondAt words at) i;
+  input = ramAt words at .input;
+  output = ramAt words at .output;
+}
+
+pub dram-addressed-same : (words : List ℕ) (at : ℕ) → dramAddressed (dramAt words at) (bitsAt words (at + 1) 4) (bitsAt words (at + 11) 4) ≡ dramAt words at
+dram-addressed-same words at = refl

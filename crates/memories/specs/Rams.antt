@@ -30,7 +30,7 @@ use Rattle.memories.specs.declared.Worded.{Worded}
 use Rattle.memories.specs.declared.Worded.the-variants as W
 use Rattle.memories.specs.declared.Words.{Words}
 use Rattle.address_mux.specs.AddressMux.{Node, balancedAddressMux}
-use Rattle.memories.specs.Memories.{Word, PortExprs, writeSecond, ramWord, ramWords, candidatesFrom, enableOf, emitBlockRam, emitDistributedRam}
+use Rattle.memories.specs.Memories.{Word, PortExprs, writeSecond, ramWord, ramWords, candidatesFrom, enableOf, emitBlockRam}
 
 -- ---- which lists a call writes, whatever the others hold
 
@@ -157,13 +157,53 @@ dramAt words i = record {
   second = wordAt words (i + 21);
 }
 
--- the words of work that a block RAM takes, at least 16,384
+-- a second port, a block RAM and a distributed RAM with other addresses: one that is written, one that is read, the second port's
+abbrev pub secondAddressed : Option SecondPort → List Bit → Option SecondPort
+secondAddressed none a = none
+secondAddressed (some p) a = some (record {
+  address = a;
+  write = p .write;
+  readEnable = p .readEnable;
+  clockEnable = p .clockEnable;
+  clock = p .clock;
+  edge = p .edge;
+  input = p .input;
+  output = p .output;
+})
+
+abbrev pub addressed : BlockRam → List Bit → List Bit → List Bit → BlockRam
+addressed r written read second = record {
+  depth = r .depth;
+  width = r .width;
+  physical = r .physical;
+  writeAddress = written;
+  write = r .write;
+  readAddress = read;
+  readEnable = r .readEnable;
+  clockEnable = r .clockEnable;
+  clock = r .clock;
+  edge = r .edge;
+  second = secondAddressed (r .second) second;
+  input = r .input;
+  output = r .output;
+}
+
+abbrev pub dramAddressed : DistributedRam → List Bit → List Bit → DistributedRam
+dramAddressed r written read = record {
+  writeAddress = written;
+  input = r .input;
+  write = r .write;
+  readAddress = read;
+  output = r .output;
+  clock = r .clock;
+  edge = r .edge;
+  second = r .second;
+}
+
+-- the words that each of a block RAM's two works must have
 abbrev pub workOf : BlockRam → ℕ
-workOf r = max 16384 (max (r .depth) (r .width))
+workOf r = max (r .depth) (r .width)
 
--- both work slices are checked first
+-- both works are checked first
 abbrev pub blockRamIn : List ℕ → List ℕ → Wires → Constants → ℕ → BlockRam → Writer (Unit {0})
-blockRamIn matched value m z owner r = roomy (workOf r) matched (roomy (workOf r) value (emitBlockRam m z owner r))
-
-abbrev pub distributedRamIn : List ℕ → Wires → Constants → ℕ → DistributedRam → Writer (Unit {0})
-distributedRamIn parts m z owner r = roomy 4 parts (emitDistributedRam m z owner r)
+blockRamIn parts values m z owner r = roomy (workOf r) parts (roomy (workOf r) values (emitBlockRam m z owner r))

@@ -12,6 +12,7 @@ use crate::ram_words::update_words;
 use crate::read_port::first_read_port;
 use crate::read_port::second_read_port;
 use address_mux::address::shift_in;
+use netlist::Bit;
 use netlist::fields::bit_at;
 use netlist::fields::field;
 use netlist::fields::wide;
@@ -20,6 +21,7 @@ use recorder::ExprId;
 use recorder::SignalId;
 use recorder::Stated;
 use recorder::Tapes;
+use recorder::words::zero_words;
 use refusal::Refusal;
 use wires::Constants;
 use wires::Controlled;
@@ -29,18 +31,19 @@ ghost use Prim.Native.Nat.{_+_, _≤_, max};
 ghost use lib.ListN.{length};
 ghost use Rattle.netlist.specs.Fields.{wordAt, ramAt};
 ghost use Rattle.recorder.specs.Lists.{lists, Wrote, stated, WroteBoth};
+ghost use Rattle.recorder.specs.Words.{zeroed};
 ghost use Rattle.wires.specs.Wires.{wiresOf};
 ghost use Rattle.memories.specs.Memories.{emitBlockRam};
-ghost use Rattle.memories.specs.Rams.{portOf, secondOf, lastOf, wordsOf, Spaced, workOf, blockRamIn};
+ghost use Rattle.memories.specs.Rams.{portOf, secondOf, lastOf, wordsOf, Spaced, addressed, workOf, blockRamIn};
 ghost use Rattle.memories.specs.Steps.{secondAt, ramReads, ramBody};
 
 // Both ports read the words, which then take their next values.
 fn reads_and_updates(
     exprs: &mut [u32],
     stmts: &mut [u32],
-    matched: &mut [u32],
-    value: &mut [u32],
-    signals: &[u32],
+    parts: &mut [u32],
+    values: &mut [u32],
+    wires: &[u32],
     places: &[u32],
     t: Tapes,
     constants: Constants,
@@ -51,17 +54,17 @@ fn reads_and_updates(
     words: &[u32],
     at: usize,
 ) -> Stated
-    requires { ⌜ (made .depth ≤ length (now matched)) × (made .depth ≤ length (now value)) × Spaced made ⌝ }
-    ensures { λ r. ⌜ WroteBoth (now (exprs .entry)) (now (stmts .entry)) t (ramReads (wiresOf (now (signals .entry)) (now (places .entry))) constants (portOf (ramAt (now (words .entry)) at .output) (ramAt (now (words .entry)) at .readEnable) first) (secondOf (secondAt (now (words .entry)) at .output) (secondAt (now (words .entry)) at .readEnable) second) (shape .width) (shape .address) (shape .clock .0) (shape .edge) (wordsOf made)) (stated r) (now (exprs .exit)) (now (stmts .exit)) ⌝ }
+    requires { ⌜ (made .depth ≤ length (now parts)) × (made .depth ≤ length (now values)) × Spaced made ⌝ }
+    ensures { λ r. ⌜ WroteBoth (now (exprs .entry)) (now (stmts .entry)) t (ramReads (wiresOf (now (wires .entry)) (now (places .entry))) constants (portOf (ramAt (now (words .entry)) at .output) (ramAt (now (words .entry)) at .readEnable) first) (secondOf (secondAt (now (words .entry)) at .output) (secondAt (now (words .entry)) at .readEnable) second) (shape .width) (shape .address) (shape .clock .0) (shape .edge) (wordsOf made)) (stated r) (now (exprs .exit)) (now (stmts .exit)) ⌝ }
 {
     let reads = first.reads;
     let clock = shape.clock;
     let a = first_read_port(
         exprs,
         stmts,
-        matched,
-        value,
-        signals,
+        parts,
+        values,
+        wires,
         places,
         t,
         constants,
@@ -77,9 +80,9 @@ fn reads_and_updates(
     let b = second_read_port(
         exprs,
         stmts,
-        matched,
-        value,
-        signals,
+        parts,
+        values,
+        wires,
         places,
         t2,
         constants,
@@ -107,12 +110,12 @@ fn last_of(second: Second) -> u32
 
 // The words, what is read of them, and their registers, given the ports' expressions.
 fn ram_body(
-    sigs: &mut [u32],
+    signals: &mut [u32],
     exprs: &mut [u32],
     stmts: &mut [u32],
-    matched: &mut [u32],
-    value: &mut [u32],
-    signals: &[u32],
+    parts: &mut [u32],
+    values: &mut [u32],
+    wires: &[u32],
     places: &[u32],
     t: Tapes,
     constants: Constants,
@@ -123,12 +126,12 @@ fn ram_body(
     words: &[u32],
     at: usize,
 ) -> Stated
-    requires { ⌜ (wordAt (now words) (at + 1) ≤ length (now matched)) × (wordAt (now words) (at + 1) ≤ length (now value)) ⌝ }
-    ensures { λ r. ⌜ Wrote (lists (now (sigs .entry)) (now (exprs .entry)) (now (stmts .entry))) t (ramBody (wiresOf (now (signals .entry)) (now (places .entry))) constants owner (portOf (ramAt (now (words .entry)) at .output) (ramAt (now (words .entry)) at .readEnable) first) (secondOf (secondAt (now (words .entry)) at .output) (secondAt (now (words .entry)) at .readEnable) second) (shape .width) (shape .address) (wordAt (now (words .entry)) (at + 1)) (shape .clock .0) (shape .edge)) (stated r) (lists (now (sigs .exit)) (now (exprs .exit)) (now (stmts .exit))) ⌝ }
+    requires { ⌜ (wordAt (now words) (at + 1) ≤ length (now parts)) × (wordAt (now words) (at + 1) ≤ length (now values)) ⌝ }
+    ensures { λ r. ⌜ Wrote (lists (now (signals .entry)) (now (exprs .entry)) (now (stmts .entry))) t (ramBody (wiresOf (now (wires .entry)) (now (places .entry))) constants owner (portOf (ramAt (now (words .entry)) at .output) (ramAt (now (words .entry)) at .readEnable) first) (secondOf (secondAt (now (words .entry)) at .output) (secondAt (now (words .entry)) at .readEnable) second) (shape .width) (shape .address) (wordAt (now (words .entry)) (at + 1)) (shape .clock .0) (shape .edge)) (stated r) (lists (now (signals .exit)) (now (exprs .exit)) (now (stmts .exit))) ⌝ }
 {
     let depth = field(words, at, 1);
     let r = ram_words(
-        sigs,
+        signals,
         exprs,
         t,
         first,
@@ -151,9 +154,9 @@ fn ram_body(
     reads_and_updates(
         exprs,
         stmts,
-        matched,
-        value,
-        signals,
+        parts,
+        values,
+        wires,
         places,
         t2,
         constants,
@@ -172,61 +175,67 @@ fn larger(a: usize, b: usize) -> usize
     if a < b { b } else { a }
 }
 
-// The words of work that the block RAM at an index takes.
-fn work_of(words: &[u32], at: usize) -> usize
+// How many words each of the two works must have for the block RAM at an index.
+pub fn block_ram_work(words: &[u32], at: usize) -> usize
     ensures { λ r. ⌜ r ≡ workOf (ramAt (now (words .entry)) at) ⌝ }
 {
     let depth = wide(field(words, at, 1));
     let width = wide(field(words, at, 2));
-    larger(16384, larger(depth, width))
+    larger(depth, width)
 }
 
 // With enough work.
 fn with_work(
-    sigs: &mut [u32],
+    signals: &mut [u32],
     exprs: &mut [u32],
     stmts: &mut [u32],
-    matched: &mut [u32],
-    value: &mut [u32],
-    signals: &[u32],
+    parts: &mut [u32],
+    values: &mut [u32],
+    wires: &[u32],
     places: &[u32],
     t: Tapes,
     constants: Constants,
     owner: u32,
     words: &[u32],
     at: usize,
+    write_address: [Bit; 14],
+    read_address: [Bit; 14],
+    second_address: [Bit; 14],
 ) -> Stated
-    requires { ⌜ (workOf (ramAt (now words) at) ≤ length (now matched)) × (workOf (ramAt (now words) at) ≤ length (now value)) ⌝ }
-    ensures { λ r. ⌜ Wrote (lists (now (sigs .entry)) (now (exprs .entry)) (now (stmts .entry))) t (emitBlockRam (wiresOf (now (signals .entry)) (now (places .entry))) constants owner (ramAt (now (words .entry)) at)) (stated r) (lists (now (sigs .exit)) (now (exprs .exit)) (now (stmts .exit))) ⌝ }
+    requires { ⌜ (workOf (ramAt (now words) at) ≤ length (now parts)) × (workOf (ramAt (now words) at) ≤ length (now values)) ⌝ }
+    ensures { λ r. ⌜ Wrote (lists (now (signals .entry)) (now (exprs .entry)) (now (stmts .entry))) t (emitBlockRam (wiresOf (now (wires .entry)) (now (places .entry))) constants owner (addressed (ramAt (now (words .entry)) at) «write_address» «read_address» «second_address»)) (stated r) (lists (now (signals .exit)) (now (exprs .exit)) (now (stmts .exit))) ⌝ }
 {
     let address = address_width(field(words, at, 1));
     let shift = shift_in(field(words, at, 3));
     match first_port(
         exprs,
-        matched,
-        signals,
+        parts,
+        wires,
         places,
         t,
         words,
         at,
+        write_address,
+        read_address,
         shift,
         address,
     ) {
         Ported::Done(first, t2) => {
             match second_port(
                 exprs,
-                matched,
-                signals,
+                parts,
+                wires,
                 places,
                 t2,
                 words,
                 at,
+                second_address,
                 shift,
                 address,
             ) {
                 Seconded::Done(second, t3) => {
                     let bit = bit_at(words, at, 40);
-                    match bit_signal(signals, places, constants, bit) {
+                    match bit_signal(wires, places, constants, bit) {
                         Controlled::Signal(clock) => {
                             let width = field(words, at, 2);
                             let edge = field(words, at, 41);
@@ -237,12 +246,12 @@ fn with_work(
                                 edge,
                             };
                             ram_body(
-                                sigs,
+                                signals,
                                 exprs,
                                 stmts,
-                                matched,
-                                value,
-                                signals,
+                                parts,
+                                values,
+                                wires,
                                 places,
                                 t3,
                                 constants,
@@ -264,42 +273,91 @@ fn with_work(
     }
 }
 
-// The block RAM at an index, cell number `owner`. Both work slices are checked first.
-pub fn emit_block_ram(
-    sigs: &mut [u32],
+// Both works are checked first.
+fn in_work(
+    signals: &mut [u32],
     exprs: &mut [u32],
     stmts: &mut [u32],
-    matched: &mut [u32],
-    value: &mut [u32],
-    signals: &[u32],
+    parts: &mut [u32],
+    values: &mut [u32],
+    wires: &[u32],
     places: &[u32],
     t: Tapes,
     constants: Constants,
     owner: u32,
     words: &[u32],
     at: usize,
+    write_address: [Bit; 14],
+    read_address: [Bit; 14],
+    second_address: [Bit; 14],
 ) -> Stated
-    ensures { λ r. ⌜ Wrote (lists (now (sigs .entry)) (now (exprs .entry)) (now (stmts .entry))) t (blockRamIn (now (matched .entry)) (now (value .entry)) (wiresOf (now (signals .entry)) (now (places .entry))) constants owner (ramAt (now (words .entry)) at)) (stated r) (lists (now (sigs .exit)) (now (exprs .exit)) (now (stmts .exit))) ⌝ }
+    ensures { λ r. ⌜ Wrote (lists (now (signals .entry)) (now (exprs .entry)) (now (stmts .entry))) t (blockRamIn (now (parts .entry)) (now (values .entry)) (wiresOf (now (wires .entry)) (now (places .entry))) constants owner (addressed (ramAt (now (words .entry)) at) «write_address» «read_address» «second_address»)) (stated r) (lists (now (signals .exit)) (now (exprs .exit)) (now (stmts .exit))) ⌝ }
 {
-    let work = work_of(words, at);
-    if matched.len() < work {
+    let work = block_ram_work(words, at);
+    if parts.len() < work {
         return Stated::Refused(Refusal::BufferTooShort(work));
     }
-    if value.len() < work {
+    if values.len() < work {
         return Stated::Refused(Refusal::BufferTooShort(work));
     }
     with_work(
-        sigs,
+        signals,
         exprs,
         stmts,
-        matched,
-        value,
-        signals,
+        parts,
+        values,
+        wires,
         places,
         t,
         constants,
         owner,
         words,
         at,
+        write_address,
+        read_address,
+        second_address,
     )
+}
+
+// The block RAM at an index, cell number `owner`. Its addresses come by themselves; the second port's counts if there is one.
+pub fn emit_block_ram(
+    signals: &mut [u32],
+    exprs: &mut [u32],
+    stmts: &mut [u32],
+    parts: &mut [u32],
+    values: &mut [u32],
+    wires: &[u32],
+    places: &[u32],
+    t: Tapes,
+    constants: Constants,
+    owner: u32,
+    words: &[u32],
+    at: usize,
+    write_address: [Bit; 14],
+    read_address: [Bit; 14],
+    second_address: [Bit; 14],
+) -> Stated
+    ensures wrote { λ r. ⌜ Wrote (lists (now (signals .entry)) (now (exprs .entry)) (now (stmts .entry))) t (blockRamIn (now (parts .entry)) (now (values .entry)) (wiresOf (now (wires .entry)) (now (places .entry))) constants owner (addressed (ramAt (now (words .entry)) at) «write_address» «read_address» «second_address»)) (stated r) (lists (now (signals .exit)) (now (exprs .exit)) (now (stmts .exit))) ⌝ }
+    ensures works { λ _. ⌜ (now (parts .exit) ≡ zeroed (now (parts .entry))) × (now (values .exit) ≡ zeroed (now (values .entry))) ⌝ }
+{
+    let r = in_work(
+        signals,
+        exprs,
+        stmts,
+        parts,
+        values,
+        wires,
+        places,
+        t,
+        constants,
+        owner,
+        words,
+        at,
+        write_address,
+        read_address,
+        second_address,
+    );
+    zero_words(parts);
+    zero_words(values);
+    r
 }

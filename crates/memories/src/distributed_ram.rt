@@ -6,6 +6,7 @@ use crate::Worded;
 use crate::ports::dram_port;
 use crate::ram_words::ram_word;
 use address_mux::address::match_address;
+use netlist::Bit;
 use netlist::fields::bit_at;
 use netlist::fields::field;
 use recorder::AsyncReset;
@@ -16,7 +17,6 @@ use recorder::SignalId;
 use recorder::Stated;
 use recorder::Tapes;
 use recorder::builder;
-use refusal::Refusal;
 use wires::Constants;
 use wires::Controlled;
 use wires::expressions::assign_wire;
@@ -26,13 +26,13 @@ ghost use Prim.Native.Nat.{ℕ, _≤_};
 ghost use lib.ListN.{length};
 ghost use Rattle.recorder.specs.Lists.{lists, Wrote, WroteExprs, emitted, stated, WroteBoth};
 ghost use Rattle.wires.specs.Wires.{wiresOf};
-ghost use Rattle.memories.specs.Memories.{dramWords, dramSelect};
-ghost use Rattle.memories.specs.Rams.{writing, worded, wordsFrom, reach, distributedRamIn, dramAt};
+ghost use Rattle.memories.specs.Memories.{dramWords, dramSelect, emitDistributedRam};
+ghost use Rattle.memories.specs.Rams.{writing, worded, wordsFrom, reach, dramAt, dramAddressed};
 ghost use Rattle.memories.specs.Steps.{dramWord, FilledAll, selectOne, dramRead, dramBody};
 
 // The word at an index, with its register.
 fn dram_word(
-    sigs: &mut [u32],
+    signals: &mut [u32],
     exprs: &mut [u32],
     stmts: &mut [u32],
     t: Tapes,
@@ -42,9 +42,9 @@ fn dram_word(
     edge: u32,
     index: u32,
 ) -> Worded
-    ensures { λ r. ⌜ Wrote (lists (now (sigs .entry)) (now (exprs .entry)) (now (stmts .entry))) t (dramWord (writing port) owner (clock .0) edge index) (worded r) (lists (now (sigs .exit)) (now (exprs .exit)) (now (stmts .exit))) ⌝ }
+    ensures { λ r. ⌜ Wrote (lists (now (signals .entry)) (now (exprs .entry)) (now (stmts .entry))) t (dramWord (writing port) owner (clock .0) edge index) (worded r) (lists (now (signals .exit)) (now (exprs .exit)) (now (stmts .exit))) ⌝ }
 {
-    match ram_word(sigs, exprs, t, port, Second::Absent, owner, 4, 4, index) {
+    match ram_word(signals, exprs, t, port, Second::Absent, owner, 4, 4, index) {
         Worded::Done(word, t2) => {
             let signal = word.signal;
             let next = word.next;
@@ -68,7 +68,7 @@ fn dram_word(
 
 // All words. None is kept: their numbers follow from the tapes.
 fn dram_words(
-    sigs: &mut [u32],
+    signals: &mut [u32],
     exprs: &mut [u32],
     stmts: &mut [u32],
     t: Tapes,
@@ -77,12 +77,12 @@ fn dram_words(
     clock: SignalId,
     edge: u32,
 ) -> Stated
-    ensures { λ r. ⌜ FilledAll (lists (now (sigs .entry)) (now (exprs .entry)) (now (stmts .entry))) t (dramWords (writing port) owner (clock .0) edge 16 0 []) r (lists (now (sigs .exit)) (now (exprs .exit)) (now (stmts .exit))) ⌝ }
+    ensures { λ r. ⌜ FilledAll (lists (now (signals .entry)) (now (exprs .entry)) (now (stmts .entry))) t (dramWords (writing port) owner (clock .0) edge 16 0 []) r (lists (now (signals .exit)) (now (exprs .exit)) (now (stmts .exit))) ⌝ }
 {
     let mut now = t;
     let mut i = 0;
     while i < 16 {
-        match dram_word(sigs, exprs, stmts, now, port, owner, clock, edge, i) {
+        match dram_word(signals, exprs, stmts, now, port, owner, clock, edge, i) {
             Worded::Done(_, next) => {
                 now = next;
             }
@@ -143,7 +143,7 @@ fn dram_select(
 fn dram_read(
     exprs: &mut [u32],
     stmts: &mut [u32],
-    signals: &[u32],
+    wires: &[u32],
     places: &[u32],
     t: Tapes,
     reads: ExprId,
@@ -151,11 +151,11 @@ fn dram_read(
     output: u32,
 ) -> Stated
     requires { ⌜ reach (current .0) 4 16 ≤ 2147483648 ⌝ }
-    ensures { λ r. ⌜ ((s : ℕ) → WroteBoth (now (exprs .entry)) (now (stmts .entry)) t (dramRead (wiresOf (now (signals .entry)) (now (places .entry))) (reads .0) output (wordsFrom s (current .0) 4 16)) (stated r) (now (exprs .exit)) (now (stmts .exit))) ⌝ }
+    ensures { λ r. ⌜ ((s : ℕ) → WroteBoth (now (exprs .entry)) (now (stmts .entry)) t (dramRead (wiresOf (now (wires .entry)) (now (places .entry))) (reads .0) output (wordsFrom s (current .0) 4 16)) (stated r) (now (exprs .exit)) (now (stmts .exit))) ⌝ }
 {
     match builder::constant(exprs, t, 4, 0) {
         Emitted::Done(e, t2) => match dram_select(exprs, t2, reads, current, e) {
-            Emitted::Done(v, t3) => assign_wire(stmts, signals, places, t3, output, v),
+            Emitted::Done(v, t3) => assign_wire(stmts, wires, places, t3, output, v),
             Emitted::Refused(x) => Stated::Refused(x),
         },
         Emitted::Refused(x) => Stated::Refused(x),
@@ -164,10 +164,10 @@ fn dram_read(
 
 // The words and what is read of them, given the port's expressions and the clock.
 fn dram_body(
-    sigs: &mut [u32],
+    signals: &mut [u32],
     exprs: &mut [u32],
     stmts: &mut [u32],
-    signals: &[u32],
+    wires: &[u32],
     places: &[u32],
     t: Tapes,
     owner: u32,
@@ -176,48 +176,55 @@ fn dram_body(
     edge: u32,
     output: u32,
 ) -> Stated
-    ensures { λ r. ⌜ Wrote (lists (now (sigs .entry)) (now (exprs .entry)) (now (stmts .entry))) t (dramBody (wiresOf (now (signals .entry)) (now (places .entry))) owner (writing port) (clock .0) edge output) (stated r) (lists (now (sigs .exit)) (now (exprs .exit)) (now (stmts .exit))) ⌝ }
+    ensures { λ r. ⌜ Wrote (lists (now (signals .entry)) (now (exprs .entry)) (now (stmts .entry))) t (dramBody (wiresOf (now (wires .entry)) (now (places .entry))) owner (writing port) (clock .0) edge output) (stated r) (lists (now (signals .exit)) (now (exprs .exit)) (now (stmts .exit))) ⌝ }
 {
-    let r = dram_words(sigs, exprs, stmts, t, port, owner, clock, edge);
+    let r = dram_words(signals, exprs, stmts, t, port, owner, clock, edge);
     let Stated::Done(t2) = r else {
         return r;
     };
     let reads = port.reads;
     let current = ExprId(t.exprs.count);
-    dram_read(exprs, stmts, signals, places, t2, reads, current, output)
+    dram_read(exprs, stmts, wires, places, t2, reads, current, output)
 }
 
-// The distributed RAM at an index, cell number `owner`. The work is checked first.
+// The distributed RAM at an index, cell number `owner`. Its addresses come by themselves.
 pub fn emit_distributed_ram(
-    sigs: &mut [u32],
+    signals: &mut [u32],
     exprs: &mut [u32],
     stmts: &mut [u32],
-    parts: &mut [u32],
-    signals: &[u32],
+    wires: &[u32],
     places: &[u32],
     t: Tapes,
     constants: Constants,
     owner: u32,
     words: &[u32],
     at: usize,
+    write_address: [Bit; 4],
+    read_address: [Bit; 4],
 ) -> Stated
-    ensures { λ r. ⌜ Wrote (lists (now (sigs .entry)) (now (exprs .entry)) (now (stmts .entry))) t (distributedRamIn (now (parts .entry)) (wiresOf (now (signals .entry)) (now (places .entry))) constants owner (dramAt (now (words .entry)) at)) (stated r) (lists (now (sigs .exit)) (now (exprs .exit)) (now (stmts .exit))) ⌝ }
+    ensures { λ r. ⌜ Wrote (lists (now (signals .entry)) (now (exprs .entry)) (now (stmts .entry))) t (emitDistributedRam (wiresOf (now (wires .entry)) (now (places .entry))) constants owner (dramAddressed (dramAt (now (words .entry)) at) «write_address» «read_address»)) (stated r) (lists (now (signals .exit)) (now (exprs .exit)) (now (stmts .exit))) ⌝ }
 {
-    if parts.len() < 4 {
-        return Stated::Refused(Refusal::BufferTooShort(4));
-    }
-    match dram_port(exprs, parts, signals, places, t, words, at) {
+    match dram_port(
+        exprs,
+        wires,
+        places,
+        t,
+        words,
+        at,
+        write_address,
+        read_address,
+    ) {
         Ported::Done(port, t2) => {
             let bit = bit_at(words, at, 19);
-            match bit_signal(signals, places, constants, bit) {
+            match bit_signal(wires, places, constants, bit) {
                 Controlled::Signal(clock) => {
                     let edge = field(words, at, 20);
                     let output = field(words, at, 15);
                     dram_body(
-                        sigs,
+                        signals,
                         exprs,
                         stmts,
-                        signals,
+                        wires,
                         places,
                         t2,
                         owner,

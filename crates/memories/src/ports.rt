@@ -4,16 +4,20 @@ use crate::Ported;
 use crate::Second;
 use crate::Seconded;
 use address_mux::address::address_expression;
-use netlist::fields;
+use netlist::Bit;
 use netlist::fields::ahead;
+use netlist::fields::bits4;
 use netlist::fields::control;
 use netlist::fields::field;
 use netlist::fields::wide;
 use recorder::Emitted;
 use recorder::Tapes;
 use wires::expressions::asserted_expression;
+use wires::expressions::bit_expression;
 use wires::expressions::bits_expression;
+use wires::expressions::concat_parts;
 ghost use mathlib.Core.Path.{_≡_};
+ghost use mathlib.Core.List.{[]};
 ghost use mathlib.Core.Option.{none};
 ghost use Prim.Native.Nat.{_+_, _≤_};
 ghost use lib.ListN.{length};
@@ -22,14 +26,14 @@ ghost use Rattle.recorder.specs.Lists.{WroteExprs, emitted};
 ghost use Rattle.wires.specs.Wires.{wiresOf};
 ghost use Rattle.wires.specs.Expressions.{assertedExpression, vectorExpression, bitsExpression};
 ghost use Rattle.memories.specs.Memories.{secondExprs};
-ghost use Rattle.memories.specs.Rams.{ported, seconded, firstExprs, dramExprs, dramAt};
+ghost use Rattle.memories.specs.Rams.{ported, seconded, firstExprs, dramExprs, dramAt, addressed, secondAddressed, dramAddressed};
 ghost use Rattle.memories.specs.Steps.{secondAt};
 
 // The n bits at an offset of a record.
 fn data_expression(
     exprs: &mut [u32],
     parts: &mut [u32],
-    signals: &[u32],
+    wires: &[u32],
     places: &[u32],
     t: Tapes,
     words: &[u32],
@@ -38,93 +42,97 @@ fn data_expression(
     n: u32,
 ) -> Emitted
     requires { ⌜ n ≤ length (now parts) ⌝ }
-    ensures { λ r. ⌜ WroteExprs (now (exprs .entry)) t (bitsExpression (wiresOf (now (signals .entry)) (now (places .entry))) (bitsAt (now (words .entry)) (at + offset) n)) (emitted r) (now (exprs .exit)) ⌝ }
+    ensures { λ r. ⌜ WroteExprs (now (exprs .entry)) t (bitsExpression (wiresOf (now (wires .entry)) (now (places .entry))) (bitsAt (now (words .entry)) (at + offset) n)) (emitted r) (now (exprs .exit)) ⌝ }
 {
     let i = ahead(words, at, offset);
     let end = wide(n);
-    bits_expression(exprs, parts, signals, places, t, words, i, end, n)
+    bits_expression(exprs, &mut parts[..end], wires, places, t, words, i, end, n)
 }
 
-// So many of the 14 bits at an offset of a record, from the shift on.
-fn address_at(
+// So many bits of an address, from the shift on.
+fn address_part(
     exprs: &mut [u32],
-    parts: &mut [u32],
-    signals: &[u32],
+    wires: &[u32],
     places: &[u32],
     t: Tapes,
-    words: &[u32],
-    at: usize,
-    offset: usize,
+    bits: [Bit; 14],
     shift: u32,
     width: u32,
 ) -> Emitted
-    requires { ⌜ width ≤ length (now parts) ⌝ }
-    ensures { λ r. ⌜ WroteExprs (now (exprs .entry)) t (vectorExpression (wiresOf (now (signals .entry)) (now (places .entry))) (bitsAt (now (words .entry)) (at + offset) 14) shift width) (emitted r) (now (exprs .exit)) ⌝ }
+    requires { ⌜ width ≤ 33 ⌝ }
+    ensures { λ r. ⌜ WroteExprs (now (exprs .entry)) t (vectorExpression (wiresOf (now (wires .entry)) (now (places .entry))) bits shift width) (emitted r) (now (exprs .exit)) ⌝ }
 {
-    let bits = fields::address(words, at, offset);
-    address_expression(exprs, parts, signals, places, t, bits, shift, width)
+    address_expression(exprs, wires, places, t, bits, shift, width)
+}
+
+// Four bits, the highest read first.
+fn four_bits(exprs: &mut [u32], wires: &[u32], places: &[u32], t: Tapes, bits: [Bit; 4]) -> Emitted
+    ensures { λ r. ⌜ WroteExprs (now (exprs .entry)) t (vectorExpression (wiresOf (now (wires .entry)) (now (places .entry))) bits 0 4) (emitted r) (now (exprs .exit)) ⌝ }
+{
+    let mut parts = [0u32; 4];
+    let mut now = t;
+    let mut left = 4;
+    while left > 0 {
+        left -= 1;
+        let bit = bits[left];
+        let r = bit_expression(exprs, wires, places, now, bit);
+        let Emitted::Done(e, next) = r else {
+            return r;
+        };
+        parts[3 - left] = e.0;
+        now = next;
+    }
+    concat_parts(exprs, now, &parts, 4)
 }
 
 // Whether the control at an offset of a record is asserted.
 fn asserted_at(
     exprs: &mut [u32],
-    signals: &[u32],
+    wires: &[u32],
     places: &[u32],
     t: Tapes,
     words: &[u32],
     at: usize,
     offset: usize,
 ) -> Emitted
-    ensures { λ r. ⌜ WroteExprs (now (exprs .entry)) t (assertedExpression (wiresOf (now (signals .entry)) (now (places .entry))) (controlAt (now (words .entry)) (at + offset))) (emitted r) (now (exprs .exit)) ⌝ }
+    ensures { λ r. ⌜ WroteExprs (now (exprs .entry)) t (assertedExpression (wiresOf (now (wires .entry)) (now (places .entry))) (controlAt (now (words .entry)) (at + offset))) (emitted r) (now (exprs .exit)) ⌝ }
 {
     let write = control(words, at, offset);
-    asserted_expression(exprs, signals, places, t, write)
+    asserted_expression(exprs, wires, places, t, write)
 }
 
-// The first port of the block RAM at an index, whose address has so many bits from the shift on.
+// The first port of the block RAM at an index, whose addresses have so many bits from the shift on.
 pub fn first_port(
     exprs: &mut [u32],
     parts: &mut [u32],
-    signals: &[u32],
+    wires: &[u32],
     places: &[u32],
     t: Tapes,
     words: &[u32],
     at: usize,
+    write_address: [Bit; 14],
+    read_address: [Bit; 14],
     shift: u32,
     address: u32,
 ) -> Ported
-    requires { ⌜ (address ≤ length (now parts)) × (wordAt (now words) (at + 2) ≤ length (now parts)) ⌝ }
-    ensures { λ r. ⌜ WroteExprs (now (exprs .entry)) t (firstExprs (wiresOf (now (signals .entry)) (now (places .entry))) shift address (ramAt (now (words .entry)) at)) (ported (ramAt (now (words .entry)) at .output) (ramAt (now (words .entry)) at .readEnable) r) (now (exprs .exit)) ⌝ }
+    requires { ⌜ (address ≤ 33) × (wordAt (now words) (at + 2) ≤ length (now parts)) ⌝ }
+    ensures { λ r. ⌜ WroteExprs (now (exprs .entry)) t (firstExprs (wiresOf (now (wires .entry)) (now (places .entry))) shift address (addressed (ramAt (now (words .entry)) at) «write_address» «read_address» [])) (ported (ramAt (now (words .entry)) at .output) (ramAt (now (words .entry)) at .readEnable) r) (now (exprs .exit)) ⌝ }
 {
     let width = field(words, at, 2);
-    match address_at(
-        exprs,
-        parts,
-        signals,
-        places,
-        t,
-        words,
-        at,
-        4,
-        shift,
-        address,
-    ) {
-        Emitted::Done(writes, t2) => match address_at(
+    match address_part(exprs, wires, places, t, write_address, shift, address) {
+        Emitted::Done(writes, t2) => match address_part(
             exprs,
-            parts,
-            signals,
+            wires,
             places,
             t2,
-            words,
-            at,
-            20,
+            read_address,
             shift,
             address,
         ) {
             Emitted::Done(reads, t3) => {
-                match data_expression(exprs, parts, signals, places, t3, words, at, 43, width) {
+                match data_expression(exprs, parts, wires, places, t3, words, at, 43, width) {
                     Emitted::Done(input, t4) => {
-                        match asserted_at(exprs, signals, places, t4, words, at, 18) {
+                        match asserted_at(exprs, wires, places, t4, words, at, 18) {
                             Emitted::Done(asserted, t5) => Ported::Done(
                                 Port {
                                     writes,
@@ -158,39 +166,29 @@ pub fn first_size(words: &[u32], at: usize) -> usize
 pub fn second_port(
     exprs: &mut [u32],
     parts: &mut [u32],
-    signals: &[u32],
+    wires: &[u32],
     places: &[u32],
     t: Tapes,
     words: &[u32],
     at: usize,
+    second_address: [Bit; 14],
     shift: u32,
     address: u32,
 ) -> Seconded
-    requires { ⌜ (address ≤ length (now parts)) × (wordAt (now words) (at + 2) ≤ length (now parts)) ⌝ }
-    ensures { λ r. ⌜ WroteExprs (now (exprs .entry)) t (secondExprs (wiresOf (now (signals .entry)) (now (places .entry))) shift address (ramAt (now (words .entry)) at .second)) (seconded (secondAt (now (words .entry)) at .output) (secondAt (now (words .entry)) at .readEnable) r) (now (exprs .exit)) ⌝ }
+    requires { ⌜ (address ≤ 33) × (wordAt (now words) (at + 2) ≤ length (now parts)) ⌝ }
+    ensures { λ r. ⌜ WroteExprs (now (exprs .entry)) t (secondExprs (wiresOf (now (wires .entry)) (now (places .entry))) shift address (secondAddressed (ramAt (now (words .entry)) at .second) «second_address»)) (seconded (secondAt (now (words .entry)) at .output) (secondAt (now (words .entry)) at .readEnable) r) (now (exprs .exit)) ⌝ }
 {
     if field(words, at, 42) == 0 {
         return Seconded::Done(Second::Absent, t);
     }
     let start = first_size(words, at);
     let width = field(words, at, 2);
-    match address_at(
-        exprs,
-        parts,
-        signals,
-        places,
-        t,
-        words,
-        at,
-        start,
-        shift,
-        address,
-    ) {
+    match address_part(exprs, wires, places, t, second_address, shift, address) {
         Emitted::Done(a, t2) => {
             match data_expression(
                 exprs,
                 parts,
-                signals,
+                wires,
                 places,
                 t2,
                 words,
@@ -199,7 +197,7 @@ pub fn second_port(
                 width,
             ) {
                 Emitted::Done(input, t3) => {
-                    match asserted_at(exprs, signals, places, t3, words, at, start + 14) {
+                    match asserted_at(exprs, wires, places, t3, words, at, start + 14) {
                         Emitted::Done(asserted, t4) => Seconded::Done(
                             Second::Present(Port {
                                 writes: a,
@@ -222,23 +220,24 @@ pub fn second_port(
 // The port of the distributed RAM at an index.
 pub fn dram_port(
     exprs: &mut [u32],
-    parts: &mut [u32],
-    signals: &[u32],
+    wires: &[u32],
     places: &[u32],
     t: Tapes,
     words: &[u32],
     at: usize,
+    write_address: [Bit; 4],
+    read_address: [Bit; 4],
 ) -> Ported
-    requires { ⌜ 4 ≤ length (now parts) ⌝ }
-    ensures { λ r. ⌜ WroteExprs (now (exprs .entry)) t (dramExprs (wiresOf (now (signals .entry)) (now (places .entry))) (dramAt (now (words .entry)) at)) (ported (dramAt (now (words .entry)) at .output) none r) (now (exprs .exit)) ⌝ }
+    ensures { λ r. ⌜ WroteExprs (now (exprs .entry)) t (dramExprs (wiresOf (now (wires .entry)) (now (places .entry))) (dramAddressed (dramAt (now (words .entry)) at) «write_address» «read_address»)) (ported (dramAt (now (words .entry)) at .output) none r) (now (exprs .exit)) ⌝ }
 {
-    match data_expression(exprs, parts, signals, places, t, words, at, 1, 4) {
+    match four_bits(exprs, wires, places, t, write_address) {
         Emitted::Done(writes, t2) => {
-            match data_expression(exprs, parts, signals, places, t2, words, at, 11, 4) {
+            match four_bits(exprs, wires, places, t2, read_address) {
                 Emitted::Done(reads, t3) => {
-                    match data_expression(exprs, parts, signals, places, t3, words, at, 5, 4) {
+                    let data = bits4(words, at, 5);
+                    match four_bits(exprs, wires, places, t3, data) {
                         Emitted::Done(input, t4) => {
-                            match asserted_at(exprs, signals, places, t4, words, at, 9) {
+                            match asserted_at(exprs, wires, places, t4, words, at, 9) {
                                 Emitted::Done(asserted, t5) => Ported::Done(
                                     Port {
                                         writes,

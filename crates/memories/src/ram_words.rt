@@ -67,7 +67,7 @@ fn write_second(
 
 // The word at an index: its signal, its read, and what the ports make of it.
 pub fn ram_word(
-    sigs: &mut [u32],
+    signals: &mut [u32],
     exprs: &mut [u32],
     t: Tapes,
     first: Port,
@@ -77,9 +77,9 @@ pub fn ram_word(
     address: u32,
     index: u32,
 ) -> Worded
-    ensures { λ r. ⌜ WroteWords (now (sigs .entry)) (now (exprs .entry)) t (ramWord (writing first) (secondWriting second) owner width address index) (worded r) (now (sigs .exit)) (now (exprs .exit)) ⌝ }
+    ensures { λ r. ⌜ WroteWords (now (signals .entry)) (now (exprs .entry)) t (ramWord (writing first) (secondWriting second) owner width address index) (worded r) (now (signals .exit)) (now (exprs .exit)) ⌝ }
 {
-    match builder::signal(sigs, t, 13, width, owner) {
+    match builder::signal(signals, t, 13, width, owner) {
         Declared::Done(signal, t2) => match builder::read(exprs, t2, width, signal, 0) {
             Emitted::Done(current, t3) => {
                 match write_word(exprs, t3, first, width, address, index, current) {
@@ -107,7 +107,7 @@ pub fn ram_word(
 
 // All words. None is kept: their numbers follow from the tapes.
 pub fn ram_words(
-    sigs: &mut [u32],
+    signals: &mut [u32],
     exprs: &mut [u32],
     t: Tapes,
     first: Port,
@@ -117,12 +117,12 @@ pub fn ram_words(
     address: u32,
     depth: u32,
 ) -> Stated
-    ensures { λ r. ⌜ Filled (now (sigs .entry)) (now (exprs .entry)) t (ramWords (writing first) (secondWriting second) owner width address depth 0 []) (lastOf second) depth r (now (sigs .exit)) (now (exprs .exit)) ⌝ }
+    ensures { λ r. ⌜ Filled (now (signals .entry)) (now (exprs .entry)) t (ramWords (writing first) (secondWriting second) owner width address depth 0 []) (lastOf second) depth r (now (signals .exit)) (now (exprs .exit)) ⌝ }
 {
     let mut now = t;
     let mut i = 0;
     while i < depth {
-        match ram_word(sigs, exprs, now, first, second, owner, width, address, i) {
+        match ram_word(signals, exprs, now, first, second, owner, width, address, i) {
             Worded::Done(_, next) => {
                 now = next;
             }
@@ -136,15 +136,15 @@ pub fn ram_words(
 // The candidates of a read address, in two work slices.
 pub fn candidates(
     exprs: &mut [u32],
-    matched: &mut [u32],
-    value: &mut [u32],
+    parts: &mut [u32],
+    values: &mut [u32],
     t: Tapes,
     words: Words,
     reads: ExprId,
     address: u32,
 ) -> Stated
-    requires { ⌜ (words .depth ≤ length (now matched)) × (words .depth ≤ length (now value)) × Spaced words ⌝ }
-    ensures { λ r. ⌜ WroteExprs (now (exprs .entry)) t (candidatesFrom (reads .0) address 0 (wordsOf words) []) (noded (words .depth) (now (matched .exit)) (now (value .exit)) r) (now (exprs .exit)) ⌝ }
+    requires { ⌜ (words .depth ≤ length (now parts)) × (words .depth ≤ length (now values)) × Spaced words ⌝ }
+    ensures { λ r. ⌜ WroteExprs (now (exprs .entry)) t (candidatesFrom (reads .0) address 0 (wordsOf words) []) (noded (words .depth) (now (parts .exit)) (now (values .exit)) r) (now (exprs .exit)) ⌝ }
 {
     let mut current = words.current.0;
     let mut now = t;
@@ -153,8 +153,8 @@ pub fn candidates(
         match match_address(exprs, now, reads, address, i) {
             Emitted::Done(found, next) => {
                 let at = wide(i);
-                matched[at] = found.0;
-                value[at] = current;
+                parts[at] = found.0;
+                values[at] = current;
                 now = next;
             }
             Emitted::Refused(x) => return Stated::Refused(x),

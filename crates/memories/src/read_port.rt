@@ -38,25 +38,25 @@ ghost use Rattle.memories.specs.Steps.{secondAt, enabledRegister};
 // The word at an address, or zero.
 fn select_word(
     exprs: &mut [u32],
-    matched: &mut [u32],
-    value: &mut [u32],
+    parts: &mut [u32],
+    values: &mut [u32],
     t: Tapes,
     made: Words,
     reads: ExprId,
     width: u32,
     address: u32,
 ) -> Emitted
-    requires { ⌜ (made .depth ≤ length (now matched)) × (made .depth ≤ length (now value)) × Spaced made ⌝ }
+    requires { ⌜ (made .depth ≤ length (now parts)) × (made .depth ≤ length (now values)) × Spaced made ⌝ }
     ensures { λ r. ⌜ WroteExprs (now (exprs .entry)) t (selectWord (reads .0) (wordsOf made) width address) (emitted r) (now (exprs .exit)) ⌝ }
 {
     let a = builder::constant(exprs, t, width, 0);
     let Emitted::Done(zero, t2) = a else {
         return a;
     };
-    match candidates(exprs, matched, value, t2, made, reads, address) {
+    match candidates(exprs, parts, values, t2, made, reads, address) {
         Stated::Done(t3) => {
             let n = wide(made.depth);
-            balanced_address_mux(exprs, matched, value, t3, n, width, zero)
+            balanced_address_mux(exprs, parts, values, t3, n, width, zero)
         }
         Stated::Refused(x) => Emitted::Refused(x),
     }
@@ -65,7 +65,7 @@ fn select_word(
 // A register that loads while a control is asserted.
 fn enabled_register(
     stmts: &mut [u32],
-    signals: &[u32],
+    wires: &[u32],
     places: &[u32],
     t: Tapes,
     constants: Constants,
@@ -75,10 +75,10 @@ fn enabled_register(
     clock: SignalId,
     edge: u32,
 ) -> Stated
-    ensures { λ r. ⌜ WroteStmts (now (stmts .entry)) t (enabledRegister (wiresOf (now (signals .entry)) (now (places .entry))) constants (target .0) enable (value .0) (clock .0) edge) (stated r) (now (stmts .exit)) ⌝ }
+    ensures { λ r. ⌜ WroteStmts (now (stmts .entry)) t (enabledRegister (wiresOf (now (wires .entry)) (now (places .entry))) constants (target .0) enable (value .0) (clock .0) edge) (stated r) (now (stmts .exit)) ⌝ }
 {
     let bit = enable.signal;
-    match bit_signal(signals, places, constants, bit) {
+    match bit_signal(wires, places, constants, bit) {
         Controlled::Signal(s) => builder::register(
             stmts,
             t,
@@ -96,7 +96,7 @@ fn enabled_register(
 // The register of the signal that a wire is in.
 fn read_register(
     stmts: &mut [u32],
-    signals: &[u32],
+    wires: &[u32],
     places: &[u32],
     t: Tapes,
     constants: Constants,
@@ -106,9 +106,9 @@ fn read_register(
     clock: SignalId,
     edge: u32,
 ) -> Stated
-    ensures { λ r. ⌜ WroteStmts (now (stmts .entry)) t (readRegister (wiresOf (now (signals .entry)) (now (places .entry))) constants output (presence enable) (value .0) (clock .0) edge) (stated r) (now (stmts .exit)) ⌝ }
+    ensures { λ r. ⌜ WroteStmts (now (stmts .entry)) t (readRegister (wiresOf (now (wires .entry)) (now (places .entry))) constants output (presence enable) (value .0) (clock .0) edge) (stated r) (now (stmts .exit)) ⌝ }
 {
-    match wire_ref(signals, places, output) {
+    match wire_ref(wires, places, output) {
         Found::At(r) => {
             let target = r.signal;
             match enable {
@@ -124,7 +124,7 @@ fn read_register(
                 ),
                 OptionalControl::Present(c) => enabled_register(
                     stmts,
-                    signals,
+                    wires,
                     places,
                     t,
                     constants,
@@ -143,9 +143,9 @@ fn read_register(
 pub fn emit_block_ram_read_port(
     exprs: &mut [u32],
     stmts: &mut [u32],
-    matched: &mut [u32],
-    value: &mut [u32],
-    signals: &[u32],
+    parts: &mut [u32],
+    values: &mut [u32],
+    wires: &[u32],
     places: &[u32],
     t: Tapes,
     constants: Constants,
@@ -155,14 +155,14 @@ pub fn emit_block_ram_read_port(
     output: u32,
     enable: OptionalControl,
 ) -> Stated
-    requires { ⌜ (made .depth ≤ length (now matched)) × (made .depth ≤ length (now value)) × Spaced made ⌝ }
-    ensures { λ r. ⌜ WroteBoth (now (exprs .entry)) (now (stmts .entry)) t (emitBlockRamReadPort (wiresOf (now (signals .entry)) (now (places .entry))) constants (reading (reads .0) output (presence enable)) (wordsOf made) (shape .width) (shape .address) (shape .clock .0) (shape .edge)) (stated r) (now (exprs .exit)) (now (stmts .exit)) ⌝ }
+    requires { ⌜ (made .depth ≤ length (now parts)) × (made .depth ≤ length (now values)) × Spaced made ⌝ }
+    ensures { λ r. ⌜ WroteBoth (now (exprs .entry)) (now (stmts .entry)) t (emitBlockRamReadPort (wiresOf (now (wires .entry)) (now (places .entry))) constants (reading (reads .0) output (presence enable)) (wordsOf made) (shape .width) (shape .address) (shape .clock .0) (shape .edge)) (stated r) (now (exprs .exit)) (now (stmts .exit)) ⌝ }
 {
     let clock = shape.clock;
     match select_word(
         exprs,
-        matched,
-        value,
+        parts,
+        values,
         t,
         made,
         reads,
@@ -171,7 +171,7 @@ pub fn emit_block_ram_read_port(
     ) {
         Emitted::Done(v, t2) => read_register(
             stmts,
-            signals,
+            wires,
             places,
             t2,
             constants,
@@ -199,9 +199,9 @@ fn first_wire(words: &[u32], at: usize, offset: usize, n: u32) -> u32
 pub fn first_read_port(
     exprs: &mut [u32],
     stmts: &mut [u32],
-    matched: &mut [u32],
-    value: &mut [u32],
-    signals: &[u32],
+    parts: &mut [u32],
+    values: &mut [u32],
+    wires: &[u32],
     places: &[u32],
     t: Tapes,
     constants: Constants,
@@ -211,8 +211,8 @@ pub fn first_read_port(
     words: &[u32],
     at: usize,
 ) -> Stated
-    requires { ⌜ (made .depth ≤ length (now matched)) × (made .depth ≤ length (now value)) × Spaced made ⌝ }
-    ensures { λ r. ⌜ WroteBoth (now (exprs .entry)) (now (stmts .entry)) t (emitBlockRamReadPort (wiresOf (now (signals .entry)) (now (places .entry))) constants (reading (reads .0) (getD (ramAt (now (words .entry)) at .output) 0 0) (ramAt (now (words .entry)) at .readEnable)) (wordsOf made) (shape .width) (shape .address) (shape .clock .0) (shape .edge)) (stated r) (now (exprs .exit)) (now (stmts .exit)) ⌝ }
+    requires { ⌜ (made .depth ≤ length (now parts)) × (made .depth ≤ length (now values)) × Spaced made ⌝ }
+    ensures { λ r. ⌜ WroteBoth (now (exprs .entry)) (now (stmts .entry)) t (emitBlockRamReadPort (wiresOf (now (wires .entry)) (now (places .entry))) constants (reading (reads .0) (getD (ramAt (now (words .entry)) at .output) 0 0) (ramAt (now (words .entry)) at .readEnable)) (wordsOf made) (shape .width) (shape .address) (shape .clock .0) (shape .edge)) (stated r) (now (exprs .exit)) (now (stmts .exit)) ⌝ }
 {
     let width = field(words, at, 2);
     let offset = 43 + wide(width);
@@ -221,9 +221,9 @@ pub fn first_read_port(
     emit_block_ram_read_port(
         exprs,
         stmts,
-        matched,
-        value,
-        signals,
+        parts,
+        values,
+        wires,
         places,
         t,
         constants,
@@ -239,9 +239,9 @@ pub fn first_read_port(
 pub fn second_read_port(
     exprs: &mut [u32],
     stmts: &mut [u32],
-    matched: &mut [u32],
-    value: &mut [u32],
-    signals: &[u32],
+    parts: &mut [u32],
+    values: &mut [u32],
+    wires: &[u32],
     places: &[u32],
     t: Tapes,
     constants: Constants,
@@ -251,8 +251,8 @@ pub fn second_read_port(
     words: &[u32],
     at: usize,
 ) -> Stated
-    requires { ⌜ (made .depth ≤ length (now matched)) × (made .depth ≤ length (now value)) × Spaced made ⌝ }
-    ensures { λ r. ⌜ WroteBoth (now (exprs .entry)) (now (stmts .entry)) t (emitSecondReadPort (wiresOf (now (signals .entry)) (now (places .entry))) constants (secondOf (secondAt (now (words .entry)) at .output) (secondAt (now (words .entry)) at .readEnable) second) (wordsOf made) (shape .width) (shape .address) (shape .clock .0) (shape .edge)) (stated r) (now (exprs .exit)) (now (stmts .exit)) ⌝ }
+    requires { ⌜ (made .depth ≤ length (now parts)) × (made .depth ≤ length (now values)) × Spaced made ⌝ }
+    ensures { λ r. ⌜ WroteBoth (now (exprs .entry)) (now (stmts .entry)) t (emitSecondReadPort (wiresOf (now (wires .entry)) (now (places .entry))) constants (secondOf (secondAt (now (words .entry)) at .output) (secondAt (now (words .entry)) at .readEnable) second) (wordsOf made) (shape .width) (shape .address) (shape .clock .0) (shape .edge)) (stated r) (now (exprs .exit)) (now (stmts .exit)) ⌝ }
 {
     match second {
         Second::Absent => Stated::Done(t),
@@ -266,9 +266,9 @@ pub fn second_read_port(
             emit_block_ram_read_port(
                 exprs,
                 stmts,
-                matched,
-                value,
-                signals,
+                parts,
+                values,
+                wires,
                 places,
                 t,
                 constants,

@@ -9,8 +9,7 @@ use lib.ListN.{length, take}
 use lib.Dec.{ltb, leb, ltb→lt, nltb→le, T as Holds}
 use borrow.Author.Tests.{le-leb, lt-leb}
 use Rattle.bits.specs.Bits.{pick}
-use Rattle.recorder.specs.Writer.{Count, Out, Writer, refuse}
-use Rattle.nodes.specs.Nodes.{toCopy, atMost}
+use Rattle.nodes.specs.Nodes.{toCopy}
 
 -- ---- how many are copied
 
@@ -73,13 +72,3 @@ pub length-first : {X : Type 0} (k : ℕ) (xs : List X) → k ≤ length xs → 
 length-first zero xs l = refl
 length-first (suc k) [] l = absurd (not-suc-le-zero l)
 length-first (suc k) (x ∷ xs) l = ap suc (length-first k xs (le-of-suc-le-suc l))
-
--- ---- an array of candidates
-
-pub at-most-yes : {A : Type 0} (most n : ℕ) (w : Writer A) → n ≤ most → atMost most n w ≡ w
-unfolding atMost
-at-most-yes most n w h = rw (le-leb n most h)
-
-pub at-most-no : {A : Type 0} (most n : ℕ) (w : Writer A) → most < n → atMost most n w ≡ refuse 1 n
-unfolding atMost
-at-most-no most n w h = rw (lt-leb n most h)

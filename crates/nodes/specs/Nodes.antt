@@ -4,7 +4,7 @@ use Prim.Native.Nat.{ℕ}
 use lib.Dec.{leb}
 use lib.ListN.{length}
 use Rattle.bits.specs.Bits.{pick}
-use Rattle.recorder.specs.Writer.{Count, Out, Writer, refuse}
+use Rattle.recorder.specs.Writer.{Count, Out, Writer}
 use Rattle.wires.specs.Expressions.{roomy}
 use Rattle.address_mux.specs.declared.AddressMuxNode.{AddressMuxNode}
 use Rattle.address_mux.specs.AddressMux.{balancedAddressMux}
@@ -17,7 +17,3 @@ muxOfNodes ms vs width ns e = roomy (length ns) ms (roomy (length ns) vs (balanc
 -- how many of n candidates are copied into slices of these lengths: all or none
 unfoldable pub toCopy : ℕ → ℕ → ℕ → ℕ
 toCopy n a b = pick (leb n a) (pick (leb n b) n 0) 0
-
--- n candidates are no more than an array holds, or the call is refused
-unfoldable pub atMost : {A : Type 0} → ℕ → ℕ → Writer A → Writer A
-atMost most n w = pick (leb n most) w (refuse 1 n)

@@ -2,6 +2,7 @@
 pub mod builder;
 pub mod list;
 pub mod read;
+pub mod words;
 
 use refusal::Refusal;
 

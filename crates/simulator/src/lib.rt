@@ -1,8 +1,8 @@
 // A netlist and a list of ticks: lowered once, checked once, run tick by tick. What is shown is what the netlist's own cells show.
 use converter::Lowered;
 use converter::lower;
-use converter::zeros::zero_lists;
 use recorder::Tapes;
+use recorder::words::zero_words;
 use runner::run_list;
 use simulation::Ran;
 use simulation::zero::zero_bytes;
@@ -12,6 +12,7 @@ ghost use Rattle.netlist.specs.Reader.{base};
 ghost use Rattle.recorder.specs.Lists.{lists};
 ghost use Rattle.runner.specs.Calls.{RunsList};
 ghost use Rattle.runner.specs.Whole.{listCall};
+ghost use Rattle.converter.specs.Entry.{ZerosThree};
 ghost use Rattle.simulator.specs.Entry.{simulation, Simulates, Zeroed, StaysZero, Cut, onUsed, Concludes, RunsAccepted, RunsLowered};
 
 // So many words of a list, at most all of them.
@@ -69,6 +70,14 @@ fn run_used(
         answers,
         shown,
     )
+}
+
+fn zero_lists(signals: &mut [u32], exprs: &mut [u32], stmts: &mut [u32])
+    ensures { λ _. ⌜ ZerosThree (now (signals .entry)) (now (exprs .entry)) (now (stmts .entry)) (now (signals .exit)) (now (exprs .exit)) (now (stmts .exit)) ⌝ }
+{
+    zero_words(signals);
+    zero_words(exprs);
+    zero_words(stmts);
 }
 
 // How the ticks' answer ends the whole: a refusal leaves no model.

@@ -30,7 +30,7 @@ entry zero p = none
 entry (suc s) p = some (record { signal = s; lsb = p / 65536; width = p % 65536 })
 
 unfoldable pub wiresOf : List ℕ → List ℕ → Wires
-wiresOf signals places w = entry (getD signals w 0) (getD places w 0)
+wiresOf wires places w = entry (getD wires w 0) (getD places w 0)
 
 -- what the code finds
 abbrev pub foundOf : Found → Option WireRef

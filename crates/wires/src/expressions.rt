@@ -12,6 +12,7 @@ use recorder::ExprId;
 use recorder::Stated;
 use recorder::Tapes;
 use recorder::builder;
+use recorder::words::zero_words;
 use refusal::Refusal;
 ghost use mathlib.Core.Path.{_≡_};
 ghost use mathlib.Core.Bool.{not};
@@ -21,22 +22,23 @@ ghost use Rattle.bits.specs.Bits.{pick};
 ghost use Rattle.netlist.specs.Fields.{bitsAt};
 ghost use Rattle.recorder.specs.Writer.{End.ok, End.no};
 ghost use Rattle.recorder.specs.Lists.{WroteExprs, WroteStmts, emitted, stated};
+ghost use Rattle.recorder.specs.Words.{zeroed};
 ghost use Rattle.wires.specs.Wires.{wiresOf};
 ghost use Rattle.wires.specs.Expressions.{bitExpression, bitSignal, assertedExpression, assignWire, concatParts, vectorBit, vectorExpression, roomy, Reads, whole, controlled};
 
 pub fn bit_expression(
     exprs: &mut [u32],
-    signals: &[u32],
+    wires: &[u32],
     places: &[u32],
     t: Tapes,
     bit: Bit,
 ) -> Emitted
-    ensures { λ r. ⌜ WroteExprs (now (exprs .entry)) t (bitExpression (wiresOf (now (signals .entry)) (now (places .entry))) bit) (emitted r) (now (exprs .exit)) ⌝ }
+    ensures { λ r. ⌜ WroteExprs (now (exprs .entry)) t (bitExpression (wiresOf (now (wires .entry)) (now (places .entry))) bit) (emitted r) (now (exprs .exit)) ⌝ }
 {
     match bit {
         Bit::Zero => Emitted::Done(ExprId::ZERO, t),
         Bit::One => Emitted::Done(ExprId::ONE, t),
-        Bit::Wire(wire) => match wire_ref(signals, places, wire) {
+        Bit::Wire(wire) => match wire_ref(wires, places, wire) {
             Found::At(r) => builder::read(exprs, t, 1, r.signal, r.lsb),
             Found::Missing => Emitted::Refused(Refusal::MissingWire(wide(wire))),
         },
@@ -57,15 +59,15 @@ fn scalar(r: WireRef, wire: u32) -> Controlled
 }
 
 // The signal of a control, which must be a whole signal of one bit.
-pub fn bit_signal(signals: &[u32], places: &[u32], constants: Constants, bit: Bit) -> Controlled
-    ensures { λ r. ⌜ Reads (bitSignal (wiresOf (now (signals .entry)) (now (places .entry))) constants bit) r ⌝ }
+pub fn bit_signal(wires: &[u32], places: &[u32], constants: Constants, bit: Bit) -> Controlled
+    ensures { λ r. ⌜ Reads (bitSignal (wiresOf (now (wires .entry)) (now (places .entry))) constants bit) r ⌝ }
 {
     let zero = constants.zero;
     let one = constants.one;
     match bit {
         Bit::Zero => Controlled::Signal(zero),
         Bit::One => Controlled::Signal(one),
-        Bit::Wire(wire) => match wire_ref(signals, places, wire) {
+        Bit::Wire(wire) => match wire_ref(wires, places, wire) {
             Found::At(r) => scalar(r, wire),
             Found::Missing => Controlled::Refused(Refusal::MissingWire(wide(wire))),
         },
@@ -74,15 +76,15 @@ pub fn bit_signal(signals: &[u32], places: &[u32], constants: Constants, bit: Bi
 
 pub fn asserted_expression(
     exprs: &mut [u32],
-    signals: &[u32],
+    wires: &[u32],
     places: &[u32],
     t: Tapes,
     control: Control,
 ) -> Emitted
-    ensures { λ r. ⌜ WroteExprs (now (exprs .entry)) t (assertedExpression (wiresOf (now (signals .entry)) (now (places .entry))) control) (emitted r) (now (exprs .exit)) ⌝ }
+    ensures { λ r. ⌜ WroteExprs (now (exprs .entry)) t (assertedExpression (wiresOf (now (wires .entry)) (now (places .entry))) control) (emitted r) (now (exprs .exit)) ⌝ }
 {
     let bit = control.signal;
-    let r = bit_expression(exprs, signals, places, t, bit);
+    let r = bit_expression(exprs, wires, places, t, bit);
     let Emitted::Done(e, next) = r else {
         return r;
     };
@@ -95,15 +97,15 @@ pub fn asserted_expression(
 // The whole signal of a wire is assigned a value.
 pub fn assign_wire(
     stmts: &mut [u32],
-    signals: &[u32],
+    wires: &[u32],
     places: &[u32],
     t: Tapes,
     wire: u32,
     value: ExprId,
 ) -> Stated
-    ensures { λ r. ⌜ WroteStmts (now (stmts .entry)) t (assignWire (wiresOf (now (signals .entry)) (now (places .entry))) wire (value .0)) (stated r) (now (stmts .exit)) ⌝ }
+    ensures { λ r. ⌜ WroteStmts (now (stmts .entry)) t (assignWire (wiresOf (now (wires .entry)) (now (places .entry))) wire (value .0)) (stated r) (now (stmts .exit)) ⌝ }
 {
-    match wire_ref(signals, places, wire) {
+    match wire_ref(wires, places, wire) {
         Found::At(r) => builder::assign(stmts, t, r.signal, value),
         Found::Missing => Stated::Refused(Refusal::MissingWire(wide(wire))),
     }
@@ -133,11 +135,11 @@ fn vector_bit(words: &[u32], at: usize, n: usize, i: usize) -> Bit
     Bit::Zero
 }
 
-// The vector of the n bits that stand from an index on, widened by zeros; the highest bit is read first.
-pub fn bits_expression(
+// The vector of the n bits that stand from an index on, widened by zeros; the highest bit is read first. Its parts are left in the work.
+fn vector_expression(
     exprs: &mut [u32],
     parts: &mut [u32],
-    signals: &[u32],
+    wires: &[u32],
     places: &[u32],
     t: Tapes,
     words: &[u32],
@@ -145,7 +147,7 @@ pub fn bits_expression(
     n: usize,
     width: u32,
 ) -> Emitted
-    ensures { λ r. ⌜ WroteExprs (now (exprs .entry)) t (roomy width (now (parts .entry)) (vectorExpression (wiresOf (now (signals .entry)) (now (places .entry))) (bitsAt (now (words .entry)) at n) 0 width)) (emitted r) (now (exprs .exit)) ⌝ }
+    ensures { λ r. ⌜ WroteExprs (now (exprs .entry)) t (roomy width (now (parts .entry)) (vectorExpression (wiresOf (now (wires .entry)) (now (places .entry))) (bitsAt (now (words .entry)) at n) 0 width)) (emitted r) (now (exprs .exit)) ⌝ }
 {
     let end = wide(width);
     if parts.len() < end {
@@ -156,7 +158,7 @@ pub fn bits_expression(
     while left > 0 {
         left -= 1;
         let bit = vector_bit(words, at, n, left);
-        let r = bit_expression(exprs, signals, places, now, bit);
+        let r = bit_expression(exprs, wires, places, now, bit);
         let Emitted::Done(e, next) = r else {
             return r;
         };
@@ -164,4 +166,24 @@ pub fn bits_expression(
         now = next;
     }
     concat_parts(exprs, now, parts, width)
+}
+
+// The same, with the work cleared again.
+pub fn bits_expression(
+    exprs: &mut [u32],
+    parts: &mut [u32],
+    wires: &[u32],
+    places: &[u32],
+    t: Tapes,
+    words: &[u32],
+    at: usize,
+    n: usize,
+    width: u32,
+) -> Emitted
+    ensures wrote { λ r. ⌜ WroteExprs (now (exprs .entry)) t (roomy width (now (parts .entry)) (vectorExpression (wiresOf (now (wires .entry)) (now (places .entry))) (bitsAt (now (words .entry)) at n) 0 width)) (emitted r) (now (exprs .exit)) ⌝ }
+    ensures work { λ _. ⌜ now (parts .exit) ≡ zeroed (now (parts .entry)) ⌝ }
+{
+    let r = vector_expression(exprs, parts, wires, places, t, words, at, n, width);
+    zero_words(parts);
+    r
 }

@@ -15,15 +15,15 @@ use Rattle.address_mux.proofs.mux_level.Lts as lts
 use Rattle.address_mux.proofs.join.Reads as join-reads
 
 abbrev Inv-loop : tie.InvT-loop
-Inv-loop exprs₀ matched₀ value₀ n width now₀ at₀ i₀ exprs matched value now at i = (at + at ≡ i) × (i ≤ n) × (n ≤ length matched₀) × (n ≤ length value₀) × (length matched ≡ length matched₀) × (length value ≡ length value₀) × (length exprs ≡ length exprs₀)
-    × Levelling width n (muxLevel width (nodesFrom matched₀ value₀ 0 n) []) exprs₀ now₀ exprs now matched value at i
+Inv-loop exprs₀ parts₀ values₀ n width now₀ at₀ i₀ exprs parts values now at i = (at + at ≡ i) × (i ≤ n) × (n ≤ length parts₀) × (n ≤ length values₀) × (length parts ≡ length parts₀) × (length values ≡ length values₀) × (length exprs ≡ length exprs₀)
+    × Levelling width n (muxLevel width (nodesFrom parts₀ values₀ 0 n) []) exprs₀ now₀ exprs now parts values at i
 
 abbrev μ-loop : tie.MeasureT-loop
-μ-loop exprs₀ matched₀ value₀ n width now₀ at₀ i₀ exprs matched value now at i = n - i
+μ-loop exprs₀ parts₀ values₀ n width now₀ at₀ i₀ exprs parts values now at i = n - i
 
 -- src/lib.rt:58:5
 loop-holds : tie.Need-loop-holds Inv-loop μ-loop
-loop-holds c = (search needs, search needs, search needs, search needs, search needs, search needs, search needs, levelling-start (c .before .before .before .args .matched .now) (c .before .before .before .args .value .now) refl)
+loop-holds c = (search needs, search needs, search needs, search needs, search needs, search needs, search needs, levelling-start (c .before .before .before .args .parts .now) (c .before .before .before .args .values .now) refl)
 
 -- src/lib.rt:58:11
 add-loop : tie.Need-add-loop Inv-loop μ-loop
@@ -78,20 +78,20 @@ enum-known-node : tie.Need-enum-known-node Inv-loop μ-loop
 enum-known-node c = search needs
 
 -- src/lib.rt:69:17
-mul-matched : tie.Need-mul-matched Inv-loop μ-loop
-mul-matched c = omega (arith, c .before .before .before .before .before .before .before .before .before .before .before .before .before .before .before .before .good .1 .0 .1, c .before .before .before .before .before .before .before .before .before .before .before .before .before .before .before .before .good .1 .1 .0 .1, c .before .before .before .before .before .before .before .before .before .before .before .before .loop .inv .4, c .before .before .before .before .before .before .before .before .before .before .before .before .loop .inv .5)
+mul-parts : tie.Need-mul-parts Inv-loop μ-loop
+mul-parts c = omega (arith, c .before .before .before .before .before .before .before .before .before .before .before .before .before .before .before .before .good .1 .0 .1, c .before .before .before .before .before .before .before .before .before .before .before .before .before .before .before .before .good .1 .1 .0 .1, c .before .before .before .before .before .before .before .before .before .before .before .before .loop .inv .4, c .before .before .before .before .before .before .before .before .before .before .before .before .loop .inv .5)
 
 -- src/lib.rt:69:17
-slice-write-matched : tie.Need-slice-write-matched Inv-loop μ-loop
-slice-write-matched c = omega arith
+slice-write-parts : tie.Need-slice-write-parts Inv-loop μ-loop
+slice-write-parts c = omega arith
 
 -- src/lib.rt:70:17
-mul-value : tie.Need-mul-value Inv-loop μ-loop
-mul-value c = omega (arith, c .before .before .before .before .before .before .before .before .before .before .before .before .before .before .before .before .good .1 .0 .1, c .before .before .before .before .before .before .before .before .before .before .before .before .before .before .before .before .good .1 .1 .0 .1, c .before .before .before .before .before .before .before .before .before .before .before .before .loop .inv .4, c .before .before .before .before .before .before .before .before .before .before .before .before .loop .inv .5)
+mul-values : tie.Need-mul-values Inv-loop μ-loop
+mul-values c = omega (arith, c .before .before .before .before .before .before .before .before .before .before .before .before .before .before .before .before .good .1 .0 .1, c .before .before .before .before .before .before .before .before .before .before .before .before .before .before .before .before .good .1 .1 .0 .1, c .before .before .before .before .before .before .before .before .before .before .before .before .loop .inv .4, c .before .before .before .before .before .before .before .before .before .before .before .before .loop .inv .5)
 
 -- src/lib.rt:70:17
-slice-write-value : tie.Need-slice-write-value Inv-loop μ-loop
-slice-write-value c = omega arith
+slice-write-values : tie.Need-slice-write-values Inv-loop μ-loop
+slice-write-values c = omega arith
 
 -- src/lib.rt:73:29
 enum-known-x : tie.Need-enum-known-x Inv-loop μ-loop
@@ -130,36 +130,36 @@ loop-again : tie.Need-loop-again Inv-loop μ-loop
 loop-again c = (omega arith, omega arith, omega arith, omega arith, simp length-set (c .before .before .before .before .before .before .before .before .before .before .before .before .loop .inv .4), simp length-set (c .before .before .before .before .before .before .before .before .before .before .before .before .loop .inv .5), c .before .before .before .before .before .join .kept .0 ∙ c .before .before .before .before .before .before .before .before .before .before .before .before .loop .inv .6, levelling-step (c .before .before .before .before .before .before .before .before .before .before .before .before .loop .inv .7) (omega arith) (c .before .before .before .before .before .join .ensures) (c .before .before .before .before .before .before .before .before .before .before .before .before .loop .inv .0) (omega arith) (omega arith) (ap joined (c .before .node .given .1)))
 
 -- src/lib.rt:79:23
-mul-matched-2 : tie.Need-mul-matched-2 Inv-loop μ-loop
-mul-matched-2 c = omega (arith, c .before .before .before .before .before .before .good .1 .0 .1, c .before .before .before .before .before .before .good .1 .1 .0 .1, c .before .before .loop .inv .4, c .before .before .loop .inv .5)
+mul-parts-2 : tie.Need-mul-parts-2 Inv-loop μ-loop
+mul-parts-2 c = omega (arith, c .before .before .before .before .before .before .good .1 .0 .1, c .before .before .before .before .before .before .good .1 .1 .0 .1, c .before .before .loop .inv .4, c .before .before .loop .inv .5)
 
 -- src/lib.rt:79:23
-slice-read-matched : tie.Need-slice-read-matched Inv-loop μ-loop
-slice-read-matched c = omega arith
+slice-read-parts : tie.Need-slice-read-parts Inv-loop μ-loop
+slice-read-parts c = omega arith
 
 -- src/lib.rt:79:9
-mul-matched-3 : tie.Need-mul-matched-3 Inv-loop μ-loop
-mul-matched-3 c = omega (arith, c .before .before .before .before .before .before .before .good .1 .0 .1, c .before .before .before .before .before .before .before .good .1 .1 .0 .1, c .before .before .before .loop .inv .4, c .before .before .before .loop .inv .5)
+mul-parts-3 : tie.Need-mul-parts-3 Inv-loop μ-loop
+mul-parts-3 c = omega (arith, c .before .before .before .before .before .before .before .good .1 .0 .1, c .before .before .before .before .before .before .before .good .1 .1 .0 .1, c .before .before .before .loop .inv .4, c .before .before .before .loop .inv .5)
 
 -- src/lib.rt:79:9
-slice-write-matched-2 : tie.Need-slice-write-matched-2 Inv-loop μ-loop
-slice-write-matched-2 c = omega arith
+slice-write-parts-2 : tie.Need-slice-write-parts-2 Inv-loop μ-loop
+slice-write-parts-2 c = omega arith
 
 -- src/lib.rt:80:21
-mul-value-2 : tie.Need-mul-value-2 Inv-loop μ-loop
-mul-value-2 c = omega (arith, c .before .before .before .before .before .before .before .good .1 .0 .1, c .before .before .before .before .before .before .before .good .1 .1 .0 .1, c .before .before .before .loop .inv .4, c .before .before .before .loop .inv .5)
+mul-values-2 : tie.Need-mul-values-2 Inv-loop μ-loop
+mul-values-2 c = omega (arith, c .before .before .before .before .before .before .before .good .1 .0 .1, c .before .before .before .before .before .before .before .good .1 .1 .0 .1, c .before .before .before .loop .inv .4, c .before .before .before .loop .inv .5)
 
 -- src/lib.rt:80:21
-slice-read-value : tie.Need-slice-read-value Inv-loop μ-loop
-slice-read-value c = omega arith
+slice-read-values : tie.Need-slice-read-values Inv-loop μ-loop
+slice-read-values c = omega arith
 
 -- src/lib.rt:80:9
-mul-value-3 : tie.Need-mul-value-3 Inv-loop μ-loop
-mul-value-3 c = omega (arith, c .before .before .before .before .before .before .before .before .good .1 .0 .1, c .before .before .before .before .before .before .before .before .good .1 .1 .0 .1, c .before .before .before .before .loop .inv .4, c .before .before .before .before .loop .inv .5)
+mul-values-3 : tie.Need-mul-values-3 Inv-loop μ-loop
+mul-values-3 c = omega (arith, c .before .before .before .before .before .before .before .before .good .1 .0 .1, c .before .before .before .before .before .before .before .before .good .1 .1 .0 .1, c .before .before .before .before .loop .inv .4, c .before .before .before .before .loop .inv .5)
 
 -- src/lib.rt:80:9
-slice-write-value-2 : tie.Need-slice-write-value-2 Inv-loop μ-loop
-slice-write-value-2 c = omega arith
+slice-write-values-2 : tie.Need-slice-write-values-2 Inv-loop μ-loop
+slice-write-values-2 c = omega arith
 
 -- src/lib.rt:81:9
 same-length-4 : tie.Need-same-length-4 Inv-loop μ-loop
@@ -213,10 +213,10 @@ mux-level-spec =
     slice-read-t22-2
     join-requires
     enum-known-node
-    mul-matched
-    slice-write-matched
-    mul-value
-    slice-write-value
+    mul-parts
+    slice-write-parts
+    mul-values
+    slice-write-values
     enum-known-x
     same-length
     same-length-2
@@ -226,14 +226,14 @@ mux-level-spec =
     add-i
     loop-less
     loop-again
-    mul-matched-2
-    slice-read-matched
-    mul-matched-3
-    slice-write-matched-2
-    mul-value-2
-    slice-read-value
-    mul-value-3
-    slice-write-value-2
+    mul-parts-2
+    slice-read-parts
+    mul-parts-3
+    slice-write-parts-2
+    mul-values-2
+    slice-read-values
+    mul-values-3
+    slice-write-values-2
     same-length-4
     same-length-5
     same-length-6

@@ -1,4 +1,5 @@
-use Rattle.conflict.proofs.Marked.{judges}
+use Rattle.conflict.specs.Counting.{lowestFrom, restored}
+use mathlib.Core.Path.{_∙_, ap}
 use borrow.Author.Needs.{needs}
 use Rattle.conflict.proofs.overdriven.Statement.{statement}
 use Rattle.conflict.proofs.overdriven.Tie as tie
@@ -26,7 +27,9 @@ same-length c = search needs
 
 -- src/lib.rt:119:1
 returns : tie.Need-returns
-returns c = judges _ _ _ _ _ (c .before .before .before .before .before .before .before .before .count-statements .ensures) (c .before .before .before .before .lowest .ensures) (c .before .before .restore .ensures)
+returns c =
+    let counted = c .before .before .before .before .before .before .before .before .count-statements .ensures in
+    (c .before .before .before .before .lowest .ensures ∙ ap (lowestFrom 0) counted, c .before .before .restore .ensures ∙ ap restored counted)
 
 pub overdriven-spec : {M : Type 1} → statement M
 overdriven-spec =

@@ -7,47 +7,36 @@ use Rattle.converter.proofs.lower.Lts as lts
 use Rattle.converter.proofs.lower_within.Reads as lower-within-reads
 use Rattle.netlist.proofs.Limits.base.Reads as base-reads
 
--- src/lib.rt:122:9
 base-requires : tie.Need-base-requires
 base-requires c κs = search needs
 
--- src/lib.rt:121:5
 lower-within-requires : tie.Need-lower-within-requires
 lower-within-requires c κs = search needs
 
--- src/lib.rt:108:1
 same-length : tie.Need-same-length
 same-length c = search needs
 
--- src/lib.rt:108:1
 same-length-2 : tie.Need-same-length-2
 same-length-2 c = search needs
 
--- src/lib.rt:108:1
 same-length-3 : tie.Need-same-length-3
 same-length-3 c = search needs
 
--- src/lib.rt:108:1
 same-length-4 : tie.Need-same-length-4
 same-length-4 c = search needs
 
--- src/lib.rt:108:1
 same-length-5 : tie.Need-same-length-5
 same-length-5 c = search needs
 
--- src/lib.rt:108:1
 same-length-6 : tie.Need-same-length-6
 same-length-6 c = search needs
 
--- src/lib.rt:108:1
 same-length-7 : tie.Need-same-length-7
 same-length-7 c = search needs
 
--- src/lib.rt:108:1
 same-length-8 : tie.Need-same-length-8
 same-length-8 c = search needs
 
--- src/lib.rt:108:1
 returns : tie.Need-returns
 returns c = base-done (c .before .before .before .before .before .before .before .before .before .before .before .before .before .before .before .before .before .before .before .before .before .before .before .before .before .base .ensures) (c .before .before .before .before .before .before .before .before .before .before .before .before .before .before .before .before .lower-within .ensures)
 

@@ -4,7 +4,7 @@ use Rattle.simulator.proofs.conclude.Statement.{statement}
 use Rattle.simulator.proofs.conclude.Tie as tie
 use Rattle.simulator.proofs.conclude.Reads as reads
 use Rattle.simulator.proofs.conclude.Lts as lts
-use Rattle.converter.proofs.zeros.zero_lists.Reads as zero-lists-reads
+use Rattle.simulator.proofs.zero_lists.Reads as zero-lists-reads
 
 -- src/lib.rt:90:22
 enum-told : tie.Need-enum-told

@@ -32,7 +32,7 @@ same-length : tie.Need-same-length
 same-length c = c .before .before .before .before .exprs .given
 
 returns : tie.Need-returns
-returns c = λ s m. let st = c .before .before .before .before .before .before .before .before .before .before .before in let four : length (st .args .t5) ≡ 4 = search needs in wrote-as (read-four (wiresOf (c .before .before .before .before .before .before .before .before .before .before .before .args .signals .now) (c .before .before .before .before .before .before .before .before .before .before .before .args .places .now)) (c .before .before .before .before .before .before .before .before .before .before .before .args .t5) four) (then-changed fourfold (c .before .before .before .before .before .bit-expression .ensures s m) _ (ap emitted (c .before .enum-told .given .1)) (c .unread .ensures))
+returns c = λ s m. let st = c .before .before .before .before .before .before .before .before .before .before .before in let four : length (st .args .t5) ≡ 4 = search needs in wrote-as (read-four (wiresOf (c .before .before .before .before .before .before .before .before .before .before .before .args .wires .now) (c .before .before .before .before .before .before .before .before .before .before .before .args .places .now)) (c .before .before .before .before .before .before .before .before .before .before .before .args .t5) four) (then-changed fourfold (c .before .before .before .before .before .bit-expression .ensures s m) _ (ap emitted (c .before .enum-told .given .1)) (c .unread .ensures))
 
 array-copy-out-bit-expression-2 : tie.Need-array-copy-out-bit-expression-2
 array-copy-out-bit-expression-2 c = search needs
@@ -53,7 +53,7 @@ same-length-2 : tie.Need-same-length-2
 same-length-2 c = c .before .before .before .before .exprs2 .given ∙ c .before .before .before .before .before .before .before .before .before .before .before .before .exprs .given
 
 returns-2 : tie.Need-returns-2
-returns-2 c = λ s m. let st = c .before .before .before .before .before .before .before .before .before .before .before .before .before .before .before .before .before .before .before in let four : length (st .args .t5) ≡ 4 = search needs in wrote-as (read-four (wiresOf (c .before .before .before .before .before .before .before .before .before .before .before .before .before .before .before .before .before .before .before .args .signals .now) (c .before .before .before .before .before .before .before .before .before .before .before .before .before .before .before .before .before .before .before .args .places .now)) (c .before .before .before .before .before .before .before .before .before .before .before .before .before .before .before .before .before .before .before .args .t5) four) (then-done (c .before .before .before .before .before .before .before .before .before .before .before .before .before .bit-expression .ensures s m) _ (ap emitted (c .before .before .before .before .before .before .before .before .before .r .given .1)) (then-changed fourfold (c .before .before .before .before .before .bit-expression2 .ensures s m) _ (ap emitted (c .before .enum-told2 .given .1)) (c .unread2 .ensures)))
+returns-2 c = λ s m. let st = c .before .before .before .before .before .before .before .before .before .before .before .before .before .before .before .before .before .before .before in let four : length (st .args .t5) ≡ 4 = search needs in wrote-as (read-four (wiresOf (c .before .before .before .before .before .before .before .before .before .before .before .before .before .before .before .before .before .before .before .args .wires .now) (c .before .before .before .before .before .before .before .before .before .before .before .before .before .before .before .before .before .before .before .args .places .now)) (c .before .before .before .before .before .before .before .before .before .before .before .before .before .before .before .before .before .before .before .args .t5) four) (then-done (c .before .before .before .before .before .before .before .before .before .before .before .before .before .bit-expression .ensures s m) _ (ap emitted (c .before .before .before .before .before .before .before .before .before .r .given .1)) (then-changed fourfold (c .before .before .before .before .before .bit-expression2 .ensures s m) _ (ap emitted (c .before .enum-told2 .given .1)) (c .unread2 .ensures)))
 
 array-copy-out-bit-expression-3 : tie.Need-array-copy-out-bit-expression-3
 array-copy-out-bit-expression-3 c = search needs
@@ -74,7 +74,7 @@ same-length-3 : tie.Need-same-length-3
 same-length-3 c = c .before .before .before .before .exprs3 .given ∙ c .before .before .before .before .before .before .before .before .before .before .before .before .exprs2 .given ∙ c .before .before .before .before .before .before .before .before .before .before .before .before .before .before .before .before .before .before .before .before .exprs .given
 
 returns-3 : tie.Need-returns-3
-returns-3 c = λ s m. let st = c .before .before .before .before .before .before .before .before .before .before .before .before .before .before .before .before .before .before .before .before .before .before .before .before .before .before .before in let four : length (st .args .t5) ≡ 4 = search needs in wrote-as (read-four (wiresOf (c .before .before .before .before .before .before .before .before .before .before .before .before .before .before .before .before .before .before .before .before .before .before .before .before .before .before .before .args .signals .now) (c .before .before .before .before .before .before .before .before .before .before .before .before .before .before .before .before .before .before .before .before .before .before .before .before .before .before .before .args .places .now)) (c .before .before .before .before .before .before .before .before .before .before .before .before .before .before .before .before .before .before .before .before .before .before .before .before .before .before .before .args .t5) four) (then-done (c .before .before .before .before .before .before .before .before .before .before .before .before .before .before .before .before .before .before .before .before .before .bit-expression .ensures s m) _ (ap emitted (c .before .before .before .before .before .before .before .before .before .before .before .before .before .before .before .before .before .r .given .1)) (then-done (c .before .before .before .before .before .before .before .before .before .before .before .before .before .bit-expression2 .ensures s m) _ (ap emitted (c .before .before .before .before .before .before .before .before .before .r2 .given .1)) (then-changed fourfold (c .before .before .before .before .before .bit-expression3 .ensures s m) _ (ap emitted (c .before .enum-told3 .given .1)) (c .unread3 .ensures))))
+returns-3 c = λ s m. let st = c .before .before .before .before .before .before .before .before .before .before .before .before .before .before .before .before .before .before .before .before .before .before .before .before .before .before .before in let four : length (st .args .t5) ≡ 4 = search needs in wrote-as (read-four (wiresOf (c .before .before .before .before .before .before .before .before .before .before .before .before .before .before .before .before .before .before .before .before .before .before .before .before .before .before .before .args .wires .now) (c .before .before .before .before .before .before .before .before .before .before .before .before .before .before .before .before .before .before .before .before .before .before .before .before .before .before .before .args .places .now)) (c .before .before .before .before .before .before .before .before .before .before .before .before .before .before .before .before .before .before .before .before .before .before .before .before .before .before .before .args .t5) four) (then-done (c .before .before .before .before .before .before .before .before .before .before .before .before .before .before .before .before .before .before .before .before .before .bit-expression .ensures s m) _ (ap emitted (c .before .before .before .before .before .before .before .before .before .before .before .before .before .before .before .before .before .r .given .1)) (then-done (c .before .before .before .before .before .before .before .before .before .before .before .before .before .bit-expression2 .ensures s m) _ (ap emitted (c .before .before .before .before .before .before .before .before .before .r2 .given .1)) (then-changed fourfold (c .before .before .before .before .before .bit-expression3 .ensures s m) _ (ap emitted (c .before .enum-told3 .given .1)) (c .unread3 .ensures))))
 
 array-copy-out-bit-expression-4 : tie.Need-array-copy-out-bit-expression-4
 array-copy-out-bit-expression-4 c = search needs
@@ -95,13 +95,13 @@ same-length-4 : tie.Need-same-length-4
 same-length-4 c = c .before .before .before .before .exprs4 .given ∙ c .before .before .before .before .before .before .before .before .before .before .before .before .exprs3 .given ∙ c .before .before .before .before .before .before .before .before .before .before .before .before .before .before .before .before .before .before .before .before .exprs2 .given ∙ c .before .before .before .before .before .before .before .before .before .before .before .before .before .before .before .before .before .before .before .before .before .before .before .before .before .before .before .before .exprs .given
 
 returns-4 : tie.Need-returns-4
-returns-4 c = λ s m. let st = c .before .before .before .before .before .before .before .before .before .before .before .before .before .before .before .before .before .before .before .before .before .before .before .before .before .before .before .before .before .before .before .before .before .before .before in let four : length (st .args .t5) ≡ 4 = search needs in wrote-as (read-four (wiresOf (c .before .before .before .before .before .before .before .before .before .before .before .before .before .before .before .before .before .before .before .before .before .before .before .before .before .before .before .before .before .before .before .before .before .before .before .args .signals .now) (c .before .before .before .before .before .before .before .before .before .before .before .before .before .before .before .before .before .before .before .before .before .before .before .before .before .before .before .before .before .before .before .before .before .before .before .args .places .now)) (c .before .before .before .before .before .before .before .before .before .before .before .before .before .before .before .before .before .before .before .before .before .before .before .before .before .before .before .before .before .before .before .before .before .before .before .args .t5) four) (then-done (c .before .before .before .before .before .before .before .before .before .before .before .before .before .before .before .before .before .before .before .before .before .before .before .before .before .before .before .before .before .bit-expression .ensures s m) _ (ap emitted (c .before .before .before .before .before .before .before .before .before .before .before .before .before .before .before .before .before .before .before .before .before .before .before .before .before .r .given .1)) (then-done (c .before .before .before .before .before .before .before .before .before .before .before .before .before .before .before .before .before .before .before .before .before .bit-expression2 .ensures s m) _ (ap emitted (c .before .before .before .before .before .before .before .before .before .before .before .before .before .before .before .before .before .r2 .given .1)) (then-done (c .before .before .before .before .before .before .before .before .before .before .before .before .before .bit-expression3 .ensures s m) _ (ap emitted (c .before .before .before .before .before .before .before .before .before .r3 .given .1)) (then-changed fourfold (c .before .before .before .before .before .bit-expression4 .ensures s m) _ (ap emitted (c .before .enum-told4 .given .1)) (c .unread4 .ensures)))))
+returns-4 c = λ s m. let st = c .before .before .before .before .before .before .before .before .before .before .before .before .before .before .before .before .before .before .before .before .before .before .before .before .before .before .before .before .before .before .before .before .before .before .before in let four : length (st .args .t5) ≡ 4 = search needs in wrote-as (read-four (wiresOf (c .before .before .before .before .before .before .before .before .before .before .before .before .before .before .before .before .before .before .before .before .before .before .before .before .before .before .before .before .before .before .before .before .before .before .before .args .wires .now) (c .before .before .before .before .before .before .before .before .before .before .before .before .before .before .before .before .before .before .before .before .before .before .before .before .before .before .before .before .before .before .before .before .before .before .before .args .places .now)) (c .before .before .before .before .before .before .before .before .before .before .before .before .before .before .before .before .before .before .before .before .before .before .before .before .before .before .before .before .before .before .before .before .before .before .before .args .t5) four) (then-done (c .before .before .before .before .before .before .before .before .before .before .before .before .before .before .before .before .before .before .before .before .before .before .before .before .before .before .before .before .before .bit-expression .ensures s m) _ (ap emitted (c .before .before .before .before .before .before .before .before .before .before .before .before .before .before .before .before .before .before .before .before .before .before .before .before .before .r .given .1)) (then-done (c .before .before .before .before .before .before .before .before .before .before .before .before .before .before .before .before .before .before .before .before .before .bit-expression2 .ensures s m) _ (ap emitted (c .before .before .before .before .before .before .before .before .before .before .before .before .before .before .before .before .before .r2 .given .1)) (then-done (c .before .before .before .before .before .before .before .before .before .before .before .before .before .bit-expression3 .ensures s m) _ (ap emitted (c .before .before .before .before .before .before .before .before .before .r3 .given .1)) (then-changed fourfold (c .before .before .before .before .before .bit-expression4 .ensures s m) _ (ap emitted (c .before .enum-told4 .given .1)) (c .unread4 .ensures)))))
 
 same-length-5 : tie.Need-same-length-5
 same-length-5 c = c .before .before .before .before .exprs4 .given ∙ c .before .before .before .before .before .before .before .before .before .before .before .before .exprs3 .given ∙ c .before .before .before .before .before .before .before .before .before .before .before .before .before .before .before .before .before .before .before .before .exprs2 .given ∙ c .before .before .before .before .before .before .before .before .before .before .before .before .before .before .before .before .before .before .before .before .before .before .before .before .before .before .before .before .exprs .given
 
 returns-5 : tie.Need-returns-5
-returns-5 c = λ s m. let st = c .before .before .before .before .before .before .before .before .before .before .before .before .before .before .before .before .before .before .before .before .before .before .before .before .before .before .before .before .before .before .before .before .before .before .before in let four : length (st .args .t5) ≡ 4 = search needs in wrote-as (read-four (wiresOf (c .before .before .before .before .before .before .before .before .before .before .before .before .before .before .before .before .before .before .before .before .before .before .before .before .before .before .before .before .before .before .before .before .before .before .before .args .signals .now) (c .before .before .before .before .before .before .before .before .before .before .before .before .before .before .before .before .before .before .before .before .before .before .before .before .before .before .before .before .before .before .before .before .before .before .before .args .places .now)) (c .before .before .before .before .before .before .before .before .before .before .before .before .before .before .before .before .before .before .before .before .before .before .before .before .before .before .before .before .before .before .before .before .before .before .before .args .t5) four) (then-done (c .before .before .before .before .before .before .before .before .before .before .before .before .before .before .before .before .before .before .before .before .before .before .before .before .before .before .before .before .before .bit-expression .ensures s m) _ (ap emitted (c .before .before .before .before .before .before .before .before .before .before .before .before .before .before .before .before .before .before .before .before .before .before .before .before .before .r .given .1)) (then-done (c .before .before .before .before .before .before .before .before .before .before .before .before .before .before .before .before .before .before .before .before .before .bit-expression2 .ensures s m) _ (ap emitted (c .before .before .before .before .before .before .before .before .before .before .before .before .before .before .before .before .before .r2 .given .1)) (then-done (c .before .before .before .before .before .before .before .before .before .before .before .before .before .bit-expression3 .ensures s m) _ (ap emitted (c .before .before .before .before .before .before .before .before .before .r3 .given .1)) (then-done (c .before .before .before .before .before .bit-expression4 .ensures s m) _ (ap emitted (c .before .r4 .given .1)) wrote-pure))))
+returns-5 c = λ s m. let st = c .before .before .before .before .before .before .before .before .before .before .before .before .before .before .before .before .before .before .before .before .before .before .before .before .before .before .before .before .before .before .before .before .before .before .before in let four : length (st .args .t5) ≡ 4 = search needs in wrote-as (read-four (wiresOf (c .before .before .before .before .before .before .before .before .before .before .before .before .before .before .before .before .before .before .before .before .before .before .before .before .before .before .before .before .before .before .before .before .before .before .before .args .wires .now) (c .before .before .before .before .before .before .before .before .before .before .before .before .before .before .before .before .before .before .before .before .before .before .before .before .before .before .before .before .before .before .before .before .before .before .before .args .places .now)) (c .before .before .before .before .before .before .before .before .before .before .before .before .before .before .before .before .before .before .before .before .before .before .before .before .before .before .before .before .before .before .before .before .before .before .before .args .t5) four) (then-done (c .before .before .before .before .before .before .before .before .before .before .before .before .before .before .before .before .before .before .before .before .before .before .before .before .before .before .before .before .before .bit-expression .ensures s m) _ (ap emitted (c .before .before .before .before .before .before .before .before .before .before .before .before .before .before .before .before .before .before .before .before .before .before .before .before .before .r .given .1)) (then-done (c .before .before .before .before .before .before .before .before .before .before .before .before .before .before .before .before .before .before .before .before .before .bit-expression2 .ensures s m) _ (ap emitted (c .before .before .before .before .before .before .before .before .before .before .before .before .before .before .before .before .before .r2 .given .1)) (then-done (c .before .before .before .before .before .before .before .before .before .before .before .before .before .bit-expression3 .ensures s m) _ (ap emitted (c .before .before .before .before .before .before .before .before .before .r3 .given .1)) (then-done (c .before .before .before .before .before .bit-expression4 .ensures s m) _ (ap emitted (c .before .r4 .given .1)) wrote-pure))))
 
 pub read4-spec : {M : Type 1} → statement M
 read4-spec =

@@ -17,16 +17,16 @@ use Rattle.netlist.proofs.fields.field.Reads as field-reads
 use Rattle.wires.proofs.expressions.assign_wire.Reads as assign-wire-reads
 
 abbrev Inv-loop : tie.InvT-loop
-Inv-loop stmts₀ signals places words at offset n value from now₀ i₀ stmts now i = (i ≤ n) × (length stmts ≡ length stmts₀) × Doing (λ w. assignWire (wiresOf signals places) w (value .0)) (wiresAt words (at + offset) n) (assignAll (wiresOf signals places) (wiresAt words (at + offset) n) (value .0)) stmts₀ now₀ stmts now i
+Inv-loop stmts₀ wires places words at offset n value from now₀ i₀ stmts now i = (i ≤ n) × (length stmts ≡ length stmts₀) × Doing (λ w. assignWire (wiresOf wires places) w (value .0)) (wiresAt words (at + offset) n) (assignAll (wiresOf wires places) (wiresAt words (at + offset) n) (value .0)) stmts₀ now₀ stmts now i
 
 abbrev μ-loop : tie.MeasureT-loop
-μ-loop stmts₀ signals places words at offset n value from now₀ i₀ stmts now i = n - i
+μ-loop stmts₀ wires places words at offset n value from now₀ i₀ stmts now i = n - i
 
 ahead-requires : tie.Need-ahead-requires Inv-loop μ-loop
 ahead-requires c κs = tt
 
 loop-holds : tie.Need-loop-holds Inv-loop μ-loop
-loop-holds c = (omega arith, refl, doing-start (assign-each (wiresOf (c .before .before .before .before .before .args .signals .now) (c .before .before .before .before .before .args .places .now)) (wiresAt (c .before .before .before .before .before .args .words .now) ((c .before .before .before .before .before .args .at) + (c .before .before .before .before .before .args .offset)) (c .before .before .before .before .before .args .n)) (c .before .before .before .before .before .args .value .0)))
+loop-holds c = (omega arith, refl, doing-start (assign-each (wiresOf (c .before .before .before .before .before .args .wires .now) (c .before .before .before .before .before .args .places .now)) (wiresAt (c .before .before .before .before .before .args .words .now) ((c .before .before .before .before .before .args .at) + (c .before .before .before .before .before .args .offset)) (c .before .before .before .before .before .args .n)) (c .before .before .before .before .before .args .value .0)))
 
 field-requires : tie.Need-field-requires Inv-loop μ-loop
 field-requires c κs = tt

@@ -21,7 +21,7 @@ same-length : tie.Need-same-length
 same-length c = c .before .before .before .stmts .given
 
 returns : tie.Need-returns
-returns c = λ s e. wrote-as (jtagg-split (wiresOf (c .before .before .before .before .before .before .before .before .before .before .args .signals .now) (c .before .before .before .before .before .before .before .before .before .before .args .places .now)) (c .before .before .before .before .before .before .before .before .before .before .args .words .now) (c .before .before .before .before .before .before .before .before .before .before .args .at) refl) (then-same (c .before .before .before .before .assign-all .ensures s e) _ (ap stated (c .enum-told .given .1)))
+returns c = λ s e. wrote-as (jtagg-split (wiresOf (c .before .before .before .before .before .before .before .before .before .before .args .wires .now) (c .before .before .before .before .before .before .before .before .before .before .args .places .now)) (c .before .before .before .before .before .before .before .before .before .before .args .words .now) (c .before .before .before .before .before .before .before .before .before .before .args .at) refl) (then-same (c .before .before .before .before .assign-all .ensures s e) _ (ap stated (c .enum-told .given .1)))
 
 assign-all-requires-2 : tie.Need-assign-all-requires-2
 assign-all-requires-2 c κs = tt
@@ -36,7 +36,7 @@ same-length-2 : tie.Need-same-length-2
 same-length-2 c = c .before .before .before .stmts2 .given ∙ c .before .before .before .before .before .before .before .before .before .before .stmts .given
 
 returns-2 : tie.Need-returns-2
-returns-2 c = λ s e. wrote-as (jtagg-split (wiresOf (c .before .before .before .before .before .before .before .before .before .before .before .before .before .before .before .before .before .args .signals .now) (c .before .before .before .before .before .before .before .before .before .before .before .before .before .before .before .before .before .args .places .now)) (c .before .before .before .before .before .before .before .before .before .before .before .before .before .before .before .before .before .args .words .now) (c .before .before .before .before .before .before .before .before .before .before .before .before .before .before .before .before .before .args .at) refl) (then-done (c .before .before .before .before .before .before .before .before .before .before .before .assign-all .ensures s e) _ (ap stated (c .before .before .before .before .before .before .before .r .given .1)) (then-same (c .before .before .before .before .assign-all2 .ensures s e) _ (ap stated (c .enum-told2 .given .1))))
+returns-2 c = λ s e. wrote-as (jtagg-split (wiresOf (c .before .before .before .before .before .before .before .before .before .before .before .before .before .before .before .before .before .args .wires .now) (c .before .before .before .before .before .before .before .before .before .before .before .before .before .before .before .before .before .args .places .now)) (c .before .before .before .before .before .before .before .before .before .before .before .before .before .before .before .before .before .args .words .now) (c .before .before .before .before .before .before .before .before .before .before .before .before .before .before .before .before .before .args .at) refl) (then-done (c .before .before .before .before .before .before .before .before .before .before .before .assign-all .ensures s e) _ (ap stated (c .before .before .before .before .before .before .before .r .given .1)) (then-same (c .before .before .before .before .assign-all2 .ensures s e) _ (ap stated (c .enum-told2 .given .1))))
 
 field-requires : tie.Need-field-requires
 field-requires c κs = tt
@@ -48,7 +48,7 @@ same-length-3 : tie.Need-same-length-3
 same-length-3 c = c .before .stmts3 .given ∙ c .before .before .before .before .before .before .before .before .before .stmts2 .given ∙ c .before .before .before .before .before .before .before .before .before .before .before .before .before .before .before .before .stmts .given
 
 returns-3 : tie.Need-returns-3
-returns-3 c = λ s e. wrote-as (jtagg-split (wiresOf (c .before .before .before .before .before .before .before .before .before .before .before .before .before .before .before .before .before .before .before .before .before .before .before .args .signals .now) (c .before .before .before .before .before .before .before .before .before .before .before .before .before .before .before .before .before .before .before .before .before .before .before .args .places .now)) (c .before .before .before .before .before .before .before .before .before .before .before .before .before .before .before .before .before .before .before .before .before .before .before .args .words .now) (c .before .before .before .before .before .before .before .before .before .before .before .before .before .before .before .before .before .before .before .before .before .before .before .args .at) (c .before .before .before .before .field .ensures)) (then-done (c .before .before .before .before .before .before .before .before .before .before .before .before .before .before .before .before .before .assign-all .ensures s e) _ (ap stated (c .before .before .before .before .before .before .before .before .before .before .before .before .before .r .given .1)) (then-done (c .before .before .before .before .before .before .before .before .before .before .assign-all2 .ensures s e) _ (ap stated (c .before .before .before .before .before .before .r2 .given .1)) (c .before .before .assign-wire .ensures s e)))
+returns-3 c = λ s e. wrote-as (jtagg-split (wiresOf (c .before .before .before .before .before .before .before .before .before .before .before .before .before .before .before .before .before .before .before .before .before .before .before .args .wires .now) (c .before .before .before .before .before .before .before .before .before .before .before .before .before .before .before .before .before .before .before .before .before .before .before .args .places .now)) (c .before .before .before .before .before .before .before .before .before .before .before .before .before .before .before .before .before .before .before .before .before .before .before .args .words .now) (c .before .before .before .before .before .before .before .before .before .before .before .before .before .before .before .before .before .before .before .before .before .before .before .args .at) (c .before .before .before .before .field .ensures)) (then-done (c .before .before .before .before .before .before .before .before .before .before .before .before .before .before .before .before .before .assign-all .ensures s e) _ (ap stated (c .before .before .before .before .before .before .before .before .before .before .before .before .before .r .given .1)) (then-done (c .before .before .before .before .before .before .before .before .before .before .assign-all2 .ensures s e) _ (ap stated (c .before .before .before .before .before .before .r2 .given .1)) (c .before .before .assign-wire .ensures s e)))
 
 pub emit-idle-jtagg-spec : {M : Type 1} → statement M
 emit-idle-jtagg-spec = tie.close (tie.spec assign-all-requires enum-known-r enum-told same-length returns assign-all-requires-2 enum-known-r2 enum-told-2 same-length-2 returns-2 field-requires assign-wire-requires same-length-3 returns-3)

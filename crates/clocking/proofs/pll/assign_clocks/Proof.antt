@@ -16,16 +16,16 @@ use Rattle.netlist.proofs.fields.ahead.Reads as ahead-reads
 use Rattle.netlist.proofs.fields.field.Reads as field-reads
 
 abbrev Inv-loop : tie.InvT-loop
-Inv-loop stmts₀ signals places feedback output words at n value from now₀ i₀ stmts now i = (i ≤ n) × (length stmts ≡ length stmts₀) × Doing (clock (wiresOf signals places) feedback output (value .0)) (wiresAt words (at + 6) n) (pllClocks (wiresOf signals places) feedback output (wiresAt words (at + 6) n) (value .0)) stmts₀ now₀ stmts now i
+Inv-loop stmts₀ wires places feedback output words at n value from now₀ i₀ stmts now i = (i ≤ n) × (length stmts ≡ length stmts₀) × Doing (clock (wiresOf wires places) feedback output (value .0)) (wiresAt words (at + 6) n) (pllClocks (wiresOf wires places) feedback output (wiresAt words (at + 6) n) (value .0)) stmts₀ now₀ stmts now i
 
 abbrev μ-loop : tie.MeasureT-loop
-μ-loop stmts₀ signals places feedback output words at n value from now₀ i₀ stmts now i = n - i
+μ-loop stmts₀ wires places feedback output words at n value from now₀ i₀ stmts now i = n - i
 
 ahead-requires : tie.Need-ahead-requires Inv-loop μ-loop
 ahead-requires c κs = tt
 
 loop-holds : tie.Need-loop-holds Inv-loop μ-loop
-loop-holds c = (omega arith, refl, doing-start (clocks-each (wiresOf (c .before .before .before .before .before .args .signals .now) (c .before .before .before .before .before .args .places .now)) (c .before .before .before .before .before .args .feedback) (c .before .before .before .before .before .args .output) (wiresAt (c .before .before .before .before .before .args .words .now) ((c .before .before .before .before .before .args .at) + 6) (c .before .before .before .before .before .args .n)) (c .before .before .before .before .before .args .value .0)))
+loop-holds c = (omega arith, refl, doing-start (clocks-each (wiresOf (c .before .before .before .before .before .args .wires .now) (c .before .before .before .before .before .args .places .now)) (c .before .before .before .before .before .args .feedback) (c .before .before .before .before .before .args .output) (wiresAt (c .before .before .before .before .before .args .words .now) ((c .before .before .before .before .before .args .at) + 6) (c .before .before .before .before .before .args .n)) (c .before .before .before .before .before .args .value .0)))
 
 field-requires : tie.Need-field-requires Inv-loop μ-loop
 field-requires c κs = tt

@@ -7,31 +7,24 @@ use Rattle.converter.proofs.judge.answered.Lts as lts
 use Rattle.conflict.proofs.overdriven.Reads as overdriven-reads
 use Rattle.converter.proofs.judge.judged.Reads as judged-reads
 
--- src/judge.rt:29:22
 enum-known-r : tie.Need-enum-known-r
 enum-known-r c = search needs
 
--- src/judge.rt:29:38
 overdriven-requires : tie.Need-overdriven-requires
 overdriven-requires c κs = search needs
 
--- src/judge.rt:29:28
 judged-requires : tie.Need-judged-requires
 judged-requires c κs = search needs
 
--- src/judge.rt:30:25
 enum-known-r-2 : tie.Need-enum-known-r-2
 enum-known-r-2 c = search needs
 
--- src/judge.rt:25:1
 same-length : tie.Need-same-length
 same-length c = search needs
 
--- src/judge.rt:25:1
 returns : tie.Need-returns
-returns c = answered-done _ _ (c .before .before .before .before .before .before .r .given .1) (c .before .before .before .overdriven .ensures) (c .judged .ensures)
+returns c = answered-done _ _ (c .before .before .before .overdriven .result) (c .before .before .before .before .before .before .r .given .1) (c .before .before .before .overdriven .ensures .0) (c .before .before .before .overdriven .ensures .1) (c .judged .ensures)
 
--- src/judge.rt:25:1
 returns-2 : tie.Need-returns-2
 returns-2 c = answered-refused _ _ (c .before .r2 .given .1)
 

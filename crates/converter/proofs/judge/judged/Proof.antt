@@ -5,19 +5,15 @@ use Rattle.converter.proofs.judge.judged.Tie as tie
 use Rattle.converter.proofs.judge.judged.Reads as reads
 use Rattle.converter.proofs.judge.judged.Lts as lts
 
--- src/judge.rt:19:29
 enum-told : tie.Need-enum-told
 enum-told c = search needs
 
--- src/judge.rt:20:26
 enum-known-found : tie.Need-enum-known-found
 enum-known-found c = search needs
 
--- src/judge.rt:15:1
 returns : tie.Need-returns
 returns c = judged-as _ (c .enum-told .given .1)
 
--- src/judge.rt:15:1
 returns-2 : tie.Need-returns-2
 returns-2 c = judged-as _ (c .before .found .given .1)
 

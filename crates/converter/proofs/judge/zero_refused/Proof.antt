@@ -9,31 +9,24 @@ use Rattle.converter.proofs.zeros.zero_lists.Reads as zero-lists-reads
 enum-told : tie.Need-enum-told
 enum-told c = search needs
 
--- src/judge.rt:38:9
 enum-told-2 : tie.Need-enum-told-2
 enum-told-2 c = search needs
 
--- src/judge.rt:38:9
 returns : tie.Need-returns
 returns c = keeps-accepted (c .enum-told2 .given .1)
 
--- src/judge.rt:40:5
 zero-lists-requires : tie.Need-zero-lists-requires
 zero-lists-requires c κs = search needs
 
--- src/judge.rt:34:1
 same-length : tie.Need-same-length
 same-length c = search needs
 
--- src/judge.rt:34:1
 same-length-2 : tie.Need-same-length-2
 same-length-2 c = search needs
 
--- src/judge.rt:34:1
 same-length-3 : tie.Need-same-length-3
 same-length-3 c = search needs
 
--- src/judge.rt:34:1
 returns-2 : tie.Need-returns-2
 returns-2 c = keeps-refused (c .before .before .before .before .before .before .before .before .before .before .enum-told .given .1) (c .before .before .before .before .before .before .zero-lists .ensures)
 

@@ -5,7 +5,6 @@ use Rattle.converter.proofs.zeros.is_short.Tie as tie
 use Rattle.converter.proofs.zeros.is_short.Reads as reads
 use Rattle.converter.proofs.zeros.is_short.Lts as lts
 
--- src/zeros.rt:47:1
 returns : tie.Need-returns
 unfolding short
 returns c = refl

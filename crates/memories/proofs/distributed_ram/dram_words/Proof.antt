@@ -13,10 +13,10 @@ use Rattle.memories.proofs.distributed_ram.dram_words.Lts as lts
 use Rattle.memories.proofs.distributed_ram.dram_word.Reads as dram-word-reads
 
 abbrev Inv-loop : tie.InvT-loop
-Inv-loop sigs₀ exprs₀ stmts₀ port owner clock edge now₀ i₀ sigs exprs stmts now i = (i ≤ 16) × (length sigs ≡ length sigs₀) × (length exprs ≡ length exprs₀) × (length stmts ≡ length stmts₀) × Storing (writing port) owner (clock .0) edge (lists sigs₀ exprs₀ stmts₀) now₀ (lists sigs exprs stmts) now i
+Inv-loop signals₀ exprs₀ stmts₀ port owner clock edge now₀ i₀ signals exprs stmts now i = (i ≤ 16) × (length signals ≡ length signals₀) × (length exprs ≡ length exprs₀) × (length stmts ≡ length stmts₀) × Storing (writing port) owner (clock .0) edge (lists signals₀ exprs₀ stmts₀) now₀ (lists signals exprs stmts) now i
 
 abbrev μ-loop : tie.MeasureT-loop
-μ-loop sigs₀ exprs₀ stmts₀ port owner clock edge now₀ i₀ sigs exprs stmts now i = 16 - i
+μ-loop signals₀ exprs₀ stmts₀ port owner clock edge now₀ i₀ signals exprs stmts now i = 16 - i
 
 -- src/distributed_ram.rt:84:5
 loop-holds : tie.Need-loop-holds Inv-loop μ-loop

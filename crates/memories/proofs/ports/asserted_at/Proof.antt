@@ -22,7 +22,7 @@ same-length c = search needs
 
 -- src/ports.rt:69:1
 returns : tie.Need-returns
-returns c = asserted-as (wiresOf (c .before .before .before .before .before .before .before .before .before .args .signals .now) (c .before .before .before .before .before .before .before .before .before .args .places .now)) (c .before .before .before .before .control .ensures) (c .before .before .asserted-expression .ensures)
+returns c = asserted-as (wiresOf (c .before .before .before .before .before .before .before .before .before .args .wires .now) (c .before .before .before .before .before .before .before .before .before .args .places .now)) (c .before .before .before .before .control .ensures) (c .before .before .asserted-expression .ensures)
 
 pub asserted-at-spec : {M : Type 1} → statement M
 asserted-at-spec =

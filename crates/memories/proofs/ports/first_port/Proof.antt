@@ -1,145 +1,137 @@
-use Rattle.memories.proofs.PortLaws.{data-same}
-use Rattle.memories.specs.Rams.{firstExprs}
-use Rattle.wires.specs.Wires.{wiresOf}
-use Rattle.recorder.specs.Lists.{emitted}
-use Rattle.recorder.proofs.Wrote.{wrote-pure, then-done, then-stop}
-use native.Mathlib.Omega.{arith}
 use mathlib.Core.Path.{_≡_, refl, sym, ap, _∙_}
+use native.Mathlib.Omega.{arith}
+use Rattle.recorder.proofs.Wrote.{wrote-pure, then-done, then-stop}
+use Rattle.recorder.specs.Lists.{emitted}
+use Rattle.wires.specs.Wires.{wiresOf}
+use Rattle.memories.specs.Rams.{firstExprs}
+use Rattle.memories.proofs.PortLaws.{data-same}
 use borrow.Author.Needs.{needs}
 use Rattle.memories.proofs.ports.first_port.Statement.{statement}
 use Rattle.memories.proofs.ports.first_port.Tie as tie
 use Rattle.memories.proofs.ports.first_port.Reads as reads
 use Rattle.memories.proofs.ports.first_port.Lts as lts
-use Rattle.memories.proofs.ports.address_at.Reads as address-at-reads
+use Rattle.memories.proofs.ports.address_part.Reads as address-part-reads
 use Rattle.memories.proofs.ports.asserted_at.Reads as asserted-at-reads
 use Rattle.memories.proofs.ports.data_expression.Reads as data-expression-reads
 use Rattle.netlist.proofs.fields.field.Reads as field-reads
 
--- src/ports.rt:99:9
+-- src/ports.rt:127:9
 field-requires : tie.Need-field-requires
 field-requires c κs = search needs
 
--- src/ports.rt:100:11
-address-at-requires : tie.Need-address-at-requires
-address-at-requires c κs = search needs
+-- src/ports.rt:128:11
+address-part-requires : tie.Need-address-part-requires
+address-part-requires c κs = search needs
 
--- src/ports.rt:112:23
+-- src/ports.rt:129:23
 enum-known-writes : tie.Need-enum-known-writes
 enum-known-writes c = search needs
 
--- src/ports.rt:112:44
-address-at-requires-2 : tie.Need-address-at-requires-2
-address-at-requires-2 c κs = search needs
+-- src/ports.rt:129:44
+address-part-requires-2 : tie.Need-address-part-requires-2
+address-part-requires-2 c κs = search needs
 
--- src/ports.rt:124:27
+-- src/ports.rt:130:27
 enum-known-reads : tie.Need-enum-known-reads
 enum-known-reads c = search needs
 
--- src/ports.rt:125:23
+-- src/ports.rt:131:23
 data-expression-requires : tie.Need-data-expression-requires
-data-expression-requires c κs = omega (arith, c .before .before .before .before .before .before .before .before .before .before .before .before .before .before .before .before .before .before .before .before .before .before .before .before .before .before .before .before .pre .1, c .before .before .before .before .before .before .before .before .before .before .before .before .before .before .before .before .before .before .before .before .before .before .field .ensures, c .before .before .before .before .before .before .before .before .before .before .before .before .before .before .before .before .before .before .before .address-at .kept .1 .0, c .before .before .before .before .before .before .before .before .before .address-at2 .kept .1 .0)
+data-expression-requires c κs = omega (arith, c .before .before .before .before .before .before .before .before .before .before .before .before .before .before .before .before .before .before .before .before .before .before .pre .1, c .before .before .before .before .before .before .before .before .before .before .before .before .before .before .before .before .field .ensures)
 
--- src/ports.rt:126:35
+-- src/ports.rt:132:35
 enum-known-input : tie.Need-enum-known-input
 enum-known-input c = search needs
 
--- src/ports.rt:127:31
+-- src/ports.rt:133:31
 asserted-at-requires : tie.Need-asserted-at-requires
 asserted-at-requires c κs = search needs
 
--- src/ports.rt:128:43
+-- src/ports.rt:134:43
 enum-known-asserted : tie.Need-enum-known-asserted
 enum-known-asserted c = search needs
 
--- src/ports.rt:137:46
+-- src/ports.rt:143:46
 enum-known-x : tie.Need-enum-known-x
 enum-known-x c = search needs
 
--- src/ports.rt:140:38
+-- src/ports.rt:146:38
 enum-known-x-2 : tie.Need-enum-known-x-2
 enum-known-x-2 c = search needs
 
--- src/ports.rt:143:30
+-- src/ports.rt:149:30
 enum-known-x-3 : tie.Need-enum-known-x-3
 enum-known-x-3 c = search needs
 
--- src/ports.rt:145:26
+-- src/ports.rt:151:26
 enum-known-x-4 : tie.Need-enum-known-x-4
 enum-known-x-4 c = search needs
 
--- src/ports.rt:85:1
+-- src/ports.rt:111:1
 same-length : tie.Need-same-length
-same-length c = c .before .before .before .before .before .asserted-at .kept .0 ∙ c .before .before .before .before .before .before .before .before .before .before .before .before .before .before .data-expression .kept .0 ∙ c .before .before .before .before .before .before .before .before .before .before .before .before .before .before .before .before .before .before .before .before .before .before .before .before .address-at2 .kept .0 ∙ c .before .before .before .before .before .before .before .before .before .before .before .before .before .before .before .before .before .before .before .before .before .before .before .before .before .before .before .before .before .before .before .before .before .before .address-at .kept .0
+same-length c = c .before .before .before .before .before .asserted-at .kept .0 ∙ c .before .before .before .before .before .before .before .before .before .before .before .before .before .before .data-expression .kept .0 ∙ c .before .before .before .before .before .before .before .before .before .before .before .before .before .before .before .before .before .before .before .before .before .before .address-part2 .kept .0 ∙ c .before .before .before .before .before .before .before .before .before .before .before .before .before .before .before .before .before .before .before .before .before .before .before .before .before .before .before .before .before .address-part .kept .0
 
--- src/ports.rt:85:1
+-- src/ports.rt:111:1
 same-length-2 : tie.Need-same-length-2
-same-length-2 c = c .before .before .before .before .before .before .before .before .before .before .before .before .before .before .data-expression .kept .1 .0 ∙ c .before .before .before .before .before .before .before .before .before .before .before .before .before .before .before .before .before .before .before .before .before .before .before .before .address-at2 .kept .1 .0 ∙ c .before .before .before .before .before .before .before .before .before .before .before .before .before .before .before .before .before .before .before .before .before .before .before .before .before .before .before .before .before .before .before .before .before .before .address-at .kept .1 .0
+same-length-2 c = c .before .before .before .before .before .before .before .before .before .before .before .before .before .before .data-expression .kept .1 .0
 
--- src/ports.rt:85:1
+-- src/ports.rt:111:1
 returns : tie.Need-returns
 unfolding firstExprs
-returns c = λ s m. then-done (c .before .before .before .before .before .before .before .before .before .before .before .before .before .before .before .before .before .before .before .before .before .before .before .before .before .before .before .before .before .before .before .before .before .before .address-at .ensures s m) _ (ap emitted (c .before .before .before .before .before .before .before .before .before .before .before .before .before .before .before .before .before .before .before .before .before .before .before .before .before .before .before .before .writes .given .1)) (then-done (c .before .before .before .before .before .before .before .before .before .before .before .before .before .before .before .before .before .before .before .before .before .before .before .before .address-at2 .ensures s m) _ (ap emitted (c .before .before .before .before .before .before .before .before .before .before .before .before .before .before .before .before .before .before .reads .given .1)) (then-done (data-same (wiresOf (c .before .before .before .before .before .before .before .before .before .before .before .before .before .before .before .before .before .before .before .before .before .before .before .before .before .before .before .before .before .before .before .before .before .before .before .before .before .before .before .before .before .before .before .args .signals .now) (c .before .before .before .before .before .before .before .before .before .before .before .before .before .before .before .before .before .before .before .before .before .before .before .before .before .before .before .before .before .before .before .before .before .before .before .before .before .before .before .before .before .before .before .args .places .now)) (c .before .before .before .before .before .before .before .before .before .before .before .before .before .before .before .before .before .before .before .before .before .before .before .before .before .before .before .before .before .before .before .before .before .before .before .before .before .before .before .before .before .before .before .args .words .now) refl (c .before .before .before .before .before .before .before .before .before .before .before .before .before .before .before .before .before .before .before .before .before .before .before .before .before .before .before .before .before .before .before .before .before .before .before .before .before .field .ensures) (c .before .before .before .before .before .before .before .before .before .before .before .before .before .before .data-expression .ensures) s m) _ (ap emitted (c .before .before .before .before .before .before .before .before .input .given .1)) (then-done (c .before .before .before .before .before .asserted-at .ensures s m) _ (ap emitted (c .before .asserted .given .1)) wrote-pure)))
+returns c = λ s m. then-done (c .before .before .before .before .before .before .before .before .before .before .before .before .before .before .before .before .before .before .before .before .before .before .before .before .before .before .before .before .before .address-part .ensures s m) _ (ap emitted (c .before .before .before .before .before .before .before .before .before .before .before .before .before .before .before .before .before .before .before .before .before .before .before .before .before .writes .given .1)) (then-done (c .before .before .before .before .before .before .before .before .before .before .before .before .before .before .before .before .before .before .before .before .before .before .address-part2 .ensures s m) _ (ap emitted (c .before .before .before .before .before .before .before .before .before .before .before .before .before .before .before .before .before .before .reads .given .1)) (then-done (data-same (wiresOf (c .before .before .before .before .before .before .before .before .before .before .before .before .before .before .before .before .before .before .before .before .before .before .before .before .before .before .before .before .before .before .before .before .before .before .before .before .before .args .wires .now) (c .before .before .before .before .before .before .before .before .before .before .before .before .before .before .before .before .before .before .before .before .before .before .before .before .before .before .before .before .before .before .before .before .before .before .before .before .before .args .places .now)) (c .before .before .before .before .before .before .before .before .before .before .before .before .before .before .before .before .before .before .before .before .before .before .before .before .before .before .before .before .before .before .before .before .before .before .before .before .before .args .words .now) refl (c .before .before .before .before .before .before .before .before .before .before .before .before .before .before .before .before .before .before .before .before .before .before .before .before .before .before .before .before .before .before .before .field .ensures) (c .before .before .before .before .before .before .before .before .before .before .before .before .before .before .data-expression .ensures) s m) _ (ap emitted (c .before .before .before .before .before .before .before .before .input .given .1)) (then-done (c .before .before .before .before .before .asserted-at .ensures s m) _ (ap emitted (c .before .asserted .given .1)) wrote-pure)))
 
--- src/ports.rt:85:1
+-- src/ports.rt:111:1
 same-length-3 : tie.Need-same-length-3
-same-length-3 c = c .before .before .before .before .before .asserted-at .kept .0 ∙ c .before .before .before .before .before .before .before .before .before .before .before .before .before .before .data-expression .kept .0 ∙ c .before .before .before .before .before .before .before .before .before .before .before .before .before .before .before .before .before .before .before .before .before .before .before .before .address-at2 .kept .0 ∙ c .before .before .before .before .before .before .before .before .before .before .before .before .before .before .before .before .before .before .before .before .before .before .before .before .before .before .before .before .before .before .before .before .before .before .address-at .kept .0
+same-length-3 c = c .before .before .before .before .before .asserted-at .kept .0 ∙ c .before .before .before .before .before .before .before .before .before .before .before .before .before .before .data-expression .kept .0 ∙ c .before .before .before .before .before .before .before .before .before .before .before .before .before .before .before .before .before .before .before .before .before .before .address-part2 .kept .0 ∙ c .before .before .before .before .before .before .before .before .before .before .before .before .before .before .before .before .before .before .before .before .before .before .before .before .before .before .before .before .before .address-part .kept .0
 
--- src/ports.rt:85:1
+-- src/ports.rt:111:1
 same-length-4 : tie.Need-same-length-4
-same-length-4 c = c .before .before .before .before .before .before .before .before .before .before .before .before .before .before .data-expression .kept .1 .0 ∙ c .before .before .before .before .before .before .before .before .before .before .before .before .before .before .before .before .before .before .before .before .before .before .before .before .address-at2 .kept .1 .0 ∙ c .before .before .before .before .before .before .before .before .before .before .before .before .before .before .before .before .before .before .before .before .before .before .before .before .before .before .before .before .before .before .before .before .before .before .address-at .kept .1 .0
+same-length-4 c = c .before .before .before .before .before .before .before .before .before .before .before .before .before .before .data-expression .kept .1 .0
 
--- src/ports.rt:85:1
+-- src/ports.rt:111:1
 returns-2 : tie.Need-returns-2
 unfolding firstExprs
-returns-2 c = λ s m. then-done (c .before .before .before .before .before .before .before .before .before .before .before .before .before .before .before .before .before .before .before .before .before .before .before .before .before .before .before .before .before .before .before .before .before .before .address-at .ensures s m) _ (ap emitted (c .before .before .before .before .before .before .before .before .before .before .before .before .before .before .before .before .before .before .before .before .before .before .before .before .before .before .before .before .writes .given .1)) (then-done (c .before .before .before .before .before .before .before .before .before .before .before .before .before .before .before .before .before .before .before .before .before .before .before .before .address-at2 .ensures s m) _ (ap emitted (c .before .before .before .before .before .before .before .before .before .before .before .before .before .before .before .before .before .before .reads .given .1)) (then-done (data-same (wiresOf (c .before .before .before .before .before .before .before .before .before .before .before .before .before .before .before .before .before .before .before .before .before .before .before .before .before .before .before .before .before .before .before .before .before .before .before .before .before .before .before .before .before .before .before .args .signals .now) (c .before .before .before .before .before .before .before .before .before .before .before .before .before .before .before .before .before .before .before .before .before .before .before .before .before .before .before .before .before .before .before .before .before .before .before .before .before .before .before .before .before .before .before .args .places .now)) (c .before .before .before .before .before .before .before .before .before .before .before .before .before .before .before .before .before .before .before .before .before .before .before .before .before .before .before .before .before .before .before .before .before .before .before .before .before .before .before .before .before .before .before .args .words .now) refl (c .before .before .before .before .before .before .before .before .before .before .before .before .before .before .before .before .before .before .before .before .before .before .before .before .before .before .before .before .before .before .before .before .before .before .before .before .before .field .ensures) (c .before .before .before .before .before .before .before .before .before .before .before .before .before .before .data-expression .ensures) s m) _ (ap emitted (c .before .before .before .before .before .before .before .before .input .given .1)) (then-stop (c .before .before .before .before .before .asserted-at .ensures s m) _ (ap emitted (c .before .x .given .1)))))
+returns-2 c = λ s m. then-done (c .before .before .before .before .before .before .before .before .before .before .before .before .before .before .before .before .before .before .before .before .before .before .before .before .before .before .before .before .before .address-part .ensures s m) _ (ap emitted (c .before .before .before .before .before .before .before .before .before .before .before .before .before .before .before .before .before .before .before .before .before .before .before .before .before .writes .given .1)) (then-done (c .before .before .before .before .before .before .before .before .before .before .before .before .before .before .before .before .before .before .before .before .before .before .address-part2 .ensures s m) _ (ap emitted (c .before .before .before .before .before .before .before .before .before .before .before .before .before .before .before .before .before .before .reads .given .1)) (then-done (data-same (wiresOf (c .before .before .before .before .before .before .before .before .before .before .before .before .before .before .before .before .before .before .before .before .before .before .before .before .before .before .before .before .before .before .before .before .before .before .before .before .before .args .wires .now) (c .before .before .before .before .before .before .before .before .before .before .before .before .before .before .before .before .before .before .before .before .before .before .before .before .before .before .before .before .before .before .before .before .before .before .before .before .before .args .places .now)) (c .before .before .before .before .before .before .before .before .before .before .before .before .before .before .before .before .before .before .before .before .before .before .before .before .before .before .before .before .before .before .before .before .before .before .before .before .before .args .words .now) refl (c .before .before .before .before .before .before .before .before .before .before .before .before .before .before .before .before .before .before .before .before .before .before .before .before .before .before .before .before .before .before .before .field .ensures) (c .before .before .before .before .before .before .before .before .before .before .before .before .before .before .data-expression .ensures) s m) _ (ap emitted (c .before .before .before .before .before .before .before .before .input .given .1)) (then-stop (c .before .before .before .before .before .asserted-at .ensures s m) _ (ap emitted (c .before .x .given .1)))))
 
--- src/ports.rt:85:1
+-- src/ports.rt:111:1
 same-length-5 : tie.Need-same-length-5
-same-length-5 c = c .before .before .before .before .before .before .before .data-expression .kept .0 ∙ c .before .before .before .before .before .before .before .before .before .before .before .before .before .before .before .before .before .address-at2 .kept .0 ∙ c .before .before .before .before .before .before .before .before .before .before .before .before .before .before .before .before .before .before .before .before .before .before .before .before .before .before .before .address-at .kept .0
+same-length-5 c = c .before .before .before .before .before .before .before .data-expression .kept .0 ∙ c .before .before .before .before .before .before .before .before .before .before .before .before .before .before .before .address-part2 .kept .0 ∙ c .before .before .before .before .before .before .before .before .before .before .before .before .before .before .before .before .before .before .before .before .before .before .address-part .kept .0
 
--- src/ports.rt:85:1
+-- src/ports.rt:111:1
 same-length-6 : tie.Need-same-length-6
-same-length-6 c = c .before .before .before .before .before .before .before .data-expression .kept .1 .0 ∙ c .before .before .before .before .before .before .before .before .before .before .before .before .before .before .before .before .before .address-at2 .kept .1 .0 ∙ c .before .before .before .before .before .before .before .before .before .before .before .before .before .before .before .before .before .before .before .before .before .before .before .before .before .before .before .address-at .kept .1 .0
+same-length-6 c = c .before .before .before .before .before .before .before .data-expression .kept .1 .0
 
--- src/ports.rt:85:1
+-- src/ports.rt:111:1
 returns-3 : tie.Need-returns-3
 unfolding firstExprs
-returns-3 c = λ s m. then-done (c .before .before .before .before .before .before .before .before .before .before .before .before .before .before .before .before .before .before .before .before .before .before .before .before .before .before .before .address-at .ensures s m) _ (ap emitted (c .before .before .before .before .before .before .before .before .before .before .before .before .before .before .before .before .before .before .before .before .before .writes .given .1)) (then-done (c .before .before .before .before .before .before .before .before .before .before .before .before .before .before .before .before .before .address-at2 .ensures s m) _ (ap emitted (c .before .before .before .before .before .before .before .before .before .before .before .reads .given .1)) (then-stop (data-same (wiresOf (c .before .before .before .before .before .before .before .before .before .before .before .before .before .before .before .before .before .before .before .before .before .before .before .before .before .before .before .before .before .before .before .before .before .before .before .before .args .signals .now) (c .before .before .before .before .before .before .before .before .before .before .before .before .before .before .before .before .before .before .before .before .before .before .before .before .before .before .before .before .before .before .before .before .before .before .before .before .args .places .now)) (c .before .before .before .before .before .before .before .before .before .before .before .before .before .before .before .before .before .before .before .before .before .before .before .before .before .before .before .before .before .before .before .before .before .before .before .before .args .words .now) refl (c .before .before .before .before .before .before .before .before .before .before .before .before .before .before .before .before .before .before .before .before .before .before .before .before .before .before .before .before .before .before .field .ensures) (c .before .before .before .before .before .before .before .data-expression .ensures) s m) _ (ap emitted (c .before .x2 .given .1))))
+returns-3 c = λ s m. then-done (c .before .before .before .before .before .before .before .before .before .before .before .before .before .before .before .before .before .before .before .before .before .before .address-part .ensures s m) _ (ap emitted (c .before .before .before .before .before .before .before .before .before .before .before .before .before .before .before .before .before .before .writes .given .1)) (then-done (c .before .before .before .before .before .before .before .before .before .before .before .before .before .before .before .address-part2 .ensures s m) _ (ap emitted (c .before .before .before .before .before .before .before .before .before .before .before .reads .given .1)) (then-stop (data-same (wiresOf (c .before .before .before .before .before .before .before .before .before .before .before .before .before .before .before .before .before .before .before .before .before .before .before .before .before .before .before .before .before .before .args .wires .now) (c .before .before .before .before .before .before .before .before .before .before .before .before .before .before .before .before .before .before .before .before .before .before .before .before .before .before .before .before .before .before .args .places .now)) (c .before .before .before .before .before .before .before .before .before .before .before .before .before .before .before .before .before .before .before .before .before .before .before .before .before .before .before .before .before .before .args .words .now) refl (c .before .before .before .before .before .before .before .before .before .before .before .before .before .before .before .before .before .before .before .before .before .before .before .before .field .ensures) (c .before .before .before .before .before .before .before .data-expression .ensures) s m) _ (ap emitted (c .before .x2 .given .1))))
 
--- src/ports.rt:85:1
+-- src/ports.rt:111:1
 same-length-7 : tie.Need-same-length-7
-same-length-7 c = search needs
+same-length-7 c = c .before .before .before .before .before .address-part2 .kept .0 ∙ c .before .before .before .before .before .before .before .before .before .before .before .before .address-part .kept .0
 
--- src/ports.rt:85:1
-same-length-8 : tie.Need-same-length-8
-same-length-8 c = search needs
-
--- src/ports.rt:85:1
+-- src/ports.rt:111:1
 returns-4 : tie.Need-returns-4
 unfolding firstExprs
-returns-4 c = λ s m. then-done (c .before .before .before .before .before .before .before .before .before .before .before .before .before .before .before .before .before .address-at .ensures s m) _ (ap emitted (c .before .before .before .before .before .before .before .before .before .before .before .writes .given .1)) (then-stop (c .before .before .before .before .before .before .before .address-at2 .ensures s m) _ (ap emitted (c .before .x3 .given .1)))
+returns-4 c = λ s m. then-done (c .before .before .before .before .before .before .before .before .before .before .before .before .address-part .ensures s m) _ (ap emitted (c .before .before .before .before .before .before .before .before .writes .given .1)) (then-stop (c .before .before .before .before .before .address-part2 .ensures s m) _ (ap emitted (c .before .x3 .given .1)))
 
--- src/ports.rt:85:1
-same-length-9 : tie.Need-same-length-9
-same-length-9 c = search needs
+-- src/ports.rt:111:1
+same-length-8 : tie.Need-same-length-8
+same-length-8 c = c .before .before .before .before .before .address-part .kept .0
 
--- src/ports.rt:85:1
-same-length-10 : tie.Need-same-length-10
-same-length-10 c = search needs
-
--- src/ports.rt:85:1
+-- src/ports.rt:111:1
 returns-5 : tie.Need-returns-5
 unfolding firstExprs
-returns-5 c = λ s m. then-stop (c .before .before .before .before .before .before .before .address-at .ensures s m) _ (ap emitted (c .before .x4 .given .1))
+returns-5 c = λ s m. then-stop (c .before .before .before .before .before .address-part .ensures s m) _ (ap emitted (c .before .x4 .given .1))
 
 pub first-port-spec : {M : Type 1} → statement M
 first-port-spec =
     tie.close
     (tie.spec
     field-requires
-    address-at-requires
+    address-part-requires
     enum-known-writes
-    address-at-requires-2
+    address-part-requires-2
     enum-known-reads
     data-expression-requires
     enum-known-input
@@ -159,8 +151,6 @@ first-port-spec =
     same-length-6
     returns-3
     same-length-7
-    same-length-8
     returns-4
-    same-length-9
-    same-length-10
+    same-length-8
     returns-5)

@@ -16,15 +16,15 @@ use Rattle.address_mux.proofs.address.match_address.Reads as match-address-read
 use Rattle.netlist.proofs.fields.wide.Reads as wide-reads
 
 abbrev Inv-loop : tie.InvT-loop
-Inv-loop exprs₀ matched₀ value₀ words reads address current₀ now₀ i₀ exprs matched value current now i = (i ≤ words .depth) × (words .depth ≤ length matched₀) × (words .depth ≤ length value₀) × (length matched ≡ length matched₀) × (length value ≡ length value₀) × (length exprs ≡ length exprs₀)
-    × Gathering (reads .0) address (words .signal .0) (words .last) (words .depth) (candidatesFrom (reads .0) address 0 (wordsOf words) []) exprs₀ now₀ exprs now matched value current i
+Inv-loop exprs₀ parts₀ values₀ words reads address current₀ now₀ i₀ exprs parts values current now i = (i ≤ words .depth) × (words .depth ≤ length parts₀) × (words .depth ≤ length values₀) × (length parts ≡ length parts₀) × (length values ≡ length values₀) × (length exprs ≡ length exprs₀)
+    × Gathering (reads .0) address (words .signal .0) (words .last) (words .depth) (candidatesFrom (reads .0) address 0 (wordsOf words) []) exprs₀ now₀ exprs now parts values current i
 
 abbrev μ-loop : tie.MeasureT-loop
-μ-loop exprs₀ matched₀ value₀ words reads address current₀ now₀ i₀ exprs matched value current now i = words .depth - i
+μ-loop exprs₀ parts₀ values₀ words reads address current₀ now₀ i₀ exprs parts values current now i = words .depth - i
 
 -- src/ram_words.rt:152:5
 loop-holds : tie.Need-loop-holds Inv-loop μ-loop
-loop-holds c = (search needs, c .before .before .before .pre .0, c .before .before .before .pre .1, search needs, search needs, search needs, gathering-start (c .before .before .before .args .matched .now) (c .before .before .before .args .value .now) (c .before .before .before .args .words .current .0) refl (c .before .before .before .pre .2 .exprs))
+loop-holds c = (search needs, c .before .before .before .pre .0, c .before .before .before .pre .1, search needs, search needs, search needs, gathering-start (c .before .before .before .args .parts .now) (c .before .before .before .args .values .now) (c .before .before .before .args .words .current .0) refl (c .before .before .before .pre .2 .exprs))
 
 -- src/ram_words.rt:153:15
 match-address-requires : tie.Need-match-address-requires Inv-loop μ-loop
@@ -39,20 +39,20 @@ wide-requires : tie.Need-wide-requires Inv-loop μ-loop
 wide-requires c κs = search needs
 
 -- src/ram_words.rt:156:17
-mul-matched : tie.Need-mul-matched Inv-loop μ-loop
-mul-matched c = omega (arith, c .before .before .before .before .before .before .before .before .before .before .before .before .before .before .good .1 .0 .1, c .before .before .before .before .before .before .before .before .before .before .loop .inv .1, c .before .before .before .before .before .before .before .before .before .before .loop .inv .0, c .before .before .before .before .before .before .before .before .if1 .taken)
+mul-parts : tie.Need-mul-parts Inv-loop μ-loop
+mul-parts c = omega (arith, c .before .before .before .before .before .before .before .before .before .before .before .before .before .before .good .1 .0 .1, c .before .before .before .before .before .before .before .before .before .before .loop .inv .1, c .before .before .before .before .before .before .before .before .before .before .loop .inv .0, c .before .before .before .before .before .before .before .before .if1 .taken)
 
 -- src/ram_words.rt:156:17
-slice-write-matched : tie.Need-slice-write-matched Inv-loop μ-loop
-slice-write-matched c = omega (arith, c .before .before .before .before .before .before .before .before .before .before .loop .inv .1, c .before .before .before .before .before .before .before .before .before .before .loop .inv .3, c .before .before .before .before .before .before .before .before .if1 .taken)
+slice-write-parts : tie.Need-slice-write-parts Inv-loop μ-loop
+slice-write-parts c = omega (arith, c .before .before .before .before .before .before .before .before .before .before .loop .inv .1, c .before .before .before .before .before .before .before .before .before .before .loop .inv .3, c .before .before .before .before .before .before .before .before .if1 .taken)
 
 -- src/ram_words.rt:157:17
-mul-value : tie.Need-mul-value Inv-loop μ-loop
-mul-value c = omega (arith, c .before .before .before .before .before .before .before .before .before .before .before .before .before .before .good .1 .0 .1, c .before .before .before .before .before .before .before .before .before .before .loop .inv .1, c .before .before .before .before .before .before .before .before .before .before .loop .inv .0, c .before .before .before .before .before .before .before .before .if1 .taken)
+mul-values : tie.Need-mul-values Inv-loop μ-loop
+mul-values c = omega (arith, c .before .before .before .before .before .before .before .before .before .before .before .before .before .before .good .1 .0 .1, c .before .before .before .before .before .before .before .before .before .before .loop .inv .1, c .before .before .before .before .before .before .before .before .before .before .loop .inv .0, c .before .before .before .before .before .before .before .before .if1 .taken)
 
 -- src/ram_words.rt:157:17
-slice-write-value : tie.Need-slice-write-value Inv-loop μ-loop
-slice-write-value c = omega (arith, c .before .before .before .before .before .before .before .before .before .before .loop .inv .2, c .before .before .before .before .before .before .before .before .before .before .loop .inv .4, c .before .before .before .before .before .before .before .before .if1 .taken)
+slice-write-values : tie.Need-slice-write-values Inv-loop μ-loop
+slice-write-values c = omega (arith, c .before .before .before .before .before .before .before .before .before .before .loop .inv .2, c .before .before .before .before .before .before .before .before .before .before .loop .inv .4, c .before .before .before .before .before .before .before .before .if1 .taken)
 
 -- src/ram_words.rt:160:30
 enum-known-x : tie.Need-enum-known-x Inv-loop μ-loop
@@ -120,10 +120,10 @@ candidates-spec =
     match-address-requires
     enum-known-found
     wide-requires
-    mul-matched
-    slice-write-matched
-    mul-value
-    slice-write-value
+    mul-parts
+    slice-write-parts
+    mul-values
+    slice-write-values
     enum-known-x
     same-length
     same-length-2

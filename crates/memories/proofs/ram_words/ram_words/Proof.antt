@@ -12,10 +12,10 @@ use Rattle.memories.proofs.ram_words.ram_words.Lts as lts
 use Rattle.memories.proofs.ram_words.ram_word.Reads as ram-word-reads
 
 abbrev Inv-loop : tie.InvT-loop
-Inv-loop sigs₀ exprs₀ first second owner width address depth now₀ i₀ sigs exprs now i = (i ≤ depth) × (length sigs ≡ length sigs₀) × (length exprs ≡ length exprs₀) × Filling (writing first) second owner width address depth sigs₀ exprs₀ now₀ sigs exprs now i
+Inv-loop signals₀ exprs₀ first second owner width address depth now₀ i₀ signals exprs now i = (i ≤ depth) × (length signals ≡ length signals₀) × (length exprs ≡ length exprs₀) × Filling (writing first) second owner width address depth signals₀ exprs₀ now₀ signals exprs now i
 
 abbrev μ-loop : tie.MeasureT-loop
-μ-loop sigs₀ exprs₀ first second owner width address depth now₀ i₀ sigs exprs now i = depth - i
+μ-loop signals₀ exprs₀ first second owner width address depth now₀ i₀ signals exprs now i = depth - i
 
 -- src/ram_words.rt:124:5
 loop-holds : tie.Need-loop-holds Inv-loop μ-loop

@@ -53,7 +53,7 @@ same-length c = search needs
 
 -- src/read_port.rt:97:1
 returns : tie.Need-returns
-returns c = λ s e. wrote-as (read-always (wiresOf (c .before .before .before .before .before .before .before .before .before .before .before .before .before .before .args .signals .now) (c .before .before .before .before .before .before .before .before .before .before .before .before .before .before .args .places .now)) (c .before .before .before .before .before .before .before .before .before .before .before .before .before .before .args .constants) (c .before .before .before .before .before .before .before .before .before .before .before .before .before .before .args .output) (c .before .before .before .before .before .before .before .before .before .before .before .before .before .before .args .value .0) (c .before .before .before .before .before .before .before .before .before .before .before .before .before .before .args .clock .0) (c .before .before .before .before .before .before .before .before .before .before .before .before .before .before .args .edge) (sym (c .before .before .before .before .before .before .before .before .before .before .wire-ref .ensures) ∙ ap foundOf (c .before .before .before .before .before .before .before .before .r .given .1)) (c .before .before .before .before .enum-told .given .1)) (c .before .before .register .ensures s e)
+returns c = λ s e. wrote-as (read-always (wiresOf (c .before .before .before .before .before .before .before .before .before .before .before .before .before .before .args .wires .now) (c .before .before .before .before .before .before .before .before .before .before .before .before .before .before .args .places .now)) (c .before .before .before .before .before .before .before .before .before .before .before .before .before .before .args .constants) (c .before .before .before .before .before .before .before .before .before .before .before .before .before .before .args .output) (c .before .before .before .before .before .before .before .before .before .before .before .before .before .before .args .value .0) (c .before .before .before .before .before .before .before .before .before .before .before .before .before .before .args .clock .0) (c .before .before .before .before .before .before .before .before .before .before .before .before .before .before .args .edge) (sym (c .before .before .before .before .before .before .before .before .before .before .wire-ref .ensures) ∙ ap foundOf (c .before .before .before .before .before .before .before .before .r .given .1)) (c .before .before .before .before .enum-told .given .1)) (c .before .before .register .ensures s e)
 
 -- src/read_port.rt:97:1
 same-length-2 : tie.Need-same-length-2
@@ -61,11 +61,11 @@ same-length-2 c = search needs
 
 -- src/read_port.rt:97:1
 returns-2 : tie.Need-returns-2
-returns-2 c = λ s e. wrote-as (read-enabled (wiresOf (c .before .before .before .before .before .before .before .before .before .before .before .before .before .before .before .args .signals .now) (c .before .before .before .before .before .before .before .before .before .before .before .before .before .before .before .args .places .now)) (c .before .before .before .before .before .before .before .before .before .before .before .before .before .before .before .args .constants) (c .before .before .before .before .before .before .before .before .before .before .before .before .before .before .before .args .output) (c .before .before .before .before .before .before .before .before .before .before .before .before .before .before .before .args .value .0) (c .before .before .before .before .before .before .before .before .before .before .before .before .before .before .before .args .clock .0) (c .before .before .before .before .before .before .before .before .before .before .before .before .before .before .before .args .edge) (sym (c .before .before .before .before .before .before .before .before .before .before .before .wire-ref .ensures) ∙ ap foundOf (c .before .before .before .before .before .before .before .before .before .r .given .1)) (c .before .before .before .before .before .enable .given .1)) (c .before .before .enabled-register .ensures s e)
+returns-2 c = λ s e. wrote-as (read-enabled (wiresOf (c .before .before .before .before .before .before .before .before .before .before .before .before .before .before .before .args .wires .now) (c .before .before .before .before .before .before .before .before .before .before .before .before .before .before .before .args .places .now)) (c .before .before .before .before .before .before .before .before .before .before .before .before .before .before .before .args .constants) (c .before .before .before .before .before .before .before .before .before .before .before .before .before .before .before .args .output) (c .before .before .before .before .before .before .before .before .before .before .before .before .before .before .before .args .value .0) (c .before .before .before .before .before .before .before .before .before .before .before .before .before .before .before .args .clock .0) (c .before .before .before .before .before .before .before .before .before .before .before .before .before .before .before .args .edge) (sym (c .before .before .before .before .before .before .before .before .before .before .before .wire-ref .ensures) ∙ ap foundOf (c .before .before .before .before .before .before .before .before .before .r .given .1)) (c .before .before .before .before .before .enable .given .1)) (c .before .before .enabled-register .ensures s e)
 
 -- src/read_port.rt:97:1
 returns-3 : tie.Need-returns-3
-returns-3 c = λ s e. wrote-as (read-missing (wiresOf (c .before .before .before .before .before .before .before .args .signals .now) (c .before .before .before .before .before .before .before .args .places .now)) (c .before .before .before .before .before .before .before .args .constants) (c .before .before .before .before .before .before .before .args .output) (c .before .before .before .before .before .before .before .args .value .0) (c .before .before .before .before .before .before .before .args .clock .0) (c .before .before .before .before .before .before .before .args .edge) (presence (c .before .before .before .before .before .before .before .args .enable)) (sym (c .before .before .before .wire-ref .ensures) ∙ ap foundOf (c .before .enum-told2 .given .1)) ∙ ap (λ (x : ℕ). refuse 8 x) (sym (c .wide .ensures))) wrote-refuse
+returns-3 c = λ s e. wrote-as (read-missing (wiresOf (c .before .before .before .before .before .before .before .args .wires .now) (c .before .before .before .before .before .before .before .args .places .now)) (c .before .before .before .before .before .before .before .args .constants) (c .before .before .before .before .before .before .before .args .output) (c .before .before .before .before .before .before .before .args .value .0) (c .before .before .before .before .before .before .before .args .clock .0) (c .before .before .before .before .before .before .before .args .edge) (presence (c .before .before .before .before .before .before .before .args .enable)) (sym (c .before .before .before .wire-ref .ensures) ∙ ap foundOf (c .before .enum-told2 .given .1)) ∙ ap (λ (x : ℕ). refuse 8 x) (sym (c .wide .ensures))) wrote-refuse
 
 pub read-register-spec : {M : Type 1} → statement M
 read-register-spec =

@@ -40,11 +40,11 @@ same-length c = search needs
 
 -- src/expressions.rt:86:1
 returns : tie.Need-returns
-returns c = λ s e. wrote-as (assign-held (wiresOf (c .before .before .before .before .before .before .before .before .before .before .before .args .signals .now) (c .before .before .before .before .before .before .before .before .before .before .before .args .places .now)) (c .before .before .before .before .before .before .before .before .before .before .before .args .value .0) (sym (c .before .before .before .before .before .before .before .wire-ref .ensures) ∙ ap foundOf (c .before .before .before .before .before .r .given .1))) (c .before .before .assign .ensures s e)
+returns c = λ s e. wrote-as (assign-held (wiresOf (c .before .before .before .before .before .before .before .before .before .before .before .args .wires .now) (c .before .before .before .before .before .before .before .before .before .before .before .args .places .now)) (c .before .before .before .before .before .before .before .before .before .before .before .args .value .0) (sym (c .before .before .before .before .before .before .before .wire-ref .ensures) ∙ ap foundOf (c .before .before .before .before .before .r .given .1))) (c .before .before .assign .ensures s e)
 
 -- src/expressions.rt:86:1
 returns-2 : tie.Need-returns-2
-returns-2 c = λ s e. wrote-as (assign-missing (wiresOf (c .before .before .before .before .before .before .before .args .signals .now) (c .before .before .before .before .before .before .before .args .places .now)) (c .before .before .before .before .before .before .before .args .value .0) (sym (c .before .before .before .wire-ref .ensures) ∙ ap foundOf (c .before .enum-told .given .1)) ∙ ap (λ (x : ℕ). refuse 8 x) (sym (c .wide .ensures))) wrote-refuse
+returns-2 c = λ s e. wrote-as (assign-missing (wiresOf (c .before .before .before .before .before .before .before .args .wires .now) (c .before .before .before .before .before .before .before .args .places .now)) (c .before .before .before .before .before .before .before .args .value .0) (sym (c .before .before .before .wire-ref .ensures) ∙ ap foundOf (c .before .enum-told .given .1)) ∙ ap (λ (x : ℕ). refuse 8 x) (sym (c .wide .ensures))) wrote-refuse
 
 pub assign-wire-spec : {M : Type 1} → statement M
 assign-wire-spec =

@@ -15,11 +15,9 @@ use Rattle.netlist.proofs.fields.wide.Reads as wide-reads
 use Rattle.recorder.proofs.builder.read.Reads as read-reads
 use Rattle.wires.proofs.map.wire_ref.Reads as wire-ref-reads
 
--- /work/main/target/rlib/recorder.rlib/interface/lang/src/lib.rt:7:27
 enum-told : tie.Need-enum-told
 enum-told c = search needs
 
--- /work/main/target/rlib/recorder.rlib/interface/lang/src/lib.rt:8:26
 enum-told-2 : tie.Need-enum-told-2
 enum-told-2 c = search needs
 
@@ -50,12 +48,12 @@ wide-requires c κs = search needs
 -- src/expressions.rt:25:1
 returns : tie.Need-returns
 unfolding bitExpression
-returns c = λ s m. wrote-as (ap (bitExpression (wiresOf (c .before .before .before .before .before .args .signals .now) (c .before .before .before .before .before .args .places .now))) (c .enum-told .given .1)) wrote-pure
+returns c = λ s m. wrote-as (ap (bitExpression (wiresOf (c .before .before .before .before .before .args .wires .now) (c .before .before .before .before .before .args .places .now))) (c .enum-told .given .1)) wrote-pure
 
 -- src/expressions.rt:25:1
 returns-2 : tie.Need-returns-2
 unfolding bitExpression
-returns-2 c = λ s m. wrote-as (ap (bitExpression (wiresOf (c .before .before .before .before .before .args .signals .now) (c .before .before .before .before .before .args .places .now))) (c .enum-told2 .given .1)) wrote-pure
+returns-2 c = λ s m. wrote-as (ap (bitExpression (wiresOf (c .before .before .before .before .before .args .wires .now) (c .before .before .before .before .before .args .places .now))) (c .enum-told2 .given .1)) wrote-pure
 
 -- src/expressions.rt:25:1
 same-length : tie.Need-same-length
@@ -63,11 +61,11 @@ same-length c = search needs
 
 -- src/expressions.rt:25:1
 returns-3 : tie.Need-returns-3
-returns-3 c = λ s m. wrote-as (ap (bitExpression (wiresOf (c .before .before .before .before .before .before .before .before .before .before .before .before .before .before .args .signals .now) (c .before .before .before .before .before .before .before .before .before .before .before .before .before .before .args .places .now))) (c .before .before .before .before .before .before .before .before .before .bit .given .1) ∙ bit-held (wiresOf (c .before .before .before .before .before .before .before .before .before .before .before .before .before .before .args .signals .now) (c .before .before .before .before .before .before .before .before .before .before .before .before .before .before .args .places .now)) (sym (c .before .before .before .before .before .before .before .wire-ref .ensures) ∙ ap foundOf (c .before .before .before .before .before .r .given .1))) (c .before .before .read .ensures s m)
+returns-3 c = λ s m. wrote-as (ap (bitExpression (wiresOf (c .before .before .before .before .before .before .before .before .before .before .before .before .before .before .args .wires .now) (c .before .before .before .before .before .before .before .before .before .before .before .before .before .before .args .places .now))) (c .before .before .before .before .before .before .before .before .before .bit .given .1) ∙ bit-held (wiresOf (c .before .before .before .before .before .before .before .before .before .before .before .before .before .before .args .wires .now) (c .before .before .before .before .before .before .before .before .before .before .before .before .before .before .args .places .now)) (sym (c .before .before .before .before .before .before .before .wire-ref .ensures) ∙ ap foundOf (c .before .before .before .before .before .r .given .1))) (c .before .before .read .ensures s m)
 
 -- src/expressions.rt:25:1
 returns-4 : tie.Need-returns-4
-returns-4 c = λ s m. wrote-as (ap (bitExpression (wiresOf (c .before .before .before .before .before .before .before .before .before .before .args .signals .now) (c .before .before .before .before .before .before .before .before .before .before .args .places .now))) (c .before .before .before .before .before .bit .given .1) ∙ bit-missing (wiresOf (c .before .before .before .before .before .before .before .before .before .before .args .signals .now) (c .before .before .before .before .before .before .before .before .before .before .args .places .now)) (sym (c .before .before .before .wire-ref .ensures) ∙ ap foundOf (c .before .enum-told3 .given .1)) ∙ ap (λ (x : ℕ). refuse 8 x) (sym (c .wide .ensures))) wrote-refuse
+returns-4 c = λ s m. wrote-as (ap (bitExpression (wiresOf (c .before .before .before .before .before .before .before .before .before .before .args .wires .now) (c .before .before .before .before .before .before .before .before .before .before .args .places .now))) (c .before .before .before .before .before .bit .given .1) ∙ bit-missing (wiresOf (c .before .before .before .before .before .before .before .before .before .before .args .wires .now) (c .before .before .before .before .before .before .before .before .before .before .args .places .now)) (sym (c .before .before .before .wire-ref .ensures) ∙ ap foundOf (c .before .enum-told3 .given .1)) ∙ ap (λ (x : ℕ). refuse 8 x) (sym (c .wide .ensures))) wrote-refuse
 
 pub bit-expression-spec : {M : Type 1} → statement M
 bit-expression-spec =

@@ -52,20 +52,20 @@ wide-requires c κs = search needs
 -- src/expressions.rt:59:1
 returns : tie.Need-returns
 unfolding bitSignal
-returns c = reads-as (wiresOf (c .before .before .before .before .before .before .args .signals .now) (c .before .before .before .before .before .before .args .places .now)) (c .before .before .before .before .before .before .args .constants) (Signal (c .before .before .before .before .before .before .args .constants .zero)) (c .enum-told .given .1) (record { reads = λ n. refl })
+returns c = reads-as (wiresOf (c .before .before .before .before .before .before .args .wires .now) (c .before .before .before .before .before .before .args .places .now)) (c .before .before .before .before .before .before .args .constants) (Signal (c .before .before .before .before .before .before .args .constants .zero)) (c .enum-told .given .1) (record { reads = λ n. refl })
 
 -- src/expressions.rt:59:1
 returns-2 : tie.Need-returns-2
 unfolding bitSignal
-returns-2 c = reads-as (wiresOf (c .before .before .before .before .before .before .args .signals .now) (c .before .before .before .before .before .before .args .places .now)) (c .before .before .before .before .before .before .args .constants) (Signal (c .before .before .before .before .before .before .args .constants .one)) (c .enum-told2 .given .1) (record { reads = λ n. refl })
+returns-2 c = reads-as (wiresOf (c .before .before .before .before .before .before .args .wires .now) (c .before .before .before .before .before .before .args .places .now)) (c .before .before .before .before .before .before .args .constants) (Signal (c .before .before .before .before .before .before .args .constants .one)) (c .enum-told2 .given .1) (record { reads = λ n. refl })
 
 -- src/expressions.rt:59:1
 returns-3 : tie.Need-returns-3
-returns-3 c = reads-as (wiresOf (c .before .before .before .before .before .before .before .before .before .before .before .before .args .signals .now) (c .before .before .before .before .before .before .before .before .before .before .before .before .args .places .now)) (c .before .before .before .before .before .before .before .before .before .before .before .before .args .constants) (c .scalar .result) (c .before .before .before .before .before .before .bit .given .1) (reads-held (wiresOf (c .before .before .before .before .before .before .before .before .before .before .before .before .args .signals .now) (c .before .before .before .before .before .before .before .before .before .before .before .before .args .places .now)) (c .before .before .before .before .before .before .before .before .before .before .before .before .args .constants) (sym (c .before .before .before .before .wire-ref .ensures) ∙ ap foundOf (c .before .before .r .given .1)) (c .scalar .ensures))
+returns-3 c = reads-as (wiresOf (c .before .before .before .before .before .before .before .before .before .before .before .before .args .wires .now) (c .before .before .before .before .before .before .before .before .before .before .before .before .args .places .now)) (c .before .before .before .before .before .before .before .before .before .before .before .before .args .constants) (c .scalar .result) (c .before .before .before .before .before .before .bit .given .1) (reads-held (wiresOf (c .before .before .before .before .before .before .before .before .before .before .before .before .args .wires .now) (c .before .before .before .before .before .before .before .before .before .before .before .before .args .places .now)) (c .before .before .before .before .before .before .before .before .before .before .before .before .args .constants) (sym (c .before .before .before .before .wire-ref .ensures) ∙ ap foundOf (c .before .before .r .given .1)) (c .scalar .ensures))
 
 -- src/expressions.rt:59:1
 returns-4 : tie.Need-returns-4
-returns-4 c = reads-as (wiresOf (c .before .before .before .before .before .before .before .before .before .before .before .args .signals .now) (c .before .before .before .before .before .before .before .before .before .before .before .args .places .now)) (c .before .before .before .before .before .before .before .before .before .before .before .args .constants) (Refused (MissingWire (c .wide .result))) (c .before .before .before .before .before .bit .given .1) (reads-missing (wiresOf (c .before .before .before .before .before .before .before .before .before .before .before .args .signals .now) (c .before .before .before .before .before .before .before .before .before .before .before .args .places .now)) (c .before .before .before .before .before .before .before .before .before .before .before .args .constants) (sym (c .before .before .before .wire-ref .ensures) ∙ ap foundOf (c .before .enum-told3 .given .1)) (ap (λ (x : ℕ). no 8 x) (c .wide .ensures)))
+returns-4 c = reads-as (wiresOf (c .before .before .before .before .before .before .before .before .before .before .before .args .wires .now) (c .before .before .before .before .before .before .before .before .before .before .before .args .places .now)) (c .before .before .before .before .before .before .before .before .before .before .before .args .constants) (Refused (MissingWire (c .wide .result))) (c .before .before .before .before .before .bit .given .1) (reads-missing (wiresOf (c .before .before .before .before .before .before .before .before .before .before .before .args .wires .now) (c .before .before .before .before .before .before .before .before .before .before .before .args .places .now)) (c .before .before .before .before .before .before .before .before .before .before .before .args .constants) (sym (c .before .before .before .wire-ref .ensures) ∙ ap foundOf (c .before .enum-told3 .given .1)) (ap (λ (x : ℕ). no 8 x) (c .wide .ensures)))
 
 pub bit-signal-spec : {M : Type 1} → statement M
 bit-signal-spec =

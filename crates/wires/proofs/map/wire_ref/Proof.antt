@@ -23,7 +23,7 @@ word-requires-2 c κs = search needs
 
 -- src/map.rt:17:9
 returns : tie.Need-returns
-returns c = wire-missing _ _ _ (c .before .before .word .ensures ∙ ap (wordAt (c .before .before .before .before .before .before .args .signals .now)) (c .before .before .before .wide .ensures)) (c .if1 .taken)
+returns c = wire-missing _ _ _ (c .before .before .word .ensures ∙ ap (wordAt (c .before .before .before .before .before .before .args .wires .now)) (c .before .before .before .wide .ensures)) (c .if1 .taken)
 
 -- src/map.rt:20:26
 sub-t8 : tie.Need-sub-t8
@@ -31,7 +31,7 @@ sub-t8 c = search needs
 
 -- src/map.rt:10:1
 returns-2 : tie.Need-returns-2
-returns-2 c = wire-held _ _ _ (c .before .before .word .ensures ∙ ap (wordAt (c .before .before .before .before .before .before .args .signals .now)) (c .before .before .before .wide .ensures)) (c .before .word2 .ensures ∙ ap (wordAt (c .before .before .before .before .before .before .args .places .now)) (c .before .before .before .wide .ensures)) (c .if1 .left)
+returns-2 c = wire-held _ _ _ (c .before .before .word .ensures ∙ ap (wordAt (c .before .before .before .before .before .before .args .wires .now)) (c .before .before .before .wide .ensures)) (c .before .word2 .ensures ∙ ap (wordAt (c .before .before .before .before .before .before .args .places .now)) (c .before .before .before .wide .ensures)) (c .if1 .left)
 
 pub wire-ref-spec : {M : Type 1} → statement M
 wire-ref-spec =

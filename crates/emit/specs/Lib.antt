@@ -1,2 +1,0 @@
--- The specs of emit.
-pub mod Emits

@@ -1,2 +1,0 @@
--- The laws of steps.
-pub mod Sequence

@@ -1,2 +1,0 @@
--- The specs of steps.
-pub mod Steps
