@@ -7,6 +7,7 @@ use simulation::index::field;
 use simulation::index::size;
 use simulation::index::wide;
 use simulation::zero::zero_bytes;
+use simulation::zero::zero_words;
 ghost use mathlib.Core.Path.{_≡_};
 ghost use mathlib.Core.Bool.{Bool, true, false, _&&_};
 ghost use mathlib.Core.Option.{none, some};
@@ -18,6 +19,7 @@ ghost use Rattle.recorder.specs.Lists.{lists};
 ghost use Rattle.recorder.specs.Read.{readSignal, readExpr, readStmt};
 ghost use Rattle.simulation.specs.Wellformed.{drives, countOf, fits, signalFits, unsplitAll, inRange, earlier, widthSum, wide as wider, broad, suits, orElse, behind, malformed as malformedBy};
 ghost use Rattle.simulation.specs.Index.{fieldsAt, recordsIn, widthsIn, Listed};
+ghost use Rattle.simulation.specs.Run.{zeroed};
 ghost use Rattle.simulation.specs.Fault.{faultOf, stands, Tallied, signalFaultOf, allWide, constTest, readTest, concatTest, fixedTest, muxTest, eqTest, exprTest, exprFaultOf, Widths, headTest, resetTest, enableTest, regTest, stmtTest, stmtFaultOf};
 
 // The first record that does not stand whole.
@@ -758,8 +760,8 @@ fn first_fault(
     first(cut, 0, first(a, s, first(b, e, c)))
 }
 
-// Refusal 12: the first faulty record. Fills the tables of widths; the bytes count the statements on each signal. The longer the tables, the
-// fewer lists are walked.
+// Refusal 12: the first faulty record. The tables are work, for widths; so are the bytes, which count the statements on each signal. The
+// longer they are, the fewer lists are walked.
 pub fn malformed(
     signals: &[u32],
     signal_table: &mut [u32],
@@ -770,13 +772,12 @@ pub fn malformed(
     widest: u32,
 ) -> Fault
     ensures fault { λ r. ⌜ faultOf r ≡ malformedBy widest (lists (now (signals .entry)) (now (exprs .entry)) (now (stmts .entry))) ⌝ }
-    ensures signals { λ r. ⌜ Listed (widthsIn (now (signals .entry))) (now («signal_table» .exit)) ⌝ }
-    ensures exprs { λ r. ⌜ Listed (widthsIn (now (exprs .entry))) (now («expr_table» .exit)) ⌝ }
+    ensures zeros { λ _. ⌜ (now («signal_table» .exit) ≡ zeroed (now («signal_table» .entry))) × (now («expr_table» .exit) ≡ zeroed (now («expr_table» .entry))) × (now (bytes .exit) ≡ zeroed (now (bytes .entry))) ⌝ }
 {
     fill(signals, signal_table);
     fill(exprs, expr_table);
     tally(stmts, bytes);
-    first_fault(
+    let fault = first_fault(
         signals,
         signal_table,
         exprs,
@@ -784,5 +785,9 @@ pub fn malformed(
         stmts,
         bytes,
         widest,
-    )
+    );
+    zero_words(signal_table);
+    zero_words(expr_table);
+    zero_bytes(bytes);
+    fault
 }
