@@ -5,16 +5,16 @@ use mathlib.Core.List.{List, [], _∷_, _++_, append-nil}
 use native.Mathlib.Omega.{arith}
 use native.Mathlib.Nat.{not-suc-le-zero, add-zero}
 use native.Mathlib.Decide.{decLt}
-use lib.ListN.{length, getD, set, take, drop, length-set}
-use lib.Seq.{sets, getD-set-same, getD-set-other, drop-at, drop-length, length-take-le}
-use borrow.Rule.Slice.PartMut.{postOf, putMid, post-is}
+use lib.ListN.{length, getD, set, take, drop, length-set, length-drop}
+use lib.Seq.{sets, getD-set-same, getD-set-other, drop-set-lt, drop-drop, drop-at, drop-length, take-all, length-take-le}
+use borrow.Rule.Slice.PartMut.{midOf, postOf, putMid, post-is}
 use Rattle.simulation.specs.Index.{recordsIn, widthsIn, offset, clipped}
 use Rattle.simulation.proofs.Offsets.{clipped-sum}
 use Rattle.simulation.proofs.Steps.{length-widths}
 use Rattle.fusing.specs.declared.join.Lut.{Lut}
 use Rattle.fusing.specs.Form.{formAt, Means, Formed}
 use Rattle.fusing.specs.Join.{formOf}
-use Rattle.fusing.specs.Finding.{Known, Formable, Entry, Finds, Puts}
+use Rattle.fusing.specs.Finding.{Known, Formable, Entry, Finds, Puts, Behind}
 use Rattle.fusing.proofs.Finding.{entry-offset}
 
 -- SIX WORDS
@@ -42,6 +42,10 @@ sets-at (a ∷ vs) l i (suc j) h q =
     let e : i + suc j ≡ suc i + j = omega arith in
     ap (λ (n : ℕ). getD (sets (set l i a) (suc i) vs) n 0) e ∙ sets-at vs (set l i a) (suc i) j (omega arith) (omega (arith, length-set l i a))
 
+sets-behind : (vs l : List ℕ) (i n : ℕ) → i + length vs ≤ n → drop n (sets l i vs) ≡ drop n l
+sets-behind [] l i n h = refl
+sets-behind (a ∷ vs) l i n h = sets-behind vs (set l i a) (suc i) n (omega arith) ∙ drop-set-lt n l i a (omega arith)
+
 -- ONE EXPRESSION MORE
 
 module _ {e own : ℕ} {z : Lut} {forms forms′ : List ℕ} (p : Puts e own z forms forms′) where
@@ -56,6 +60,9 @@ module _ {e own : ℕ} {z : Lut} {forms forms′ : List ℕ} (p : Puts e own z f
       let e4 : getD forms′ (6 * i + 4) 0 ≡ getD forms (6 * i + 4) 0 = kept-before (6 * i + 4) (omega arith) in
       let e5 : getD forms′ (6 * i + 5) 0 ≡ getD forms (6 * i + 5) 0 = kept-before (6 * i + 5) (omega arith) in
       cc
+
+  pub kept-behind : {forms₀ : List ℕ} (n : ℕ) → e < n → Behind (6 * n) forms₀ forms → Behind (6 * n) forms₀ forms′
+  kept-behind n h b = record { kept = ap (drop (6 * n)) (p .stored) ∙ sets-behind (p .table ∷ own ∷ z .a ∷ z .b ∷ z .c ∷ z .d ∷ []) forms (6 * e) (6 * n) (omega arith) ∙ b .kept }
 
   module _ (room : 6 * e + 6 ≤ length forms) where
     new-at : (j : ℕ) → j < 6 → getD forms′ (6 * e + j) 0 ≡ getD (p .table ∷ own ∷ z .a ∷ z .b ∷ z .c ∷ z .d ∷ []) j 0
@@ -123,6 +130,10 @@ put-rest a xs ys h =
     drop-at (take a xs) (ys ++ postOf a (length xs - a) xs) a (length-take-le a xs h)
     ∙ ap (λ (l : List ℕ). ys ++ l) (post-is a (length xs) xs h ∙ drop-length xs)
     ∙ append-nil ys
+
+-- what stands behind the words replaced
+pub put-behind : (a k : ℕ) (xs ys : List ℕ) → a ≤ length xs → Behind k (midOf a (length xs - a) xs) ys → Behind (a + k) xs (putMid a (length xs - a) xs ys)
+put-behind a k xs ys h e = record { kept = sym (drop-drop k a (putMid a (length xs - a) xs ys)) ∙ ap (drop k) (put-rest a xs ys h) ∙ e .kept ∙ ap (drop k) (take-all (length xs - a) (drop a xs) (omega (arith, length-drop a xs))) ∙ drop-drop k a xs }
 
 pub known-of : {signals exprs stmts starts exprTable signalTable driverTable forms : List ℕ} {n from : ℕ} → Formable signals exprs stmts starts exprTable signalTable driverTable n from forms → Known signals exprs stmts starts exprTable signalTable driverTable
 known-of f = record { prepared = f .prepared; started = f .started; driven = f .driven }

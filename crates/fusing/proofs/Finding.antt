@@ -20,9 +20,9 @@ use Rattle.simulation.specs.declared.Driver.{Driver}
 use Rattle.simulation.specs.declared.Driver.the-variants.{None, By}
 use Rattle.simulation.specs.Run.{flat}
 use Rattle.simulation.specs.Tick.{given, assigns, become}
-use Rattle.simulation.specs.Index.{recordsIn, widthsIn, offset, startOf, clipped, stmtsIn, driverOf, Indexed, Starts, Driven}
+use Rattle.simulation.specs.Index.{recordsIn, widthsIn, offset, startOf, clipped, stmtsIn, driverOf, driverBy, Indexed, Starts, Driven}
 use Rattle.simulation.proofs.Flat.{Wide, flat-part}
-use Rattle.simulation.proofs.Offsets.{indexed-read, starts-read}
+use Rattle.simulation.proofs.Tables.{indexed-read, starts-read, driver-right}
 use Rattle.simulation.proofs.Steps.{length-widths}
 use Rattle.evaluation.specs.Bytes.{gateOf}
 use Rattle.evaluation.specs.Consistent.{assigned, Consistent}
@@ -54,11 +54,11 @@ entry-start {l} {table} {k} n i h s = let e = n .said s in e ∙ starts-read i k
 -- WHERE A SIGNAL'S BIT STANDS
 
 module _ (stmts exprTable signalTable driverTable : List ℕ) (base s l : ℕ) where
-  module _ (by : Driver) (choice : Driven stmts driverTable → driverOf by ≡ given assigns (stmtsIn stmts) s) where
+  module _ (by : Driver) (choice : driverOf by ≡ driverBy stmts driverTable s) where
     pub spot-by : (d : ℕ) → by ≡ By d → (w n : ℕ) → w ≡ d → Entry exprTable w n → (r : ℕ) → r ≡ clipped (n + l) → Spotted stmts exprTable signalTable driverTable base s l r
     spot-by d e w n hw t r hr = record {
       spotted = λ ew sw i j v b k g z.
-          let o : given assigns (stmtsIn stmts) s ≡ some d = sym (choice v) ∙ ap driverOf e in
+          let o : given assigns (stmtsIn stmts) s ≡ some d = sym (driver-right _ _ _ choice v) ∙ ap driverOf e in
           let q : w ≤ length ew = (let m = g d o in omega arith) in
           let p : n ≡ offset ew w = entry-offset t i q (omega arith) in
           let p′ : n ≡ offset ew d = p ∙ ap (offset ew) hw in
@@ -69,7 +69,7 @@ module _ (stmts exprTable signalTable driverTable : List ℕ) (base s l : ℕ) w
     pub spot-kept : by ≡ None → (n : ℕ) → Entry signalTable s n → (m r : ℕ) → m ≡ clipped (base + n) → r ≡ clipped (m + l) → Spotted stmts exprTable signalTable driverTable base s l r
     spot-kept e n t m r hm hr = record {
       spotted = λ ew sw i j v b k g z.
-          let o : given assigns (stmtsIn stmts) s ≡ none = sym (choice v) ∙ ap driverOf e in
+          let o : given assigns (stmtsIn stmts) s ≡ none = sym (driver-right _ _ _ choice v) ∙ ap driverOf e in
           let p : n ≡ offset sw s = entry-offset t j k (omega arith) in
           let y : r ≡ offset ew (length ew) + offset sw s + l = omega arith in
           y ∙ ap (spotOf ew sw s l) (sym o);

@@ -6,7 +6,7 @@ use mathlib.Core.Bool.{Bool}
 use mathlib.Core.List.{List, _∷_, []}
 use mathlib.Core.Option.{Option, none, some}
 use lib.Dec.{eqb}
-use lib.ListN.{length, getD}
+use lib.ListN.{length, getD, take, drop}
 use lib.Seq.{sets}
 use Rattle.simulation.specs.Tick.{given, assigns}
 use Rattle.simulation.specs.Index.{recordsIn, offset, clipped, stmtsIn, Indexed, Starts, Driven}
@@ -102,3 +102,15 @@ pub record Puts (e own : ℕ) (z : Lut) (forms forms′ : List ℕ) : Type 0 whe
   pub stored : forms′ ≡ sets forms (6 * e) (table ∷ own ∷ z .a ∷ z .b ∷ z .c ∷ z .d ∷ [])
   pub as-found : table < 65536 → table ≡ z .table
   pub with-own : table < 65536 → own < 4294967295
+
+-- from word n on a list is as it was
+pub record Behind (n : ℕ) (l l′ : List ℕ) : Type 0 where
+  pub kept : drop n l′ ≡ drop n l
+
+-- WHAT IS FILLED IN, for any words: from a word on six for each of n expressions, if there is room; all others are kept. Which forms there are is
+-- left open, but each that is there is right, where model and tables are
+pub record Fills (signals exprs stmts starts exprTable signalTable driverTable : List ℕ) (n from : ℕ) (forms forms′ : List ℕ) : Type 0 where
+  pub before : take from forms′ ≡ take from forms
+  pub behind : Behind (from + 6 * n) forms forms′
+  pub no-room : length forms < from + 6 * n → forms′ ≡ forms
+  pub formed : Formable signals exprs stmts starts exprTable signalTable driverTable n from forms → Formed signals exprs stmts (drop from forms′) n

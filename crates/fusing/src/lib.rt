@@ -10,10 +10,10 @@ use simulation::index::sum_to;
 ghost use mathlib.Core.Path.{_≡_};
 ghost use mathlib.Core.List.{List};
 ghost use Prim.Native.Nat.{ℕ, _+_, _*_, _≤_, _<_};
-ghost use lib.ListN.{length, take, drop};
+ghost use lib.ListN.{length};
 ghost use Rattle.simulation.specs.Index.{recordsIn};
 ghost use Rattle.fusing.specs.Form.{Formed};
-ghost use Rattle.fusing.specs.Finding.{Known, Formable, Puts};
+ghost use Rattle.fusing.specs.Finding.{Known, Puts, Behind, Fills};
 
 // Without a position of its own an expression has no form.
 fn placed(own: u32, table: u32) -> u32
@@ -51,7 +51,8 @@ fn fill(
     forms: &mut [u32],
 )
     requires { ⌜ 6 * n ≤ length (now forms) ⌝ }
-    ensures { λ _. ⌜ ((signals : List ℕ) → Known signals (now (exprs .entry)) (now (stmts .entry)) (now (starts .entry)) (now («expr_table» .entry)) (now («signal_table» .entry)) (now («driver_table» .entry)) → n ≡ length (recordsIn (now (exprs .entry))) → Formed signals (now (exprs .entry)) (now (stmts .entry)) (now (forms .exit)) n) ⌝ }
+    ensures behind { λ _. ⌜ Behind (6 * n) (now (forms .entry)) (now (forms .exit)) ⌝ }
+    ensures formed { λ _. ⌜ ((signals : List ℕ) → Known signals (now (exprs .entry)) (now (stmts .entry)) (now (starts .entry)) (now («expr_table» .entry)) (now («signal_table» .entry)) (now («driver_table» .entry)) → n ≡ length (recordsIn (now (exprs .entry))) → Formed signals (now (exprs .entry)) (now (stmts .entry)) (now (forms .exit)) n) ⌝ }
 {
     let base = clip(sum_to(exprs, n));
     let mut e: usize = 0;
@@ -73,7 +74,7 @@ fn fill(
     }
 }
 
-// Fills `forms` from word `from` on with six words for each of the n expressions, if there is room; what stands before is kept.
+// Fills `forms` from word `from` on with six words for each of the n expressions, if there is room; what stands before and behind is kept.
 pub fn fill_forms(
     signals: &[u32],
     exprs: &[u32],
@@ -86,8 +87,7 @@ pub fn fill_forms(
     from: usize,
     forms: &mut [u32],
 )
-    ensures kept { λ _. ⌜ take from (now (forms .exit)) ≡ take from (now (forms .entry)) ⌝ }
-    ensures formed { λ _. ⌜ (Formable (now (signals .entry)) (now (exprs .entry)) (now (stmts .entry)) (now (starts .entry)) (now («expr_table» .entry)) (now («signal_table» .entry)) (now («driver_table» .entry)) n from (now (forms .entry)) → Formed (now (signals .entry)) (now (exprs .entry)) (now (stmts .entry)) (drop from (now (forms .exit))) n) ⌝ }
+    ensures { λ _. ⌜ Fills (now (signals .entry)) (now (exprs .entry)) (now (stmts .entry)) (now (starts .entry)) (now («expr_table» .entry)) (now («signal_table» .entry)) (now («driver_table» .entry)) n from (now (forms .entry)) (now (forms .exit)) ⌝ }
 {
     if from > forms.len() {
         return;

@@ -21,8 +21,8 @@ ghost use Rattle.bits.specs.Bits.{pick};
 ghost use Rattle.recorder.specs.Lists.{lists};
 ghost use Rattle.recorder.specs.Read.{only};
 ghost use Rattle.simulation.specs.Wellformed.{orElse};
-ghost use Rattle.simulation.specs.Index.{fieldsAt, recordsIn, widthsIn, Listed};
-ghost use Rattle.simulation.specs.Run.{answerOf, firedOf, noBit, wrongCount, wrongFired, firstOf};
+ghost use Rattle.simulation.specs.Index.{fieldsAt};
+ghost use Rattle.simulation.specs.Run.{answerOf, firedOf, noBit, wrongCount, wrongFired, firstOf, zeroed};
 ghost use Rattle.simulation.specs.Fault.{widthTotal, inputField, inputTotal, lengthCauses, tickCauses, bitCauses, callCauses, callOf, checkedBy};
 
 // The first of two answers.
@@ -194,7 +194,7 @@ fn call_fault(
     bits(signals, bytes, ticks, fired)
 }
 
-// Refusals 12, 1 and 14. Fills the tables of widths; work on signals is left as it comes.
+// Refusals 12, 1 and 14. The tables are work, for widths.
 pub fn check_call(
     signals: &[u32],
     signal_table: &mut [u32],
@@ -210,8 +210,7 @@ pub fn check_call(
     widest: u32,
 ) -> Ran
     ensures answer { λ r. ⌜ answerOf r ≡ checkedBy widest (callOf (lists (now (signals .entry)) (now (exprs .entry)) (now (stmts .entry))) (now (bytes .entry)) (now (ticks .entry)) (firedOf fired) (now («work_bits» .entry)) (now («work_exprs» .entry)) (now («work_signals» .entry))) ⌝ }
-    ensures signals { λ r. ⌜ Listed (widthsIn (now (signals .entry))) (now («signal_table» .exit)) ⌝ }
-    ensures exprs { λ r. ⌜ Listed (widthsIn (now (exprs .entry))) (now («expr_table» .exit)) ⌝ }
+    ensures zeros { λ _. ⌜ (now («signal_table» .exit) ≡ zeroed (now («signal_table» .entry))) × (now («expr_table» .exit) ≡ zeroed (now («expr_table» .entry))) × (now («work_signals» .exit) ≡ zeroed (now («work_signals» .entry))) ⌝ }
 {
     let f = malformed(
         signals,

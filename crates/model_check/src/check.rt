@@ -2,11 +2,13 @@
 use crate::widths::fill;
 use crate::widths::width;
 use simulation::Fault;
+use simulation::index::Counted;
 use simulation::index::count;
 use simulation::index::field;
 use simulation::index::size;
 use simulation::index::wide;
 use simulation::zero::zero_bytes;
+use simulation::zero::zero_words;
 ghost use mathlib.Core.Path.{_≡_};
 ghost use mathlib.Core.Bool.{Bool, true, false, _&&_};
 ghost use mathlib.Core.Option.{none, some};
@@ -15,20 +17,20 @@ ghost use lib.Dec.{leb, ltb, eqb};
 ghost use lib.ListN.{length, getD, set, drop};
 ghost use Rattle.bits.specs.Bits.{pick};
 ghost use Rattle.recorder.specs.Lists.{lists};
-ghost use Rattle.recorder.specs.Read.{readSignal, readExpr, readStmt};
+ghost use Rattle.recorder.specs.Read.{split, readSignal, readExpr, readStmt};
 ghost use Rattle.simulation.specs.Wellformed.{drives, countOf, fits, signalFits, unsplitAll, inRange, earlier, widthSum, wide as wider, broad, suits, orElse, behind, malformed as malformedBy};
 ghost use Rattle.simulation.specs.Index.{fieldsAt, recordsIn, widthsIn, Listed};
+ghost use Rattle.simulation.specs.Run.{zeroed};
 ghost use Rattle.simulation.specs.Fault.{faultOf, stands, Tallied, signalFaultOf, allWide, constTest, readTest, concatTest, fixedTest, muxTest, eqTest, exprTest, exprFaultOf, Widths, headTest, resetTest, enableTest, regTest, stmtTest, stmtFaultOf};
 
-// The first record that does not stand whole.
-fn unsplit(signals: &[u32], exprs: &[u32], stmts: &[u32]) -> Fault
+// The first record that does not stand whole, with the signals and the expressions counted.
+fn unsplit(signals: &[u32], s: Counted, exprs: &[u32], e: Counted, stmts: &[u32]) -> Fault
+    requires { ⌜ (s .count ≡ length (recordsIn (now signals))) × (s .whole ≡ split (now signals) .whole) × (e .count ≡ length (recordsIn (now exprs))) × (e .whole ≡ split (now exprs) .whole) ⌝ }
     ensures { λ r. ⌜ faultOf r ≡ unsplitAll (lists (now (signals .entry)) (now (exprs .entry)) (now (stmts .entry))) ⌝ }
 {
-    let s = count(signals);
     if !s.whole {
         return Fault::At(s.count);
     }
-    let e = count(exprs);
     if !e.whole {
         return Fault::At(s.count + e.count);
     }
@@ -751,15 +753,15 @@ fn first_fault(
     let s = signals_counted.count;
     let exprs_counted = count(exprs);
     let e = exprs_counted.count;
-    let cut = unsplit(signals, exprs, stmts);
+    let cut = unsplit(signals, signals_counted, exprs, exprs_counted, stmts);
     let a = signal_fault(signals, stmts, bytes, widest);
     let b = expr_fault(exprs, expr_table, signals, signal_table, s, widest);
     let c = stmt_fault(stmts, signals, signal_table, s, exprs, expr_table, e);
     first(cut, 0, first(a, s, first(b, e, c)))
 }
 
-// Refusal 12: the first faulty record. Fills the tables of widths; the bytes count the statements on each signal. The longer the tables, the
-// fewer lists are walked.
+// Refusal 12: the first faulty record. The tables are work, for widths; so are the bytes, which count the statements on each signal. The
+// longer they are, the fewer lists are walked.
 pub fn malformed(
     signals: &[u32],
     signal_table: &mut [u32],
@@ -770,13 +772,12 @@ pub fn malformed(
     widest: u32,
 ) -> Fault
     ensures fault { λ r. ⌜ faultOf r ≡ malformedBy widest (lists (now (signals .entry)) (now (exprs .entry)) (now (stmts .entry))) ⌝ }
-    ensures signals { λ r. ⌜ Listed (widthsIn (now (signals .entry))) (now («signal_table» .exit)) ⌝ }
-    ensures exprs { λ r. ⌜ Listed (widthsIn (now (exprs .entry))) (now («expr_table» .exit)) ⌝ }
+    ensures zeros { λ _. ⌜ (now («signal_table» .exit) ≡ zeroed (now («signal_table» .entry))) × (now («expr_table» .exit) ≡ zeroed (now («expr_table» .entry))) × (now (bytes .exit) ≡ zeroed (now (bytes .entry))) ⌝ }
 {
     fill(signals, signal_table);
     fill(exprs, expr_table);
     tally(stmts, bytes);
-    first_fault(
+    let fault = first_fault(
         signals,
         signal_table,
         exprs,
@@ -784,5 +785,9 @@ pub fn malformed(
         stmts,
         bytes,
         widest,
-    )
+    );
+    zero_words(signal_table);
+    zero_words(expr_table);
+    zero_bytes(bytes);
+    fault
 }

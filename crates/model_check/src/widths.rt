@@ -4,7 +4,7 @@ use simulation::index::size;
 ghost use mathlib.Core.Path.{_≡_};
 ghost use Prim.Native.Nat.{_<_};
 ghost use lib.ListN.{length, getD};
-ghost use Rattle.simulation.specs.Index.{recordsIn, widthsIn, Listed};
+ghost use Rattle.simulation.specs.Index.{recordsIn, widthsIn, widthTable, Listed};
 
 // The width of record i, 0 if there is none.
 fn walk_to(list: &[u32], i: usize) -> u32
@@ -40,7 +40,7 @@ pub fn width(list: &[u32], table: &[u32], i: usize) -> u32
 
 // Fills the table with the first widths.
 pub fn fill(list: &[u32], table: &mut [u32])
-    ensures { λ _. ⌜ Listed (widthsIn (now (list .entry))) (now (table .exit)) ⌝ }
+    ensures { λ _. ⌜ now (table .exit) ≡ widthTable (now (list .entry)) (now (table .entry)) ⌝ }
 {
     let mut at: usize = 0;
     let mut k: usize = 0;

@@ -3,6 +3,7 @@ mod bytes; // bytes.rt: copies, tests, numbers
 mod code; // code.rt: the plan of a list of ticks
 mod coded; // coded.rt: the values of expressions along code
 mod commit; // commit.rt: the registers load
+mod cut; // cut.rt: the checks of a model and of a call, on parts of the tables
 mod expression; // expression.rt: the value of one expression
 mod late; // late.rt: one tick by a plan
 mod list; // list.rt: a list of ticks
@@ -18,7 +19,7 @@ mod tables; // tables.rt: where records and values stand, by tables
 mod ticks; // ticks.rt: one tick
 mod whole; // whole.rt: a whole list's run
 
-use model_check::call::check_call;
+use cut::check_call;
 use ordering::Loop;
 use prepare::prepare;
 use refusal::Refusal;

@@ -1,6 +1,7 @@
 // The run of a whole list of ticks: what refuses it, and then the ticks.
 use crate::WIDEST;
 use crate::code::encode;
+use crate::cut::malformed;
 use crate::list::run_ticks;
 use crate::prepare::prepare;
 use crate::show::output_total;
@@ -8,7 +9,6 @@ use crate::show::times;
 use model_check::call::byte_fault;
 use model_check::call::call_lengths;
 use model_check::call::input_total;
-use model_check::check::malformed;
 use ordering::Loop;
 use refusal::Refusal;
 use simulation::Fault;

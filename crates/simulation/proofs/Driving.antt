@@ -161,16 +161,6 @@ noting-end {l} {at} {table} w e = record {
   driver-at = λ s h. sym (known-none (getD table s 0)) ∙ ap (λ (rs : List (List ℕ)). known (getD table s 0) (given assigns (readAll readStmt rs) s)) (sym e) ∙ w .so-far s h;
 }
 
--- READING AN ENTRY
-
-pub coded-none : (o : Option ℕ) → coded o ≡ 0 → none ≡ o
-coded-none none h = refl
-coded-none (some e) h = absurd (omega arith)
-
-pub coded-some : (w : ℕ) (o : Option ℕ) → w ≡ coded o → (w ≡ 0 → ⊥) → w < 4294967295 → some (w - 1) ≡ o
-coded-some w none h d q = absurd (d h)
-coded-some w (some e) h d q = let z : w - 1 ≡ e = omega arith in ap some z
-
 -- A TABLE'S WORD NOTED, by the code's tests
 
 module _ (r table : List ℕ) where

@@ -7,6 +7,7 @@ pub mod Flat
 pub mod Stores
 pub mod Offsets
 pub mod Steps
+pub mod Tables
 pub mod Ands
 pub mod Tally
 pub mod Found

@@ -1,14 +1,13 @@
--- Sums of widths, and the tables of widths and offsets. Assumes nothing.
+-- Sums of widths, a record's fields, and where it begins. Assumes nothing.
 use Prim.Native.Nat.{ℕ, zero, suc, _+_, _-_, _≤_, _<_, min}
-use mathlib.Core.Path.{_≡_, refl, sym, _∙_, ap, subst}
+use mathlib.Core.Path.{_≡_, refl, sym, _∙_, ap}
 use mathlib.Core.List.{List, [], _∷_, map}
 use native.Mathlib.Omega.{arith}
 use native.Mathlib.Numerals.{add-one}
 use native.Mathlib.Nat.{not-suc-le-zero}
-use native.Mathlib.Decide.{ℕ-discrete}
-use lib.ListN.{length, getD, take, drop, set, length-set, length-drop, length-map, List·getD-eq-default}
-use lib.Seq.{getD-set-same, getD-set-other, getD-take, getD-drop, length-take-le}
-use Rattle.simulation.specs.Index.{offset, startOf, clipped, fieldsAt, recordsIn, Listed, Indexed, Starts}
+use lib.ListN.{length, getD, take, drop, length-drop, length-map, List·getD-eq-default}
+use lib.Seq.{getD-take, getD-drop, length-take-le}
+use Rattle.simulation.specs.Index.{offset, startOf, clipped, fieldsAt, recordsIn}
 
 pub offset-suc : (ws : List ℕ) (k : ℕ) → offset ws (suc k) ≡ offset ws k + getD ws k 0
 offset-suc [] zero = refl
@@ -82,60 +81,6 @@ start-past l k h =
     let e : length (map (λ (r : List ℕ). length r + 1) (recordsIn l)) ≡ length (recordsIn l) = length-map (recordsIn l) (λ (r : List ℕ). length r + 1) in
     ap (startOf l) (sym e) ∙ sym (offset-past (map (λ (r : List ℕ). length r + 1) (recordsIn l)) k (omega arith))
 
--- FILLING A TABLE
-
--- the first k entries are right
-pub record Filled (f : ℕ → ℕ) (table : List ℕ) (k : ℕ) : Type 0 where
-  pub right : (i : ℕ) → i < k → i < length table → getD table i 0 ≡ f i
-
-pub filled-none : (f : ℕ → ℕ) (table : List ℕ) → Filled f table 0
-filled-none f table = record { right = λ i h q. absurd (not-suc-le-zero h) }
-
-pub filled-more : (f : ℕ → ℕ) (table : List ℕ) (k w : ℕ) → Filled f table k → w ≡ f k → Filled f (set table k w) (k + 1)
-filled-more f table k w s e = record { right = λ i h q. go i h (subst (λ (n : ℕ). i < n) (length-set table k w) q) (ℕ-discrete i k) }
-  where
-    go : (i : ℕ) → i < k + 1 → i < length table → Dec (i ≡ k) → getD (set table k w) i 0 ≡ f i
-    go i h q (yes p) = ap (λ (j : ℕ). getD (set table k w) j 0) p ∙ getD-set-same table k w 0 (subst (λ (j : ℕ). j < length table) p q) ∙ e ∙ ap f (sym p)
-    go i h q (no p) = getD-set-other table k i w 0 p ∙ s .right i (omega arith) q
-
-abbrev pub widthOf : List ℕ → ℕ → ℕ
-widthOf ws i = getD ws i 0
-
-abbrev pub offsetEntry : List ℕ → ℕ → ℕ
-offsetEntry ws i = clipped (offset ws i)
-
-abbrev pub startEntry : List ℕ → ℕ → ℕ
-startEntry l i = clipped (startOf l i)
-
-pub filled-all : (ws table : List ℕ) (k : ℕ) → Filled (widthOf ws) table k → k ≡ length ws → Listed ws table
-filled-all ws table k f e = record { width-at = λ i q h. f .right i (omega arith) q }
-
-pub filled-full : (ws table : List ℕ) (k : ℕ) → Filled (widthOf ws) table k → length table ≤ k → Listed ws table
-filled-full ws table k f e = record { width-at = λ i q h. f .right i (omega arith) q }
-
-pub starts-all : (l table : List ℕ) (k : ℕ) → Filled (startEntry l) table k → k ≡ length (recordsIn l) → Starts l table
-starts-all l table k f e = record { start-at = λ i q h. f .right i (omega arith) q }
-
-pub starts-full : (l table : List ℕ) (k : ℕ) → Filled (startEntry l) table k → length table ≤ k → Starts l table
-starts-full l table k f e = record { start-at = λ i q h. f .right i (omega arith) q }
-
-pub indexed-all : (ws table : List ℕ) (k : ℕ) → Filled (offsetEntry ws) table (k + 1) → k ≡ length ws → Indexed ws table
-indexed-all ws table k f e = record { offset-at = λ i q h. f .right i (omega arith) q }
-
-pub indexed-full : (ws table : List ℕ) (k : ℕ) → Filled (offsetEntry ws) table k → length table ≤ k → Indexed ws table
-indexed-full ws table k f e = record { offset-at = λ i q h. f .right i (omega arith) q }
-
--- READING ONE: what is less than the largest word is said as it is
-
-pub starts-read : {l table : List ℕ} → Starts l table → (k : ℕ) → k < length table → k < length (recordsIn l) → getD table k 0 < 4294967295 → getD table k 0 ≡ startOf l k
-starts-read s k h q w = let e = s .start-at k h q in omega arith
-
-pub indexed-read : {ws table : List ℕ} → Indexed ws table → (k : ℕ) → k < length table → k ≤ length ws → getD table k 0 < 4294967295 → getD table k 0 ≡ offset ws k
-indexed-read s k h q w = let e = s .offset-at k h q in omega arith
-
 -- a sum that stopped at the largest number is clipped like the sum itself
 pub clipped-sum : (o sum v : ℕ) → sum ≡ min o 18446744073709551615 → v ≡ clipped sum → v ≡ clipped o
 clipped-sum o sum v s e = omega arith
-
-pub sum-fits : (ws : List ℕ) (k n sum : ℕ) → sum ≡ min (offset ws k) 18446744073709551615 → k ≤ n → offset ws n ≤ 18446744073709551615 → sum ≡ offset ws k
-sum-fits ws k n sum s h q = let e = offset-le ws k n h in omega arith

@@ -5,12 +5,10 @@ use crate::zero::zero_words;
 use recorder::Cut;
 use recorder::read::cut;
 ghost use mathlib.Core.Path.{_≡_};
-ghost use mathlib.Core.List.{map};
-ghost use Prim.Native.Nat.{_+_, _≤_, _<_, min};
-ghost use mathlib.Core.Option.{none};
+ghost use Prim.Native.Nat.{_+_, _≤_, min};
 ghost use lib.ListN.{length, getD};
 ghost use Rattle.recorder.specs.Read.{split};
-ghost use Rattle.simulation.specs.Index.{sizeAt, fieldsAt, recordsIn, widthsIn, offset as sumTo, startOf, clipped, Indexed, Starts, stmtsIn, driverOf, Driven, isAssign, assignsTo, noted};
+ghost use Rattle.simulation.specs.Index.{sizeAt, fieldsAt, recordsIn, widthsIn, offset as sumTo, startOf, clipped, startTable, startBy, offsetTable, offsetBy, stmtsIn, driverOf, driverTable, driverBy, isAssign, assignsTo, noted};
 ghost use Rattle.simulation.specs.Tick.{given, assigns as byAssign};
 
 pub fn wide(x: u32) -> usize
@@ -114,6 +112,16 @@ pub fn clip(x: usize) -> u32
     if x < 4294967295 { x as u32 } else { 4294967295 }
 }
 
+// What a table says at k: the largest word stands for what it does not say.
+fn entry(table: &[u32], k: usize) -> u32
+    ensures { λ r. ⌜ r ≡ getD (now (table .entry)) k 4294967295 ⌝ }
+{
+    if k < table.len() {
+        return table[k];
+    }
+    4294967295
+}
+
 // The word at which record k begins; behind the last record, the word behind it.
 fn walk_start(list: &[u32], k: usize) -> usize
     ensures { λ r. ⌜ r ≡ startOf (now (list .entry)) k ⌝ }
@@ -131,22 +139,20 @@ fn walk_start(list: &[u32], k: usize) -> usize
     at
 }
 
-// The word at which record k begins, from the table, if it is right, or else from the list.
+// The word at which record k begins, from the table, or else from the list.
 pub fn start(list: &[u32], table: &[u32], k: usize) -> usize
-    ensures { λ r. ⌜ (Starts (now (list .entry)) (now (table .entry)) → k < length (recordsIn (now (list .entry))) → r ≡ startOf (now (list .entry)) k) ⌝ }
+    ensures { λ r. ⌜ r ≡ startBy (now (list .entry)) (now (table .entry)) k ⌝ }
 {
-    if k < table.len() {
-        let w = table[k];
-        if w < 4294967295 {
-            return wide(w);
-        }
+    let w = entry(table, k);
+    if w < 4294967295 {
+        return wide(w);
     }
     walk_start(list, k)
 }
 
-// Fills the table with the words at which the first records begin.
+// Fills the table with the words at which the first records begin; what it has room for behind them is kept.
 pub fn fill_starts(list: &[u32], table: &mut [u32])
-    ensures { λ _. ⌜ Starts (now (list .entry)) (now (table .exit)) ⌝ }
+    ensures { λ _. ⌜ now (table .exit) ≡ startTable (now (list .entry)) (now (table .entry)) ⌝ }
 {
     let mut at: usize = 0;
     let mut k: usize = 0;
@@ -161,22 +167,20 @@ pub fn fill_starts(list: &[u32], table: &mut [u32])
     }
 }
 
-// The sum of the first k widths, from the table, if it is right, or else from the list.
+// The sum of the first k widths, from the table, or else from the list.
 pub fn offset(list: &[u32], table: &[u32], k: usize) -> usize
-    ensures { λ r. ⌜ (Indexed (widthsIn (now (list .entry))) (now (table .entry)) → k ≤ length (recordsIn (now (list .entry))) → sumTo (widthsIn (now (list .entry))) (length (recordsIn (now (list .entry)))) ≤ 18446744073709551615 → r ≡ sumTo (widthsIn (now (list .entry))) k) ⌝ }
+    ensures { λ r. ⌜ r ≡ offsetBy (now (list .entry)) (now (table .entry)) k ⌝ }
 {
-    if k < table.len() {
-        let w = table[k];
-        if w < 4294967295 {
-            return wide(w);
-        }
+    let w = entry(table, k);
+    if w < 4294967295 {
+        return wide(w);
     }
     sum_to(list, k)
 }
 
-// Fills the table with the first offsets.
+// Fills the table with the first offsets; what it has room for behind them is kept.
 pub fn fill_offsets(list: &[u32], table: &mut [u32])
-    ensures { λ _. ⌜ Indexed (widthsIn (now (list .entry))) (now (table .exit)) ⌝ }
+    ensures { λ _. ⌜ now (table .exit) ≡ offsetTable (now (list .entry)) (now (table .entry)) ⌝ }
 {
     let mut at: usize = 0;
     let mut k: usize = 0;
@@ -232,18 +236,16 @@ fn walk_driver(stmts: &[u32], s: usize) -> Driver
     Driver::None
 }
 
-// The expression that is assigned to signal s, from the table, if it is right, or else from the list.
+// The expression that is assigned to signal s, from the table, or else from the list.
 pub fn driver(stmts: &[u32], table: &[u32], s: usize) -> Driver
-    ensures { λ r. ⌜ (Driven (now (stmts .entry)) (now (table .entry)) → driverOf r ≡ given byAssign (stmtsIn (now (stmts .entry))) s) ⌝ }
+    ensures { λ r. ⌜ driverOf r ≡ driverBy (now (stmts .entry)) (now (table .entry)) s ⌝ }
 {
-    if s < table.len() {
-        let w = table[s];
-        if w == 0 {
-            return Driver::None;
-        }
-        if w < 4294967295 {
-            return Driver::By(w - 1);
-        }
+    let w = entry(table, s);
+    if w == 0 {
+        return Driver::None;
+    }
+    if w < 4294967295 {
+        return Driver::By(w - 1);
     }
     walk_driver(stmts, s)
 }
@@ -268,7 +270,7 @@ fn note(stmts: &[u32], at: usize, size: usize, table: &mut [u32])
 
 // Fills the table with what is assigned to the first signals.
 pub fn fill_drivers(stmts: &[u32], table: &mut [u32])
-    ensures { λ _. ⌜ Driven (now (stmts .entry)) (now (table .exit)) ⌝ }
+    ensures { λ _. ⌜ now (table .exit) ≡ driverTable (now (stmts .entry)) (now (table .entry)) ⌝ }
 {
     zero_words(table);
     let mut at: usize = 0;

@@ -1,10 +1,8 @@
-use Prim.Native.Nat.{_-_}
 use lib.ListN.{length}
-use Prim.Native.Nat.{_≤_}
-use Rattle.fusing.proofs.Filling.{put-rest, known-of}
+use Prim.Native.Nat.{ℕ, _*_, _-_, _≤_}
+use Rattle.fusing.proofs.Filling.{put-rest, put-behind, known-of}
 use Rattle.fusing.specs.Form.{Formed}
 use borrow.Rule.Slice.PartMut.{take-put}
-use Prim.Native.Nat.{ℕ}
 use mathlib.Core.List.{List}
 use mathlib.Core.Path.{refl, sym, subst}
 use native.Mathlib.Omega.{arith}
@@ -17,7 +15,7 @@ use Rattle.fusing.proofs.fill.Reads as fill-reads
 
 -- src/lib.rt:93:9
 returns : tie.Need-returns
-returns c = (refl, λ f. absurd (omega (arith, f .room)))
+returns c = record { before = refl; behind = record { kept = refl }; no-room = λ q. refl; formed = λ f. absurd (omega (arith, f .room)) }
 
 -- src/lib.rt:95:13
 sub-if2 : tie.Need-sub-if2
@@ -25,7 +23,7 @@ sub-if2 c = search needs
 
 -- src/lib.rt:96:9
 returns-2 : tie.Need-returns-2
-returns-2 c = (refl, λ f. absurd (omega (arith, f .room)))
+returns-2 c = record { before = refl; behind = record { kept = refl }; no-room = λ q. refl; formed = λ f. absurd (omega (arith, f .room)) }
 
 -- src/lib.rt:106:9
 mul-fill : tie.Need-mul-fill
@@ -53,7 +51,16 @@ same-length c = search needs
 
 -- src/lib.rt:77:1
 returns-3 : tie.Need-returns-3
-returns-3 c = let h : c .before .before .before .before .before .before .before .before .before .before .before .before .before .before .args .from ≤ length (c .before .before .before .before .before .before .before .before .before .before .before .before .before .before .args .forms .now) = omega arith in (take-put (c .before .before .before .before .before .before .before .before .before .before .before .before .before .before .args .from) (length (c .before .before .before .before .before .before .before .before .before .before .before .before .before .before .args .forms .now) - c .before .before .before .before .before .before .before .before .before .before .before .before .before .before .args .from) (c .before .before .before .before .before .before .before .before .before .before .before .before .before .before .args .forms .now) (c .before .before .fill .last .1 .1 .1 .1 .1 .1 .1 .0) h, λ f. subst (λ (l : List ℕ). Formed (c .before .before .before .before .before .before .before .before .before .before .before .before .before .before .args .signals .now) (c .before .before .before .before .before .before .before .before .before .before .before .before .before .before .args .exprs .now) (c .before .before .before .before .before .before .before .before .before .before .before .before .before .before .args .stmts .now) l (c .before .before .before .before .before .before .before .before .before .before .before .before .before .before .args .n)) (sym (put-rest (c .before .before .before .before .before .before .before .before .before .before .before .before .before .before .args .from) (c .before .before .before .before .before .before .before .before .before .before .before .before .before .before .args .forms .now) (c .before .before .fill .last .1 .1 .1 .1 .1 .1 .1 .0) h)) (c .before .before .fill .ensures (c .before .before .before .before .before .before .before .before .before .before .before .before .before .before .args .signals .now) (known-of f) (f .count)))
+returns-3 c =
+    let a = c .before .before .before .before .before .before .before .before .before .before .before .before .before .before .args in
+    let h : a .from ≤ length (a .forms .now) = omega arith in
+    let f : List ℕ = c .before .before .fill .last .1 .1 .1 .1 .1 .1 .1 .0 in
+    record {
+      before = take-put (a .from) (length (a .forms .now) - a .from) (a .forms .now) f h;
+      behind = put-behind (a .from) (6 * a .n) (a .forms .now) f h (c .before .before .fill .ensures .0);
+      no-room = λ q. absurd (omega arith);
+      formed = λ k. subst (λ (l : List ℕ). Formed (a .signals .now) (a .exprs .now) (a .stmts .now) l (a .n)) (sym (put-rest (a .from) (a .forms .now) f h)) (c .before .before .fill .ensures .1 (a .signals .now) (known-of k) (k .count));
+    }
 
 pub fill-forms-spec : {M : Type 1} → statement M
 fill-forms-spec =

@@ -8,7 +8,7 @@ use Rattle.runner.proofs.run_with.Statement.{statement}
 use Rattle.runner.proofs.run_with.Tie as tie
 use Rattle.runner.proofs.run_with.Reads as reads
 use Rattle.runner.proofs.run_with.Lts as lts
-use Rattle.model_check.proofs.call.check_call.Reads as check-call-reads
+use Rattle.runner.proofs.cut.check_call.Reads as check-call-reads
 use Rattle.runner.proofs.run_checked.Reads as run-checked-reads
 
 -- src/lib.rt:119:9

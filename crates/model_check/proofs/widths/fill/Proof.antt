@@ -1,11 +1,11 @@
 use borrow.Author.Needs.{needs}
 use native.Mathlib.Omega.{arith}
-use mathlib.Core.Path.{_≡_, refl, sym, _∙_}
-use Prim.Native.Nat.{_-_, _≤_}
+use mathlib.Core.Path.{_≡_, refl, sym, ap, _∙_}
+use Prim.Native.Nat.{ℕ, _-_, _≤_}
 use lib.ListN.{length, length-set}
-use Rattle.simulation.specs.Index.{widthsIn}
-use Rattle.simulation.proofs.Offsets.{Filled, widthOf, filled-none, filled-more, filled-all, filled-full}
-use Rattle.simulation.proofs.Steps.{Walked, walked-start, walked-next, walked-out, walked-width, walked-within, length-widths}
+use Rattle.simulation.specs.Index.{filling, widthEntry, widthTable}
+use Rattle.simulation.proofs.Tables.{filling-none, filling-more, filling-full}
+use Rattle.simulation.proofs.Steps.{Walked, walked-start, walked-next, walked-out, walked-width, walked-within}
 use Rattle.model_check.proofs.widths.fill.Statement.{statement}
 use Rattle.model_check.proofs.widths.fill.Tie as tie
 use Rattle.model_check.proofs.widths.fill.Reads as reads
@@ -14,14 +14,14 @@ use Rattle.simulation.proofs.index.field.Reads as field-reads
 use Rattle.simulation.proofs.index.size.Reads as size-reads
 
 abbrev Inv-loop : tie.InvT-loop
-Inv-loop list table₀ at₀ k₀ table at k = Walked list at k × (k ≤ length table₀) × (length table ≡ length table₀) × Filled (widthOf (widthsIn list)) table k
+Inv-loop list table₀ at₀ k₀ table at k = Walked list at k × (k ≤ length table₀) × (length table ≡ length table₀) × (table ≡ filling (widthEntry list) k table₀)
 
 abbrev μ-loop : tie.MeasureT-loop
 μ-loop list table₀ at₀ k₀ table at k = length table₀ - k
 
 -- src/index.rt:134:5
 loop-holds : tie.Need-loop-holds Inv-loop μ-loop
-loop-holds c = (walked-start _, omega arith, refl, filled-none _ _)
+loop-holds c = (walked-start _, omega arith, refl, filling-none _ _)
 
 -- src/index.rt:135:13
 size-requires : tie.Need-size-requires Inv-loop μ-loop
@@ -33,7 +33,8 @@ same-length c = c .before .before .before .loop .inv .2
 
 -- src/index.rt:137:13
 returns : tie.Need-returns Inv-loop μ-loop
-returns c = filled-all _ _ _ (c .before .before .before .loop .inv .3) (walked-out (c .before .before .before .loop .inv .0) _ (c .before .size .ensures) (c .if1 .taken) ∙ sym (length-widths _))
+unfolding widthTable
+returns c = c .before .before .before .loop .inv .3 ∙ ap (λ (j : ℕ). filling (widthEntry (c .before .before .before .before .before .before .args .list .now)) j (c .before .before .before .before .before .before .args .table .now)) (walked-out (c .before .before .before .loop .inv .0) _ (c .before .size .ensures) (c .if1 .taken))
 
 -- src/index.rt:139:20
 field-requires : tie.Need-field-requires Inv-loop μ-loop
@@ -61,7 +62,7 @@ loop-less c = omega arith
 
 -- src/index.rt:134:5
 loop-again : tie.Need-loop-again Inv-loop μ-loop
-loop-again c = (walked-next (c .before .before .before .before .loop .inv .0) _ (c .before .before .size .ensures) (c .before .if1 .left), omega arith, simp length-set (c .before .before .before .before .loop .inv .2), filled-more _ _ _ _ (c .before .before .before .before .loop .inv .3) (c .field .ensures ∙ sym (walked-width (c .before .before .before .before .loop .inv .0) _ (c .before .before .size .ensures) (c .before .if1 .left))))
+loop-again c = (walked-next (c .before .before .before .before .loop .inv .0) _ (c .before .before .size .ensures) (c .before .if1 .left), omega arith, simp length-set (c .before .before .before .before .loop .inv .2), filling-more _ _ _ _ (c .before .before .before .before .loop .inv .3) (c .field .ensures ∙ sym (walked-width (c .before .before .before .before .loop .inv .0) _ (c .before .before .size .ensures) (c .before .if1 .left))))
 
 -- src/index.rt:129:1
 same-length-2 : tie.Need-same-length-2 Inv-loop μ-loop
@@ -69,7 +70,8 @@ same-length-2 c = c .before .loop .inv .2
 
 -- src/index.rt:129:1
 returns-2 : tie.Need-returns-2 Inv-loop μ-loop
-returns-2 c = filled-full _ _ _ (c .before .loop .inv .3) (omega (arith, c .loop-test .left))
+unfolding widthTable
+returns-2 c = filling-full _ _ _ _ (c .before .loop .inv .3) (omega (arith, c .loop-test .left)) (c .before .loop .inv .0 .reached)
 
 pub fill-spec : {M : Type 1} → statement M
 fill-spec =

@@ -39,7 +39,7 @@ same-length c = c .before .before .before .before .list-registers .kept .1 .1 .0
 
 -- src/code.rt:467:9
 returns : tie.Need-returns
-returns c = let s = c .before .before .before .before .before .before .before .before .before .before .before .before .before .before .before .before .before .before .before .before .before in (unplanned (c .none .ensures .0) (c .none .ensures .2) (s .pre .11), ((order-by-registers (s .args .n) (s .args .count) (s .args .order .now) (c .before .before .before .before .before .before .before .before .fill-forms .last .1 .1 .1 .1 .1 .1 .1 .1 .1 .0) (c .before .before .before .before .list-registers .last .1 .1 .0) (c .before .before .before .before .before .before .before .before .fill-forms .ensures .0) (c .before .before .before .before .list-registers .ensures .0)), c .none .ensures .1))
+returns c = let s = c .before .before .before .before .before .before .before .before .before .before .before .before .before .before .before .before .before .before .before .before .before in (unplanned (c .none .ensures .0) (c .none .ensures .2) (s .pre .11), ((order-by-registers (s .args .n) (s .args .count) (s .args .order .now) (c .before .before .before .before .before .before .before .before .fill-forms .last .1 .1 .1 .1 .1 .1 .1 .1 .1 .0) (c .before .before .before .before .list-registers .last .1 .1 .0) (c .before .before .before .before .before .before .before .before .fill-forms .ensures .before) (c .before .before .before .before .list-registers .ensures .0)), c .none .ensures .1))
 
 -- src/code.rt:469:23
 add-controls-at : tie.Need-add-controls-at
@@ -63,7 +63,7 @@ same-length-3 c = c .before .before .before .before .before .before .list-contro
 
 -- src/code.rt:472:9
 returns-2 : tie.Need-returns-2
-returns-2 c = let s = c .before .before .before .before .before .before .before .before .before .before .before .before .before .before .before .before .before .before .before .before .before .before .before .before .before .before .before .before .before in (unplanned (c .none2 .ensures .0) (c .none2 .ensures .2) (s .pre .11), ((order-by-controls (s .args .n) (s .args .count) (s .args .order .now) (c .before .before .before .before .before .before .before .before .before .before .before .before .list-registers .last .1 .1 .0) (c .before .before .before .before .before .before .list-controls .last .1 .1 .0) (order-by-registers (s .args .n) (s .args .count) (s .args .order .now) (c .before .before .before .before .before .before .before .before .before .before .before .before .before .before .before .before .fill-forms .last .1 .1 .1 .1 .1 .1 .1 .1 .1 .0) (c .before .before .before .before .before .before .before .before .before .before .before .before .list-registers .last .1 .1 .0) (c .before .before .before .before .before .before .before .before .before .before .before .before .before .before .before .before .fill-forms .ensures .0) (c .before .before .before .before .before .before .before .before .before .before .before .before .list-registers .ensures .0)) (c .before .before .before .before .before .before .list-controls .ensures .0)), c .none2 .ensures .1))
+returns-2 c = let s = c .before .before .before .before .before .before .before .before .before .before .before .before .before .before .before .before .before .before .before .before .before .before .before .before .before .before .before .before .before in (unplanned (c .none2 .ensures .0) (c .none2 .ensures .2) (s .pre .11), ((order-by-controls (s .args .n) (s .args .count) (s .args .order .now) (c .before .before .before .before .before .before .before .before .before .before .before .before .list-registers .last .1 .1 .0) (c .before .before .before .before .before .before .list-controls .last .1 .1 .0) (order-by-registers (s .args .n) (s .args .count) (s .args .order .now) (c .before .before .before .before .before .before .before .before .before .before .before .before .before .before .before .before .fill-forms .last .1 .1 .1 .1 .1 .1 .1 .1 .1 .0) (c .before .before .before .before .before .before .before .before .before .before .before .before .list-registers .last .1 .1 .0) (c .before .before .before .before .before .before .before .before .before .before .before .before .before .before .before .before .fill-forms .ensures .before) (c .before .before .before .before .before .before .before .before .before .before .before .before .list-registers .ensures .0)) (c .before .before .before .before .before .before .list-controls .ensures .0)), c .none2 .ensures .1))
 
 -- src/code.rt:474:22
 add-outputs-at : tie.Need-add-outputs-at
@@ -87,7 +87,7 @@ same-length-5 c = c .before .before .before .before .before .before .before .bef
 
 -- src/code.rt:477:9
 returns-3 : tie.Need-returns-3
-returns-3 c = let s = c .before .before .before .before .before .before .before .before .before .before .before .before .before .before .before .before .before .before .before .before .before .before .before .before .before .before .before .before .before .before .before .before .before .before in (unplanned (c .none3 .ensures .0) (c .none3 .ensures .2) (s .pre .11), ((order-by-outputs (s .args .n) (s .args .count) (s .args .order .now) (c .before .before .before .before .before .before .before .before .before .before .before .list-controls .last .1 .1 .0) (c .before .before .before .before .list-outputs .last .1 .0) (order-by-controls (s .args .n) (s .args .count) (s .args .order .now) (c .before .before .before .before .before .before .before .before .before .before .before .before .before .before .before .before .before .list-registers .last .1 .1 .0) (c .before .before .before .before .before .before .before .before .before .before .before .list-controls .last .1 .1 .0) (order-by-registers (s .args .n) (s .args .count) (s .args .order .now) (c .before .before .before .before .before .before .before .before .before .before .before .before .before .before .before .before .before .before .before .before .before .fill-forms .last .1 .1 .1 .1 .1 .1 .1 .1 .1 .0) (c .before .before .before .before .before .before .before .before .before .before .before .before .before .before .before .before .before .list-registers .last .1 .1 .0) (c .before .before .before .before .before .before .before .before .before .before .before .before .before .before .before .before .before .before .before .before .before .fill-forms .ensures .0) (c .before .before .before .before .before .before .before .before .before .before .before .before .before .before .before .before .before .list-registers .ensures .0)) (c .before .before .before .before .before .before .before .before .before .before .before .list-controls .ensures .0)) (c .before .before .before .before .list-outputs .ensures .0)), c .none3 .ensures .1))
+returns-3 c = let s = c .before .before .before .before .before .before .before .before .before .before .before .before .before .before .before .before .before .before .before .before .before .before .before .before .before .before .before .before .before .before .before .before .before .before in (unplanned (c .none3 .ensures .0) (c .none3 .ensures .2) (s .pre .11), ((order-by-outputs (s .args .n) (s .args .count) (s .args .order .now) (c .before .before .before .before .before .before .before .before .before .before .before .list-controls .last .1 .1 .0) (c .before .before .before .before .list-outputs .last .1 .0) (order-by-controls (s .args .n) (s .args .count) (s .args .order .now) (c .before .before .before .before .before .before .before .before .before .before .before .before .before .before .before .before .before .list-registers .last .1 .1 .0) (c .before .before .before .before .before .before .before .before .before .before .before .list-controls .last .1 .1 .0) (order-by-registers (s .args .n) (s .args .count) (s .args .order .now) (c .before .before .before .before .before .before .before .before .before .before .before .before .before .before .before .before .before .before .before .before .before .fill-forms .last .1 .1 .1 .1 .1 .1 .1 .1 .1 .0) (c .before .before .before .before .before .before .before .before .before .before .before .before .before .before .before .before .before .list-registers .last .1 .1 .0) (c .before .before .before .before .before .before .before .before .before .before .before .before .before .before .before .before .before .before .before .before .before .fill-forms .ensures .before) (c .before .before .before .before .before .before .before .before .before .before .before .before .before .before .before .before .before .list-registers .ensures .0)) (c .before .before .before .before .before .before .before .before .before .before .before .list-controls .ensures .0)) (c .before .before .before .before .list-outputs .ensures .0)), c .none3 .ensures .1))
 
 -- src/code.rt:479:20
 add-first-at : tie.Need-add-first-at
@@ -99,7 +99,7 @@ add-top c = omega (arith, c .before .before .before .before .before .before .bef
 
 -- src/code.rt:481:9
 first-code-requires : tie.Need-first-code-requires
-first-code-requires c κs = let s = c .before .before .before .before .before .before .before .before .before .before .before .before .before .before .before .before .before .before .before .before .before .before .before .before .before .before .before .before .before .before .before .before .before .before .before .before in (s .pre .0, s .pre .1, s .pre .2, s .pre .3, s .pre .5, s .pre .7, ap₂ _+_ (s .pre .7) (s .pre .8), omega (arith, s .pre .9), omega arith, omega (arith, s .pre .10, c .before .before .before .before .before .before .before .before .before .before .before .before .before .before .before .before .before .before .before .before .before .before .before .fill-forms .kept .1 .1 .1 .1 .1 .1 .1 .1 .1 .0, c .before .before .before .before .before .before .before .before .before .before .before .before .before .before .before .before .before .before .before .list-registers .kept .1 .1 .0, c .before .before .before .before .before .before .before .before .before .before .before .before .before .list-controls .kept .1 .1 .0, c .before .before .before .before .before .before .list-outputs .kept .1 .0), listed-formed (s .args .n) (s .args .count) (c .before .before .before .before .before .before .before .before .before .before .before .before .before .before .before .before .before .before .before .before .before .before .before .fill-forms .last .1 .1 .1 .1 .1 .1 .1 .1 .1 .0) (c .before .before .before .before .before .before .before .before .before .before .before .before .before .before .before .before .before .before .before .list-registers .last .1 .1 .0) (c .before .before .before .before .before .before .before .before .before .before .before .before .before .list-controls .last .1 .1 .0) (c .before .before .before .before .before .before .list-outputs .last .1 .0) (c .before .before .before .before .before .before .before .before .before .before .before .before .before .before .before .before .before .before .before .list-registers .ensures .0) (c .before .before .before .before .before .before .before .before .before .before .before .before .before .list-controls .ensures .0) (c .before .before .before .before .before .before .list-outputs .ensures .0) (c .before .before .before .before .before .before .before .before .before .before .before .before .before .before .before .before .before .before .before .before .before .before .before .fill-forms .ensures .1 (record { prepared = s .pre .0; started = s .pre .1; driven = s .pre .2; count = s .pre .3; room = omega (arith, s .pre .10) })), omega (arith, c .before .before .before .before .before .before .before .before .before .before .before .before .before .before .before .before .if1 .left), listed-registers (s .args .n) (s .args .count) (c .before .before .before .before .before .before .before .before .before .before .before .before .before .before .before .before .before .before .before .before .before .before .before .fill-forms .last .1 .1 .1 .1 .1 .1 .1 .1 .1 .0) (c .before .before .before .before .before .before .before .before .before .before .before .before .before .before .before .before .before .before .before .list-registers .last .1 .1 .0) (c .before .before .before .before .before .before .before .before .before .before .before .before .before .list-controls .last .1 .1 .0) (c .before .before .before .before .before .before .list-outputs .last .1 .0) (c .before .before .before .before .before .before .before .before .before .before .before .before .before .before .before .before .before .before .before .list-registers .ensures .0) (c .before .before .before .before .before .before .before .before .before .before .before .before .before .list-controls .ensures .0) (c .before .before .before .before .before .before .list-outputs .ensures .0) (c .before .before .before .before .before .before .before .before .before .before .before .before .before .before .before .before .if1 .left) (c .before .before .before .before .before .before .before .before .before .before .before .before .before .before .before .before .before .before .before .list-registers .ensures .1 (c .before .before .before .before .before .before .before .before .before .before .before .before .before .before .before .before .if1 .left)), omega (arith, c .before .before .before .before .before .before .before .before .if2 .left))
+first-code-requires c κs = let s = c .before .before .before .before .before .before .before .before .before .before .before .before .before .before .before .before .before .before .before .before .before .before .before .before .before .before .before .before .before .before .before .before .before .before .before .before in (s .pre .0, s .pre .1, s .pre .2, s .pre .3, s .pre .5, s .pre .7, ap₂ _+_ (s .pre .7) (s .pre .8), omega (arith, s .pre .9), omega arith, omega (arith, s .pre .10, c .before .before .before .before .before .before .before .before .before .before .before .before .before .before .before .before .before .before .before .before .before .before .before .fill-forms .kept .1 .1 .1 .1 .1 .1 .1 .1 .1 .0, c .before .before .before .before .before .before .before .before .before .before .before .before .before .before .before .before .before .before .before .list-registers .kept .1 .1 .0, c .before .before .before .before .before .before .before .before .before .before .before .before .before .list-controls .kept .1 .1 .0, c .before .before .before .before .before .before .list-outputs .kept .1 .0), listed-formed (s .args .n) (s .args .count) (c .before .before .before .before .before .before .before .before .before .before .before .before .before .before .before .before .before .before .before .before .before .before .before .fill-forms .last .1 .1 .1 .1 .1 .1 .1 .1 .1 .0) (c .before .before .before .before .before .before .before .before .before .before .before .before .before .before .before .before .before .before .before .list-registers .last .1 .1 .0) (c .before .before .before .before .before .before .before .before .before .before .before .before .before .list-controls .last .1 .1 .0) (c .before .before .before .before .before .before .list-outputs .last .1 .0) (c .before .before .before .before .before .before .before .before .before .before .before .before .before .before .before .before .before .before .before .list-registers .ensures .0) (c .before .before .before .before .before .before .before .before .before .before .before .before .before .list-controls .ensures .0) (c .before .before .before .before .before .before .list-outputs .ensures .0) (c .before .before .before .before .before .before .before .before .before .before .before .before .before .before .before .before .before .before .before .before .before .before .before .fill-forms .ensures .formed (record { prepared = s .pre .0; started = s .pre .1; driven = s .pre .2; count = s .pre .3; room = omega (arith, s .pre .10) })), omega (arith, c .before .before .before .before .before .before .before .before .before .before .before .before .before .before .before .before .if1 .left), listed-registers (s .args .n) (s .args .count) (c .before .before .before .before .before .before .before .before .before .before .before .before .before .before .before .before .before .before .before .before .before .before .before .fill-forms .last .1 .1 .1 .1 .1 .1 .1 .1 .1 .0) (c .before .before .before .before .before .before .before .before .before .before .before .before .before .before .before .before .before .before .before .list-registers .last .1 .1 .0) (c .before .before .before .before .before .before .before .before .before .before .before .before .before .list-controls .last .1 .1 .0) (c .before .before .before .before .before .before .list-outputs .last .1 .0) (c .before .before .before .before .before .before .before .before .before .before .before .before .before .before .before .before .before .before .before .list-registers .ensures .0) (c .before .before .before .before .before .before .before .before .before .before .before .before .before .list-controls .ensures .0) (c .before .before .before .before .before .before .list-outputs .ensures .0) (c .before .before .before .before .before .before .before .before .before .before .before .before .before .before .before .before .if1 .left) (c .before .before .before .before .before .before .before .before .before .before .before .before .before .before .before .before .before .before .before .list-registers .ensures .1 (c .before .before .before .before .before .before .before .before .before .before .before .before .before .before .before .before .if1 .left)), omega (arith, c .before .before .before .before .before .before .before .before .if2 .left))
 
 -- src/code.rt:502:9
 none-requires-4 : tie.Need-none-requires-4
@@ -123,7 +123,7 @@ same-length-9 c = c .before .before .before .before .before .before .before .bef
 
 -- src/code.rt:502:9
 returns-4 : tie.Need-returns-4
-returns-4 c = let s = c .before .before .before .before .before .before .before .before .before .before .before .before .before .before .before .before .before .before .before .before .before .before .before .before .before .before .before .before .before .before .before .before .before .before .before .before .before .before .before .before .before .before .before .before .before in (unplanned (c .none4 .ensures .0) (c .none4 .ensures .2) (s .pre .11), ((order-by-first (s .args .n) (s .args .count) (s .args .order .now) (c .before .before .before .before .before .before .before .before .before .before .before .before .before .before .before .list-outputs .last .1 .0) (c .before .before .before .before .before .before .before .before .first-code .last .1 .1 .1 .1 .1 .1 .1 .1 .1 .1 .1 .1 .1 .1 .1 .0) (order-by-outputs (s .args .n) (s .args .count) (s .args .order .now) (c .before .before .before .before .before .before .before .before .before .before .before .before .before .before .before .before .before .before .before .before .before .before .list-controls .last .1 .1 .0) (c .before .before .before .before .before .before .before .before .before .before .before .before .before .before .before .list-outputs .last .1 .0) (order-by-controls (s .args .n) (s .args .count) (s .args .order .now) (c .before .before .before .before .before .before .before .before .before .before .before .before .before .before .before .before .before .before .before .before .before .before .before .before .before .before .before .before .list-registers .last .1 .1 .0) (c .before .before .before .before .before .before .before .before .before .before .before .before .before .before .before .before .before .before .before .before .before .before .list-controls .last .1 .1 .0) (order-by-registers (s .args .n) (s .args .count) (s .args .order .now) (c .before .before .before .before .before .before .before .before .before .before .before .before .before .before .before .before .before .before .before .before .before .before .before .before .before .before .before .before .before .before .before .before .fill-forms .last .1 .1 .1 .1 .1 .1 .1 .1 .1 .0) (c .before .before .before .before .before .before .before .before .before .before .before .before .before .before .before .before .before .before .before .before .before .before .before .before .before .before .before .before .list-registers .last .1 .1 .0) (c .before .before .before .before .before .before .before .before .before .before .before .before .before .before .before .before .before .before .before .before .before .before .before .before .before .before .before .before .before .before .before .before .fill-forms .ensures .0) (c .before .before .before .before .before .before .before .before .before .before .before .before .before .before .before .before .before .before .before .before .before .before .before .before .before .before .before .before .list-registers .ensures .0)) (c .before .before .before .before .before .before .before .before .before .before .before .before .before .before .before .before .before .before .before .before .before .before .list-controls .ensures .0)) (c .before .before .before .before .before .before .before .before .before .before .before .before .before .before .before .list-outputs .ensures .0)) (c .before .before .before .before .before .before .before .before .first-code .ensures .0)), c .none4 .ensures .1))
+returns-4 c = let s = c .before .before .before .before .before .before .before .before .before .before .before .before .before .before .before .before .before .before .before .before .before .before .before .before .before .before .before .before .before .before .before .before .before .before .before .before .before .before .before .before .before .before .before .before .before in (unplanned (c .none4 .ensures .0) (c .none4 .ensures .2) (s .pre .11), ((order-by-first (s .args .n) (s .args .count) (s .args .order .now) (c .before .before .before .before .before .before .before .before .before .before .before .before .before .before .before .list-outputs .last .1 .0) (c .before .before .before .before .before .before .before .before .first-code .last .1 .1 .1 .1 .1 .1 .1 .1 .1 .1 .1 .1 .1 .1 .1 .0) (order-by-outputs (s .args .n) (s .args .count) (s .args .order .now) (c .before .before .before .before .before .before .before .before .before .before .before .before .before .before .before .before .before .before .before .before .before .before .list-controls .last .1 .1 .0) (c .before .before .before .before .before .before .before .before .before .before .before .before .before .before .before .list-outputs .last .1 .0) (order-by-controls (s .args .n) (s .args .count) (s .args .order .now) (c .before .before .before .before .before .before .before .before .before .before .before .before .before .before .before .before .before .before .before .before .before .before .before .before .before .before .before .before .list-registers .last .1 .1 .0) (c .before .before .before .before .before .before .before .before .before .before .before .before .before .before .before .before .before .before .before .before .before .before .list-controls .last .1 .1 .0) (order-by-registers (s .args .n) (s .args .count) (s .args .order .now) (c .before .before .before .before .before .before .before .before .before .before .before .before .before .before .before .before .before .before .before .before .before .before .before .before .before .before .before .before .before .before .before .before .fill-forms .last .1 .1 .1 .1 .1 .1 .1 .1 .1 .0) (c .before .before .before .before .before .before .before .before .before .before .before .before .before .before .before .before .before .before .before .before .before .before .before .before .before .before .before .before .list-registers .last .1 .1 .0) (c .before .before .before .before .before .before .before .before .before .before .before .before .before .before .before .before .before .before .before .before .before .before .before .before .before .before .before .before .before .before .before .before .fill-forms .ensures .before) (c .before .before .before .before .before .before .before .before .before .before .before .before .before .before .before .before .before .before .before .before .before .before .before .before .before .before .before .before .list-registers .ensures .0)) (c .before .before .before .before .before .before .before .before .before .before .before .before .before .before .before .before .before .before .before .before .before .before .list-controls .ensures .0)) (c .before .before .before .before .before .before .before .before .before .before .before .before .before .before .before .list-outputs .ensures .0)) (c .before .before .before .before .before .before .before .before .first-code .ensures .0)), c .none4 .ensures .1))
 
 -- src/code.rt:513:9
 add-second-code : tie.Need-add-second-code
@@ -131,7 +131,7 @@ add-second-code c = omega (arith, c .before .before .before .before .before .bef
 
 -- src/code.rt:504:9
 second-code-requires : tie.Need-second-code-requires
-second-code-requires c κs = let s = c .before .before .before .before .before .before .before .before .before .before .before .before .before .before .before .before .before .before .before .before .before .before .before .before .before .before .before .before .before .before .before .before .before .before .before .before .before .before .before .before .before .before .before .before .before .before .before in (s .pre .0, s .pre .1, s .pre .2, s .pre .3, omega (arith, s .pre .5, c .before .before .before .before .before .before .before .before .before .before .first-code .kept .1 .1 .1 .1 .1 .1 .1 .1 .1 .1 .1 .1 .1 .1 .1 .1 .1 .0), s .pre .7, ap₂ _+_ (s .pre .7) (s .pre .8), omega (arith, s .pre .9, c .before .before .before .before .before .before .before .before .before .before .first-code .kept .1 .1 .1 .1 .1 .1 .1 .1 .1 .1 .1 .1 .1 .1 .1 .1 .0), omega arith, omega (arith, s .pre .10, c .before .before .before .before .before .before .before .before .before .before .before .before .before .before .before .before .before .before .before .before .before .before .before .before .before .before .before .before .before .before .before .before .before .before .fill-forms .kept .1 .1 .1 .1 .1 .1 .1 .1 .1 .0, c .before .before .before .before .before .before .before .before .before .before .before .before .before .before .before .before .before .before .before .before .before .before .before .before .before .before .before .before .before .before .list-registers .kept .1 .1 .0, c .before .before .before .before .before .before .before .before .before .before .before .before .before .before .before .before .before .before .before .before .before .before .before .before .list-controls .kept .1 .1 .0, c .before .before .before .before .before .before .before .before .before .before .before .before .before .before .before .before .before .list-outputs .kept .1 .0, c .before .before .before .before .before .before .before .before .before .before .first-code .kept .1 .1 .1 .1 .1 .1 .1 .1 .1 .1 .1 .1 .1 .1 .1 .0), first-formed (s .args .n) (s .args .count) (c .before .before .before .before .before .before .before .before .before .before .before .before .before .before .before .before .before .before .before .before .before .before .before .before .before .before .before .before .before .before .before .before .before .before .fill-forms .last .1 .1 .1 .1 .1 .1 .1 .1 .1 .0) (c .before .before .before .before .before .before .before .before .before .before .before .before .before .before .before .before .before .before .before .before .before .before .before .before .before .before .before .before .before .before .list-registers .last .1 .1 .0) (c .before .before .before .before .before .before .before .before .before .before .before .before .before .before .before .before .before .before .before .before .before .before .before .before .list-controls .last .1 .1 .0) (c .before .before .before .before .before .before .before .before .before .before .before .before .before .before .before .before .before .list-outputs .last .1 .0) (c .before .before .before .before .before .before .before .before .before .before .before .before .before .before .before .before .before .before .before .before .before .before .before .before .before .before .before .before .before .before .list-registers .ensures .0) (c .before .before .before .before .before .before .before .before .before .before .before .before .before .before .before .before .before .before .before .before .before .before .before .before .list-controls .ensures .0) (c .before .before .before .before .before .before .before .before .before .before .before .before .before .before .before .before .before .list-outputs .ensures .0) (c .before .before .before .before .before .before .before .before .before .before .first-code .last .1 .1 .1 .1 .1 .1 .1 .1 .1 .1 .1 .1 .1 .1 .1 .0) (c .before .before .before .before .before .before .before .before .before .before .first-code .ensures .0) (c .before .before .before .before .before .before .before .before .before .before .before .before .before .before .before .before .before .before .before .before .before .before .before .before .before .before .before .before .before .before .before .before .before .before .fill-forms .ensures .1 (record { prepared = s .pre .0; started = s .pre .1; driven = s .pre .2; count = s .pre .3; room = omega (arith, s .pre .10) })), omega (arith, c .before .before .before .before .before .before .before .before .before .before .before .before .before .before .if3 .left))
+second-code-requires c κs = let s = c .before .before .before .before .before .before .before .before .before .before .before .before .before .before .before .before .before .before .before .before .before .before .before .before .before .before .before .before .before .before .before .before .before .before .before .before .before .before .before .before .before .before .before .before .before .before .before in (s .pre .0, s .pre .1, s .pre .2, s .pre .3, omega (arith, s .pre .5, c .before .before .before .before .before .before .before .before .before .before .first-code .kept .1 .1 .1 .1 .1 .1 .1 .1 .1 .1 .1 .1 .1 .1 .1 .1 .1 .0), s .pre .7, ap₂ _+_ (s .pre .7) (s .pre .8), omega (arith, s .pre .9, c .before .before .before .before .before .before .before .before .before .before .first-code .kept .1 .1 .1 .1 .1 .1 .1 .1 .1 .1 .1 .1 .1 .1 .1 .1 .0), omega arith, omega (arith, s .pre .10, c .before .before .before .before .before .before .before .before .before .before .before .before .before .before .before .before .before .before .before .before .before .before .before .before .before .before .before .before .before .before .before .before .before .before .fill-forms .kept .1 .1 .1 .1 .1 .1 .1 .1 .1 .0, c .before .before .before .before .before .before .before .before .before .before .before .before .before .before .before .before .before .before .before .before .before .before .before .before .before .before .before .before .before .before .list-registers .kept .1 .1 .0, c .before .before .before .before .before .before .before .before .before .before .before .before .before .before .before .before .before .before .before .before .before .before .before .before .list-controls .kept .1 .1 .0, c .before .before .before .before .before .before .before .before .before .before .before .before .before .before .before .before .before .list-outputs .kept .1 .0, c .before .before .before .before .before .before .before .before .before .before .first-code .kept .1 .1 .1 .1 .1 .1 .1 .1 .1 .1 .1 .1 .1 .1 .1 .0), first-formed (s .args .n) (s .args .count) (c .before .before .before .before .before .before .before .before .before .before .before .before .before .before .before .before .before .before .before .before .before .before .before .before .before .before .before .before .before .before .before .before .before .before .fill-forms .last .1 .1 .1 .1 .1 .1 .1 .1 .1 .0) (c .before .before .before .before .before .before .before .before .before .before .before .before .before .before .before .before .before .before .before .before .before .before .before .before .before .before .before .before .before .before .list-registers .last .1 .1 .0) (c .before .before .before .before .before .before .before .before .before .before .before .before .before .before .before .before .before .before .before .before .before .before .before .before .list-controls .last .1 .1 .0) (c .before .before .before .before .before .before .before .before .before .before .before .before .before .before .before .before .before .list-outputs .last .1 .0) (c .before .before .before .before .before .before .before .before .before .before .before .before .before .before .before .before .before .before .before .before .before .before .before .before .before .before .before .before .before .before .list-registers .ensures .0) (c .before .before .before .before .before .before .before .before .before .before .before .before .before .before .before .before .before .before .before .before .before .before .before .before .list-controls .ensures .0) (c .before .before .before .before .before .before .before .before .before .before .before .before .before .before .before .before .before .list-outputs .ensures .0) (c .before .before .before .before .before .before .before .before .before .before .first-code .last .1 .1 .1 .1 .1 .1 .1 .1 .1 .1 .1 .1 .1 .1 .1 .0) (c .before .before .before .before .before .before .before .before .before .before .first-code .ensures .0) (c .before .before .before .before .before .before .before .before .before .before .before .before .before .before .before .before .before .before .before .before .before .before .before .before .before .before .before .before .before .before .before .before .before .before .fill-forms .ensures .formed (record { prepared = s .pre .0; started = s .pre .1; driven = s .pre .2; count = s .pre .3; room = omega (arith, s .pre .10) })), omega (arith, c .before .before .before .before .before .before .before .before .before .before .before .before .before .before .if3 .left))
 
 -- src/code.rt:523:9
 none-requires-5 : tie.Need-none-requires-5
@@ -155,7 +155,7 @@ same-length-13 c = c .before .before .before .before .before .before .before .be
 
 -- src/code.rt:523:9
 returns-5 : tie.Need-returns-5
-returns-5 c = let s = c .before .before .before .before .before .before .before .before .before .before .before .before .before .before .before .before .before .before .before .before .before .before .before .before .before .before .before .before .before .before .before .before .before .before .before .before .before .before .before .before .before .before .before .before .before .before .before .before .before .before .before .before .before .before .before .before in (unplanned (c .none5 .ensures .0) (c .none5 .ensures .2) (s .pre .11), ((order-by-second (s .args .n) (s .args .count) (s .args .order .now) (c .before .before .before .before .before .before .before .before .before .before .before .before .before .before .before .before .before .before .before .first-code .last .1 .1 .1 .1 .1 .1 .1 .1 .1 .1 .1 .1 .1 .1 .1 .0) (c .before .before .before .before .before .before .before .before .second-code .last .1 .1 .1 .1 .1 .1 .1 .1 .1 .1 .1 .1 .1 .0) (order-by-first (s .args .n) (s .args .count) (s .args .order .now) (c .before .before .before .before .before .before .before .before .before .before .before .before .before .before .before .before .before .before .before .before .before .before .before .before .before .before .list-outputs .last .1 .0) (c .before .before .before .before .before .before .before .before .before .before .before .before .before .before .before .before .before .before .before .first-code .last .1 .1 .1 .1 .1 .1 .1 .1 .1 .1 .1 .1 .1 .1 .1 .0) (order-by-outputs (s .args .n) (s .args .count) (s .args .order .now) (c .before .before .before .before .before .before .before .before .before .before .before .before .before .before .before .before .before .before .before .before .before .before .before .before .before .before .before .before .before .before .before .before .before .list-controls .last .1 .1 .0) (c .before .before .before .before .before .before .before .before .before .before .before .before .before .before .before .before .before .before .before .before .before .before .before .before .before .before .list-outputs .last .1 .0) (order-by-controls (s .args .n) (s .args .count) (s .args .order .now) (c .before .before .before .before .before .before .before .before .before .before .before .before .before .before .before .before .before .before .before .before .before .before .before .before .before .before .before .before .before .before .before .before .before .before .before .before .before .before .before .list-registers .last .1 .1 .0) (c .before .before .before .before .before .before .before .before .before .before .before .before .before .before .before .before .before .before .before .before .before .before .before .before .before .before .before .before .before .before .before .before .before .list-controls .last .1 .1 .0) (order-by-registers (s .args .n) (s .args .count) (s .args .order .now) (c .before .before .before .before .before .before .before .before .before .before .before .before .before .before .before .before .before .before .before .before .before .before .before .before .before .before .before .before .before .before .before .before .before .before .before .before .before .before .before .before .before .before .before .fill-forms .last .1 .1 .1 .1 .1 .1 .1 .1 .1 .0) (c .before .before .before .before .before .before .before .before .before .before .before .before .before .before .before .before .before .before .before .before .before .before .before .before .before .before .before .before .before .before .before .before .before .before .before .before .before .before .before .list-registers .last .1 .1 .0) (c .before .before .before .before .before .before .before .before .before .before .before .before .before .before .before .before .before .before .before .before .before .before .before .before .before .before .before .before .before .before .before .before .before .before .before .before .before .before .before .before .before .before .before .fill-forms .ensures .0) (c .before .before .before .before .before .before .before .before .before .before .before .before .before .before .before .before .before .before .before .before .before .before .before .before .before .before .before .before .before .before .before .before .before .before .before .before .before .before .before .list-registers .ensures .0)) (c .before .before .before .before .before .before .before .before .before .before .before .before .before .before .before .before .before .before .before .before .before .before .before .before .before .before .before .before .before .before .before .before .before .list-controls .ensures .0)) (c .before .before .before .before .before .before .before .before .before .before .before .before .before .before .before .before .before .before .before .before .before .before .before .before .before .before .list-outputs .ensures .0)) (c .before .before .before .before .before .before .before .before .before .before .before .before .before .before .before .before .before .before .before .first-code .ensures .0)) (c .before .before .before .before .before .before .before .before .second-code .ensures .0)), c .none5 .ensures .1))
+returns-5 c = let s = c .before .before .before .before .before .before .before .before .before .before .before .before .before .before .before .before .before .before .before .before .before .before .before .before .before .before .before .before .before .before .before .before .before .before .before .before .before .before .before .before .before .before .before .before .before .before .before .before .before .before .before .before .before .before .before .before in (unplanned (c .none5 .ensures .0) (c .none5 .ensures .2) (s .pre .11), ((order-by-second (s .args .n) (s .args .count) (s .args .order .now) (c .before .before .before .before .before .before .before .before .before .before .before .before .before .before .before .before .before .before .before .first-code .last .1 .1 .1 .1 .1 .1 .1 .1 .1 .1 .1 .1 .1 .1 .1 .0) (c .before .before .before .before .before .before .before .before .second-code .last .1 .1 .1 .1 .1 .1 .1 .1 .1 .1 .1 .1 .1 .0) (order-by-first (s .args .n) (s .args .count) (s .args .order .now) (c .before .before .before .before .before .before .before .before .before .before .before .before .before .before .before .before .before .before .before .before .before .before .before .before .before .before .list-outputs .last .1 .0) (c .before .before .before .before .before .before .before .before .before .before .before .before .before .before .before .before .before .before .before .first-code .last .1 .1 .1 .1 .1 .1 .1 .1 .1 .1 .1 .1 .1 .1 .1 .0) (order-by-outputs (s .args .n) (s .args .count) (s .args .order .now) (c .before .before .before .before .before .before .before .before .before .before .before .before .before .before .before .before .before .before .before .before .before .before .before .before .before .before .before .before .before .before .before .before .before .list-controls .last .1 .1 .0) (c .before .before .before .before .before .before .before .before .before .before .before .before .before .before .before .before .before .before .before .before .before .before .before .before .before .before .list-outputs .last .1 .0) (order-by-controls (s .args .n) (s .args .count) (s .args .order .now) (c .before .before .before .before .before .before .before .before .before .before .before .before .before .before .before .before .before .before .before .before .before .before .before .before .before .before .before .before .before .before .before .before .before .before .before .before .before .before .before .list-registers .last .1 .1 .0) (c .before .before .before .before .before .before .before .before .before .before .before .before .before .before .before .before .before .before .before .before .before .before .before .before .before .before .before .before .before .before .before .before .before .list-controls .last .1 .1 .0) (order-by-registers (s .args .n) (s .args .count) (s .args .order .now) (c .before .before .before .before .before .before .before .before .before .before .before .before .before .before .before .before .before .before .before .before .before .before .before .before .before .before .before .before .before .before .before .before .before .before .before .before .before .before .before .before .before .before .before .fill-forms .last .1 .1 .1 .1 .1 .1 .1 .1 .1 .0) (c .before .before .before .before .before .before .before .before .before .before .before .before .before .before .before .before .before .before .before .before .before .before .before .before .before .before .before .before .before .before .before .before .before .before .before .before .before .before .before .list-registers .last .1 .1 .0) (c .before .before .before .before .before .before .before .before .before .before .before .before .before .before .before .before .before .before .before .before .before .before .before .before .before .before .before .before .before .before .before .before .before .before .before .before .before .before .before .before .before .before .before .fill-forms .ensures .before) (c .before .before .before .before .before .before .before .before .before .before .before .before .before .before .before .before .before .before .before .before .before .before .before .before .before .before .before .before .before .before .before .before .before .before .before .before .before .before .before .list-registers .ensures .0)) (c .before .before .before .before .before .before .before .before .before .before .before .before .before .before .before .before .before .before .before .before .before .before .before .before .before .before .before .before .before .before .before .before .before .list-controls .ensures .0)) (c .before .before .before .before .before .before .before .before .before .before .before .before .before .before .before .before .before .before .before .before .before .before .before .before .before .before .list-outputs .ensures .0)) (c .before .before .before .before .before .before .before .before .before .before .before .before .before .before .before .before .before .before .before .first-code .ensures .0)) (c .before .before .before .before .before .before .before .before .second-code .ensures .0)), c .none5 .ensures .1))
 
 -- src/code.rt:429:1
 same-length-14 : tie.Need-same-length-14
@@ -175,7 +175,7 @@ same-length-17 c = c .before .before .before .before .before .before .before .be
 
 -- src/code.rt:429:1
 returns-6 : tie.Need-returns-6
-returns-6 c = let s = c .before .before .before .before .before .before .before .before .before .before .before .before .before .before .before .before .before .before .before .before .before .before .before .before .before .before .before .before .before .before .before .before .before .before .before .before .before .before .before .before .before .before .before .before .before .before .before .before .before .before .before .before .before .before .before in (planned-all (s .args .n) (s .args .count) (c .before .before .before .before .before .before .before .before .before .before .before .before .before .before .before .before .before .before .before .before .before .before .before .before .before .before .before .before .before .before .before .before .before .before .before .before .before .before .before .before .before .before .fill-forms .last .1 .1 .1 .1 .1 .1 .1 .1 .1 .0) (c .before .before .before .before .before .before .before .before .before .before .before .before .before .before .before .before .before .before .before .before .before .before .before .before .before .before .before .before .before .before .before .before .before .before .before .before .before .before .list-registers .last .1 .1 .0) (c .before .before .before .before .before .before .before .before .before .before .before .before .before .before .before .before .before .before .before .before .before .before .before .before .before .before .before .before .before .before .before .before .list-controls .last .1 .1 .0) (c .before .before .before .before .before .before .before .before .before .before .before .before .before .before .before .before .before .before .before .before .before .before .before .before .before .list-outputs .last .1 .0) (c .before .before .before .before .before .before .before .before .before .before .before .before .before .before .before .before .before .before .before .before .before .before .before .before .before .before .before .before .before .before .before .before .before .before .before .before .before .before .list-registers .ensures .0) (c .before .before .before .before .before .before .before .before .before .before .before .before .before .before .before .before .before .before .before .before .before .before .before .before .before .before .before .before .before .before .before .before .list-controls .ensures .0) (c .before .before .before .before .before .before .before .before .before .before .before .before .before .before .before .before .before .before .before .before .before .before .before .before .before .list-outputs .ensures .0) (c .before .before .before .before .before .before .before .before .before .before .before .before .before .before .before .before .before .before .first-code .last .1 .1 .1 .1 .1 .1 .1 .1 .1 .1 .1 .1 .1 .1 .1 .0) (c .before .before .before .before .before .before .before .before .before .before .before .before .before .before .before .before .before .before .first-code .ensures .0) (c .before .before .before .before .before .before .before .second-code .last .1 .1 .1 .1 .1 .1 .1 .1 .1 .1 .1 .1 .1 .0) (c .before .before .before .before .before .before .before .second-code .ensures .0) (s .pre .11) (s .pre .3) (c .before .before .before .before .before .before .before .before .before .before .before .before .before .before .before .before .before .before .before .before .before .before .before .before .before .before .before .before .before .before .before .before .before .before .before .if1 .left) (c .before .before .before .before .before .before .before .before .before .before .before .before .before .before .before .before .before .before .before .before .before .before .before .before .before .before .before .if2 .left) (c .before .before .before .before .before .before .before .before .before .before .before .before .before .before .before .before .before .before .before .before .before .before .if3 .left) (c .before .before .before .before .before .before .before .before .before .before .before .if4 .left) (omega (arith, s .pre .10, c .before .before .before .before .before .before .before .before .before .before .before .before .before .before .before .before .before .before .before .before .before .before .before .before .before .before .before .before .before .before .before .before .before .before .before .before .before .before .before .before .before .before .fill-forms .kept .1 .1 .1 .1 .1 .1 .1 .1 .1 .0, c .before .before .before .before .before .before .before .before .before .before .before .before .before .before .before .before .before .before .before .before .before .before .before .before .before .before .before .before .before .before .before .before .before .before .before .before .before .before .list-registers .kept .1 .1 .0, c .before .before .before .before .before .before .before .before .before .before .before .before .before .before .before .before .before .before .before .before .before .before .before .before .before .before .before .before .before .before .before .before .list-controls .kept .1 .1 .0, c .before .before .before .before .before .before .before .before .before .before .before .before .before .before .before .before .before .before .before .before .before .before .before .before .before .list-outputs .kept .1 .0, c .before .before .before .before .before .before .before .before .before .before .before .before .before .before .before .before .before .before .first-code .kept .1 .1 .1 .1 .1 .1 .1 .1 .1 .1 .1 .1 .1 .1 .1 .0, c .before .before .before .before .before .before .before .second-code .kept .1 .1 .1 .1 .1 .1 .1 .1 .1 .1 .1 .1 .1 .0)) (c .before .before .before .before .before .before .before .second-code .kept .1 .1 .1 .1 .1 .1 .1 .1 .1 .1 .1 .1 .1 .0) (s .pre .7) (s .pre .8) (omega (arith, s .pre .9, c .before .before .before .before .before .before .before .second-code .kept .1 .1 .1 .1 .1 .1 .1 .1 .1 .1 .1 .1 .1 .1 .0, c .before .before .before .before .before .before .before .before .before .before .before .before .before .before .before .before .before .before .first-code .kept .1 .1 .1 .1 .1 .1 .1 .1 .1 .1 .1 .1 .1 .1 .1 .1 .0)) (c .before .before .before .before .before .before .before .before .before .before .before .before .before .before .before .before .before .before .before .before .before .before .before .before .before .before .before .before .before .before .before .before .before .before .before .before .before .before .list-registers .ensures .1 (c .before .before .before .before .before .before .before .before .before .before .before .before .before .before .before .before .before .before .before .before .before .before .before .before .before .before .before .before .before .before .before .before .before .before .before .if1 .left)) (c .before .before .before .before .before .before .before .before .before .before .before .before .before .before .before .before .before .before .before .before .before .before .before .before .before .before .before .before .before .before .before .before .list-controls .ensures .1 (c .before .before .before .before .before .before .before .before .before .before .before .before .before .before .before .before .before .before .before .before .before .before .before .before .before .before .before .if2 .left)) (c .before .before .before .before .before .before .before .before .before .before .before .before .before .before .before .before .before .before .before .before .before .before .before .before .before .list-outputs .ensures .1 (c .before .before .before .before .before .before .before .before .before .before .before .before .before .before .before .before .before .before .before .before .before .before .if3 .left)) (c .before .before .before .before .before .before .before .before .before .before .before .before .before .before .before .before .before .before .first-code .ensures .1 .0 (c .before .before .before .before .before .before .before .before .before .before .before .if4 .left)) (c .before .before .before .before .before .before .before .before .before .before .before .before .before .before .before .before .before .before .first-code .ensures .1 .1 .0 (c .before .before .before .before .before .before .before .before .before .before .before .if4 .left)) (c .before .before .before .before .before .before .before .before .before .before .before .before .before .before .before .before .before .before .first-code .ensures .1 .1 .1 (c .before .before .before .before .before .before .before .before .before .before .before .if4 .left)) (c .before .before .before .before .before .before .before .second-code .ensures .1 .0 (c .if5 .left)) (c .before .before .before .before .before .before .before .second-code .ensures .1 .1 (c .if5 .left)), ((order-by-second (s .args .n) (s .args .count) (s .args .order .now) (c .before .before .before .before .before .before .before .before .before .before .before .before .before .before .before .before .before .before .first-code .last .1 .1 .1 .1 .1 .1 .1 .1 .1 .1 .1 .1 .1 .1 .1 .0) (c .before .before .before .before .before .before .before .second-code .last .1 .1 .1 .1 .1 .1 .1 .1 .1 .1 .1 .1 .1 .0) (order-by-first (s .args .n) (s .args .count) (s .args .order .now) (c .before .before .before .before .before .before .before .before .before .before .before .before .before .before .before .before .before .before .before .before .before .before .before .before .before .list-outputs .last .1 .0) (c .before .before .before .before .before .before .before .before .before .before .before .before .before .before .before .before .before .before .first-code .last .1 .1 .1 .1 .1 .1 .1 .1 .1 .1 .1 .1 .1 .1 .1 .0) (order-by-outputs (s .args .n) (s .args .count) (s .args .order .now) (c .before .before .before .before .before .before .before .before .before .before .before .before .before .before .before .before .before .before .before .before .before .before .before .before .before .before .before .before .before .before .before .before .list-controls .last .1 .1 .0) (c .before .before .before .before .before .before .before .before .before .before .before .before .before .before .before .before .before .before .before .before .before .before .before .before .before .list-outputs .last .1 .0) (order-by-controls (s .args .n) (s .args .count) (s .args .order .now) (c .before .before .before .before .before .before .before .before .before .before .before .before .before .before .before .before .before .before .before .before .before .before .before .before .before .before .before .before .before .before .before .before .before .before .before .before .before .before .list-registers .last .1 .1 .0) (c .before .before .before .before .before .before .before .before .before .before .before .before .before .before .before .before .before .before .before .before .before .before .before .before .before .before .before .before .before .before .before .before .list-controls .last .1 .1 .0) (order-by-registers (s .args .n) (s .args .count) (s .args .order .now) (c .before .before .before .before .before .before .before .before .before .before .before .before .before .before .before .before .before .before .before .before .before .before .before .before .before .before .before .before .before .before .before .before .before .before .before .before .before .before .before .before .before .before .fill-forms .last .1 .1 .1 .1 .1 .1 .1 .1 .1 .0) (c .before .before .before .before .before .before .before .before .before .before .before .before .before .before .before .before .before .before .before .before .before .before .before .before .before .before .before .before .before .before .before .before .before .before .before .before .before .before .list-registers .last .1 .1 .0) (c .before .before .before .before .before .before .before .before .before .before .before .before .before .before .before .before .before .before .before .before .before .before .before .before .before .before .before .before .before .before .before .before .before .before .before .before .before .before .before .before .before .before .fill-forms .ensures .0) (c .before .before .before .before .before .before .before .before .before .before .before .before .before .before .before .before .before .before .before .before .before .before .before .before .before .before .before .before .before .before .before .before .before .before .before .before .before .before .list-registers .ensures .0)) (c .before .before .before .before .before .before .before .before .before .before .before .before .before .before .before .before .before .before .before .before .before .before .before .before .before .before .before .before .before .before .before .before .list-controls .ensures .0)) (c .before .before .before .before .before .before .before .before .before .before .before .before .before .before .before .before .before .before .before .before .before .before .before .before .before .list-outputs .ensures .0)) (c .before .before .before .before .before .before .before .before .before .before .before .before .before .before .before .before .before .before .first-code .ensures .0)) (c .before .before .before .before .before .before .before .second-code .ensures .0)), refl))
+returns-6 c = let s = c .before .before .before .before .before .before .before .before .before .before .before .before .before .before .before .before .before .before .before .before .before .before .before .before .before .before .before .before .before .before .before .before .before .before .before .before .before .before .before .before .before .before .before .before .before .before .before .before .before .before .before .before .before .before .before in (planned-all (s .args .n) (s .args .count) (c .before .before .before .before .before .before .before .before .before .before .before .before .before .before .before .before .before .before .before .before .before .before .before .before .before .before .before .before .before .before .before .before .before .before .before .before .before .before .before .before .before .before .fill-forms .last .1 .1 .1 .1 .1 .1 .1 .1 .1 .0) (c .before .before .before .before .before .before .before .before .before .before .before .before .before .before .before .before .before .before .before .before .before .before .before .before .before .before .before .before .before .before .before .before .before .before .before .before .before .before .list-registers .last .1 .1 .0) (c .before .before .before .before .before .before .before .before .before .before .before .before .before .before .before .before .before .before .before .before .before .before .before .before .before .before .before .before .before .before .before .before .list-controls .last .1 .1 .0) (c .before .before .before .before .before .before .before .before .before .before .before .before .before .before .before .before .before .before .before .before .before .before .before .before .before .list-outputs .last .1 .0) (c .before .before .before .before .before .before .before .before .before .before .before .before .before .before .before .before .before .before .before .before .before .before .before .before .before .before .before .before .before .before .before .before .before .before .before .before .before .before .list-registers .ensures .0) (c .before .before .before .before .before .before .before .before .before .before .before .before .before .before .before .before .before .before .before .before .before .before .before .before .before .before .before .before .before .before .before .before .list-controls .ensures .0) (c .before .before .before .before .before .before .before .before .before .before .before .before .before .before .before .before .before .before .before .before .before .before .before .before .before .list-outputs .ensures .0) (c .before .before .before .before .before .before .before .before .before .before .before .before .before .before .before .before .before .before .first-code .last .1 .1 .1 .1 .1 .1 .1 .1 .1 .1 .1 .1 .1 .1 .1 .0) (c .before .before .before .before .before .before .before .before .before .before .before .before .before .before .before .before .before .before .first-code .ensures .0) (c .before .before .before .before .before .before .before .second-code .last .1 .1 .1 .1 .1 .1 .1 .1 .1 .1 .1 .1 .1 .0) (c .before .before .before .before .before .before .before .second-code .ensures .0) (s .pre .11) (s .pre .3) (c .before .before .before .before .before .before .before .before .before .before .before .before .before .before .before .before .before .before .before .before .before .before .before .before .before .before .before .before .before .before .before .before .before .before .before .if1 .left) (c .before .before .before .before .before .before .before .before .before .before .before .before .before .before .before .before .before .before .before .before .before .before .before .before .before .before .before .if2 .left) (c .before .before .before .before .before .before .before .before .before .before .before .before .before .before .before .before .before .before .before .before .before .before .if3 .left) (c .before .before .before .before .before .before .before .before .before .before .before .if4 .left) (omega (arith, s .pre .10, c .before .before .before .before .before .before .before .before .before .before .before .before .before .before .before .before .before .before .before .before .before .before .before .before .before .before .before .before .before .before .before .before .before .before .before .before .before .before .before .before .before .before .fill-forms .kept .1 .1 .1 .1 .1 .1 .1 .1 .1 .0, c .before .before .before .before .before .before .before .before .before .before .before .before .before .before .before .before .before .before .before .before .before .before .before .before .before .before .before .before .before .before .before .before .before .before .before .before .before .before .list-registers .kept .1 .1 .0, c .before .before .before .before .before .before .before .before .before .before .before .before .before .before .before .before .before .before .before .before .before .before .before .before .before .before .before .before .before .before .before .before .list-controls .kept .1 .1 .0, c .before .before .before .before .before .before .before .before .before .before .before .before .before .before .before .before .before .before .before .before .before .before .before .before .before .list-outputs .kept .1 .0, c .before .before .before .before .before .before .before .before .before .before .before .before .before .before .before .before .before .before .first-code .kept .1 .1 .1 .1 .1 .1 .1 .1 .1 .1 .1 .1 .1 .1 .1 .0, c .before .before .before .before .before .before .before .second-code .kept .1 .1 .1 .1 .1 .1 .1 .1 .1 .1 .1 .1 .1 .0)) (c .before .before .before .before .before .before .before .second-code .kept .1 .1 .1 .1 .1 .1 .1 .1 .1 .1 .1 .1 .1 .0) (s .pre .7) (s .pre .8) (omega (arith, s .pre .9, c .before .before .before .before .before .before .before .second-code .kept .1 .1 .1 .1 .1 .1 .1 .1 .1 .1 .1 .1 .1 .1 .0, c .before .before .before .before .before .before .before .before .before .before .before .before .before .before .before .before .before .before .first-code .kept .1 .1 .1 .1 .1 .1 .1 .1 .1 .1 .1 .1 .1 .1 .1 .1 .0)) (c .before .before .before .before .before .before .before .before .before .before .before .before .before .before .before .before .before .before .before .before .before .before .before .before .before .before .before .before .before .before .before .before .before .before .before .before .before .before .list-registers .ensures .1 (c .before .before .before .before .before .before .before .before .before .before .before .before .before .before .before .before .before .before .before .before .before .before .before .before .before .before .before .before .before .before .before .before .before .before .before .if1 .left)) (c .before .before .before .before .before .before .before .before .before .before .before .before .before .before .before .before .before .before .before .before .before .before .before .before .before .before .before .before .before .before .before .before .list-controls .ensures .1 (c .before .before .before .before .before .before .before .before .before .before .before .before .before .before .before .before .before .before .before .before .before .before .before .before .before .before .before .if2 .left)) (c .before .before .before .before .before .before .before .before .before .before .before .before .before .before .before .before .before .before .before .before .before .before .before .before .before .list-outputs .ensures .1 (c .before .before .before .before .before .before .before .before .before .before .before .before .before .before .before .before .before .before .before .before .before .before .if3 .left)) (c .before .before .before .before .before .before .before .before .before .before .before .before .before .before .before .before .before .before .first-code .ensures .1 .0 (c .before .before .before .before .before .before .before .before .before .before .before .if4 .left)) (c .before .before .before .before .before .before .before .before .before .before .before .before .before .before .before .before .before .before .first-code .ensures .1 .1 .0 (c .before .before .before .before .before .before .before .before .before .before .before .if4 .left)) (c .before .before .before .before .before .before .before .before .before .before .before .before .before .before .before .before .before .before .first-code .ensures .1 .1 .1 (c .before .before .before .before .before .before .before .before .before .before .before .if4 .left)) (c .before .before .before .before .before .before .before .second-code .ensures .1 .0 (c .if5 .left)) (c .before .before .before .before .before .before .before .second-code .ensures .1 .1 (c .if5 .left)), ((order-by-second (s .args .n) (s .args .count) (s .args .order .now) (c .before .before .before .before .before .before .before .before .before .before .before .before .before .before .before .before .before .before .first-code .last .1 .1 .1 .1 .1 .1 .1 .1 .1 .1 .1 .1 .1 .1 .1 .0) (c .before .before .before .before .before .before .before .second-code .last .1 .1 .1 .1 .1 .1 .1 .1 .1 .1 .1 .1 .1 .0) (order-by-first (s .args .n) (s .args .count) (s .args .order .now) (c .before .before .before .before .before .before .before .before .before .before .before .before .before .before .before .before .before .before .before .before .before .before .before .before .before .list-outputs .last .1 .0) (c .before .before .before .before .before .before .before .before .before .before .before .before .before .before .before .before .before .before .first-code .last .1 .1 .1 .1 .1 .1 .1 .1 .1 .1 .1 .1 .1 .1 .1 .0) (order-by-outputs (s .args .n) (s .args .count) (s .args .order .now) (c .before .before .before .before .before .before .before .before .before .before .before .before .before .before .before .before .before .before .before .before .before .before .before .before .before .before .before .before .before .before .before .before .list-controls .last .1 .1 .0) (c .before .before .before .before .before .before .before .before .before .before .before .before .before .before .before .before .before .before .before .before .before .before .before .before .before .list-outputs .last .1 .0) (order-by-controls (s .args .n) (s .args .count) (s .args .order .now) (c .before .before .before .before .before .before .before .before .before .before .before .before .before .before .before .before .before .before .before .before .before .before .before .before .before .before .before .before .before .before .before .before .before .before .before .before .before .before .list-registers .last .1 .1 .0) (c .before .before .before .before .before .before .before .before .before .before .before .before .before .before .before .before .before .before .before .before .before .before .before .before .before .before .before .before .before .before .before .before .list-controls .last .1 .1 .0) (order-by-registers (s .args .n) (s .args .count) (s .args .order .now) (c .before .before .before .before .before .before .before .before .before .before .before .before .before .before .before .before .before .before .before .before .before .before .before .before .before .before .before .before .before .before .before .before .before .before .before .before .before .before .before .before .before .before .fill-forms .last .1 .1 .1 .1 .1 .1 .1 .1 .1 .0) (c .before .before .before .before .before .before .before .before .before .before .before .before .before .before .before .before .before .before .before .before .before .before .before .before .before .before .before .before .before .before .before .before .before .before .before .before .before .before .list-registers .last .1 .1 .0) (c .before .before .before .before .before .before .before .before .before .before .before .before .before .before .before .before .before .before .before .before .before .before .before .before .before .before .before .before .before .before .before .before .before .before .before .before .before .before .before .before .before .before .fill-forms .ensures .before) (c .before .before .before .before .before .before .before .before .before .before .before .before .before .before .before .before .before .before .before .before .before .before .before .before .before .before .before .before .before .before .before .before .before .before .before .before .before .before .list-registers .ensures .0)) (c .before .before .before .before .before .before .before .before .before .before .before .before .before .before .before .before .before .before .before .before .before .before .before .before .before .before .before .before .before .before .before .before .list-controls .ensures .0)) (c .before .before .before .before .before .before .before .before .before .before .before .before .before .before .before .before .before .before .before .before .before .before .before .before .before .list-outputs .ensures .0)) (c .before .before .before .before .before .before .before .before .before .before .before .before .before .before .before .before .before .before .first-code .ensures .0)) (c .before .before .before .before .before .before .before .second-code .ensures .0)), refl))
 
 pub encode-in-spec : {M : Type 1} → statement M
 encode-in-spec =

@@ -6,6 +6,7 @@ use Rattle.simulation.specs.Tick.{looped}
 use Rattle.evaluation.specs.Ready.{modelIn}
 use Rattle.evaluation.proofs.Preparing.{model-is, unordered, tabled, faultless, prepared, counted, sorted-unlooped, sorted-ordered}
 use borrow.Author.Needs.{needs}
+use Rattle.simulation.proofs.Tables.{starts-filled, offsets-filled, drivers-filled}
 use Rattle.runner.proofs.prepare.prepare.Statement.{statement}
 use Rattle.runner.proofs.prepare.prepare.Tie as tie
 use Rattle.runner.proofs.prepare.prepare.Reads as reads
@@ -35,7 +36,7 @@ fill-drivers-requires c κs = search needs
 
 -- src/prepare.rt:58:13
 lowest-on-loop-requires : tie.Need-lowest-on-loop-requires
-lowest-on-loop-requires c κs = let s = c .before .before .before .before .before .before .before .before .before .before .before .before .before .before .before .before .before .before .before .before .before .before .before .before .before .before .before .before .before in (tabled (s .pre .0) (c .before .before .before .before .before .before .before .before .before .before .before .before .before .before .before .before .before .before .fill-starts .ensures) (c .before .before .before .before .before .before .fill-drivers .ensures), s .pre .1, s .pre .3, faultless (s .pre .0), counted (s .pre .0) (s .pre .2))
+lowest-on-loop-requires c κs = let s = c .before .before .before .before .before .before .before .before .before .before .before .before .before .before .before .before .before .before .before .before .before .before .before .before .before .before .before .before .before in (tabled (s .pre .0) (starts-filled _ _ (c .before .before .before .before .before .before .before .before .before .before .before .before .before .before .before .before .before .before .fill-starts .ensures)) (drivers-filled _ _ (c .before .before .before .before .before .before .fill-drivers .ensures)), s .pre .1, s .pre .3, faultless (s .pre .0), counted (s .pre .0) (s .pre .2))
 
 -- src/prepare.rt:68:9
 same-length : tie.Need-same-length
@@ -59,7 +60,7 @@ same-length-5 c = search needs
 
 -- src/prepare.rt:68:9
 returns : tie.Need-returns
-returns c = let s = c .before .before .before .before .before .before .before .before .before .before .before .before .before .before .before .before .before .before .before .before .before .before .before .before .before .before .before .before .before .before .before .before in (prepared (s .pre .0) (c .before .before .before .before .before .before .before .before .before .before .before .before .before .before .before .before .before .fill-offsets .ensures) (c .before .before .before .before .before .before .before .before .before .before .before .before .before .fill-offsets2 .ensures), (c .before .before .before .before .before .before .before .before .before .before .before .before .before .before .before .before .before .before .before .before .before .fill-starts .ensures, (c .before .before .before .before .before .before .before .before .before .fill-drivers .ensures, (c .before .before .lowest-on-loop .ensures ∙ ap looped (model-is (s .args .signals .now) (s .args .exprs .now) (s .args .stmts .now)), (search needs, unordered (modelIn (s .args .signals .now) (s .args .exprs .now) (s .args .stmts .now)) (s .args .n) (s .args .order .now))))))
+returns c = let s = c .before .before .before .before .before .before .before .before .before .before .before .before .before .before .before .before .before .before .before .before .before .before .before .before .before .before .before .before .before .before .before .before in (prepared (s .pre .0) (offsets-filled _ _ (c .before .before .before .before .before .before .before .before .before .before .before .before .before .before .before .before .before .fill-offsets .ensures)) (offsets-filled _ _ (c .before .before .before .before .before .before .before .before .before .before .before .before .before .fill-offsets2 .ensures)), (starts-filled _ _ (c .before .before .before .before .before .before .before .before .before .before .before .before .before .before .before .before .before .before .before .before .before .fill-starts .ensures), (drivers-filled _ _ (c .before .before .before .before .before .before .before .before .before .fill-drivers .ensures), (c .before .before .lowest-on-loop .ensures ∙ ap looped (model-is (s .args .signals .now) (s .args .exprs .now) (s .args .stmts .now)), (search needs, unordered (modelIn (s .args .signals .now) (s .args .exprs .now) (s .args .stmts .now)) (s .args .n) (s .args .order .now))))))
 
 -- src/prepare.rt:73:5
 zero-bytes-requires : tie.Need-zero-bytes-requires
@@ -67,11 +68,11 @@ zero-bytes-requires c κs = search needs
 
 -- src/prepare.rt:74:9
 sort-requires : tie.Need-sort-requires
-sort-requires c κs = let s = c .before .before .before .before .before .before .before .before .before .before .before .before .before .before .before .before .before .before .before .before .before .before .before .before .before .before .before .before .before .before .before .before .before .before in (tabled (s .pre .0) (c .before .before .before .before .before .before .before .before .before .before .before .before .before .before .before .before .before .before .before .before .before .before .before .fill-starts .ensures) (c .before .before .before .before .before .before .before .before .before .before .before .fill-drivers .ensures), s .pre .1, omega (arith, c .before .before .before .before .before .before .zero-bytes .kept .0, s .pre .3), omega (arith, c .before .before .before .before .before .before .before .before .if1 .left), sorting-zeroed (partIn (s .args .exprs .now) (s .args .stmts .now)) (s .args .n) (s .args .marks .now) (c .before .before .before .before .before .before .zero-bytes .ensures))
+sort-requires c κs = let s = c .before .before .before .before .before .before .before .before .before .before .before .before .before .before .before .before .before .before .before .before .before .before .before .before .before .before .before .before .before .before .before .before .before .before in (tabled (s .pre .0) (starts-filled _ _ (c .before .before .before .before .before .before .before .before .before .before .before .before .before .before .before .before .before .before .before .before .before .before .before .fill-starts .ensures)) (drivers-filled _ _ (c .before .before .before .before .before .before .before .before .before .before .before .fill-drivers .ensures)), s .pre .1, omega (arith, c .before .before .before .before .before .before .zero-bytes .kept .0, s .pre .3), omega (arith, c .before .before .before .before .before .before .before .before .if1 .left), sorting-zeroed (partIn (s .args .exprs .now) (s .args .stmts .now)) (s .args .n) (s .args .marks .now) (c .before .before .before .before .before .before .zero-bytes .ensures))
 
 -- src/prepare.rt:76:13
 lowest-on-loop-requires-2 : tie.Need-lowest-on-loop-requires-2
-lowest-on-loop-requires-2 c κs = let s = c .before .before .before .before .before .before .before .before .before .before .before .before .before .before .before .before .before .before .before .before .before .before .before .before .before .before .before .before .before .before .before .before .before .before .before .before .before .before .before .before .before .before .before in (tabled (s .pre .0) (c .before .before .before .before .before .before .before .before .before .before .before .before .before .before .before .before .before .before .before .before .before .before .before .before .before .before .before .before .before .before .before .before .fill-starts .ensures) (c .before .before .before .before .before .before .before .before .before .before .before .before .before .before .before .before .before .before .before .before .fill-drivers .ensures), s .pre .1, omega (arith, c .before .before .before .before .before .before .before .before .sort .kept .1 .1 .1 .1 .0, c .before .before .before .before .before .before .before .before .before .before .before .before .before .before .before .zero-bytes .kept .0, s .pre .3), faultless (s .pre .0), counted (s .pre .0) (s .pre .2))
+lowest-on-loop-requires-2 c κs = let s = c .before .before .before .before .before .before .before .before .before .before .before .before .before .before .before .before .before .before .before .before .before .before .before .before .before .before .before .before .before .before .before .before .before .before .before .before .before .before .before .before .before .before .before in (tabled (s .pre .0) (starts-filled _ _ (c .before .before .before .before .before .before .before .before .before .before .before .before .before .before .before .before .before .before .before .before .before .before .before .before .before .before .before .before .before .before .before .before .fill-starts .ensures)) (drivers-filled _ _ (c .before .before .before .before .before .before .before .before .before .before .before .before .before .before .before .before .before .before .before .before .fill-drivers .ensures)), s .pre .1, omega (arith, c .before .before .before .before .before .before .before .before .sort .kept .1 .1 .1 .1 .0, c .before .before .before .before .before .before .before .before .before .before .before .before .before .before .before .zero-bytes .kept .0, s .pre .3), faultless (s .pre .0), counted (s .pre .0) (s .pre .2))
 
 -- src/prepare.rt:86:9
 same-length-6 : tie.Need-same-length-6
@@ -99,7 +100,7 @@ same-length-11 c = search needs
 
 -- src/prepare.rt:86:9
 returns-2 : tie.Need-returns-2
-returns-2 c = let s = c .before .before .before .before .before .before .before .before .before .before .before .before .before .before .before .before .before .before .before .before .before .before .before .before .before .before .before .before .before .before .before .before .before .before .before .before .before .before .before .before .before .before .before .before .before .before in (prepared (s .pre .0) (c .before .before .before .before .before .before .before .before .before .before .before .before .before .before .before .before .before .before .before .before .before .before .before .before .before .before .before .before .before .before .before .fill-offsets .ensures) (c .before .before .before .before .before .before .before .before .before .before .before .before .before .before .before .before .before .before .before .before .before .before .before .before .before .before .before .fill-offsets2 .ensures), (c .before .before .before .before .before .before .before .before .before .before .before .before .before .before .before .before .before .before .before .before .before .before .before .before .before .before .before .before .before .before .before .before .before .before .before .fill-starts .ensures, (c .before .before .before .before .before .before .before .before .before .before .before .before .before .before .before .before .before .before .before .before .before .before .before .fill-drivers .ensures, (c .before .before .lowest-on-loop2 .ensures ∙ ap looped (model-is (s .args .signals .now) (s .args .exprs .now) (s .args .stmts .now)), (search needs, unordered (modelIn (s .args .signals .now) (s .args .exprs .now) (s .args .stmts .now)) (s .args .n) (s .args .order .now))))))
+returns-2 c = let s = c .before .before .before .before .before .before .before .before .before .before .before .before .before .before .before .before .before .before .before .before .before .before .before .before .before .before .before .before .before .before .before .before .before .before .before .before .before .before .before .before .before .before .before .before .before .before in (prepared (s .pre .0) (offsets-filled _ _ (c .before .before .before .before .before .before .before .before .before .before .before .before .before .before .before .before .before .before .before .before .before .before .before .before .before .before .before .before .before .before .before .fill-offsets .ensures)) (offsets-filled _ _ (c .before .before .before .before .before .before .before .before .before .before .before .before .before .before .before .before .before .before .before .before .before .before .before .before .before .before .before .fill-offsets2 .ensures)), (starts-filled _ _ (c .before .before .before .before .before .before .before .before .before .before .before .before .before .before .before .before .before .before .before .before .before .before .before .before .before .before .before .before .before .before .before .before .before .before .before .fill-starts .ensures), (drivers-filled _ _ (c .before .before .before .before .before .before .before .before .before .before .before .before .before .before .before .before .before .before .before .before .before .before .before .fill-drivers .ensures), (c .before .before .lowest-on-loop2 .ensures ∙ ap looped (model-is (s .args .signals .now) (s .args .exprs .now) (s .args .stmts .now)), (search needs, unordered (modelIn (s .args .signals .now) (s .args .exprs .now) (s .args .stmts .now)) (s .args .n) (s .args .order .now))))))
 
 -- src/prepare.rt:92:9
 same-length-12 : tie.Need-same-length-12
@@ -127,7 +128,7 @@ same-length-17 c = search needs
 
 -- src/prepare.rt:92:9
 returns-3 : tie.Need-returns-3
-returns-3 c = let s = c .before .before .before .before .before .before .before .before .before .before .before .before .before .before .before .before .before .before .before .before .before .before .before .before .before .before .before .before .before .before .before .before .before .before .before .before .before .before .before .before .before in (prepared (s .pre .0) (c .before .before .before .before .before .before .before .before .before .before .before .before .before .before .before .before .before .before .before .before .before .before .before .before .before .before .fill-offsets .ensures) (c .before .before .before .before .before .before .before .before .before .before .before .before .before .before .before .before .before .before .before .before .before .before .fill-offsets2 .ensures), (c .before .before .before .before .before .before .before .before .before .before .before .before .before .before .before .before .before .before .before .before .before .before .before .before .before .before .before .before .before .before .fill-starts .ensures, (c .before .before .before .before .before .before .before .before .before .before .before .before .before .before .before .before .before .before .fill-drivers .ensures, (sorted-unlooped (s .pre .0) (s .pre .1) (c .before .before .before .before .before .before .sort .ensures) (c .before .if2 .left), (c .if3 .taken, sorted-ordered (s .pre .0) (s .pre .1) (c .before .before .before .before .before .before .sort .ensures) (c .before .if2 .left) (c .if3 .taken))))))
+returns-3 c = let s = c .before .before .before .before .before .before .before .before .before .before .before .before .before .before .before .before .before .before .before .before .before .before .before .before .before .before .before .before .before .before .before .before .before .before .before .before .before .before .before .before .before in (prepared (s .pre .0) (offsets-filled _ _ (c .before .before .before .before .before .before .before .before .before .before .before .before .before .before .before .before .before .before .before .before .before .before .before .before .before .before .fill-offsets .ensures)) (offsets-filled _ _ (c .before .before .before .before .before .before .before .before .before .before .before .before .before .before .before .before .before .before .before .before .before .before .fill-offsets2 .ensures)), (starts-filled _ _ (c .before .before .before .before .before .before .before .before .before .before .before .before .before .before .before .before .before .before .before .before .before .before .before .before .before .before .before .before .before .before .fill-starts .ensures), (drivers-filled _ _ (c .before .before .before .before .before .before .before .before .before .before .before .before .before .before .before .before .before .before .fill-drivers .ensures), (sorted-unlooped (s .pre .0) (s .pre .1) (c .before .before .before .before .before .before .sort .ensures) (c .before .if2 .left), (c .if3 .taken, sorted-ordered (s .pre .0) (s .pre .1) (c .before .before .before .before .before .before .sort .ensures) (c .before .if2 .left) (c .if3 .taken))))))
 
 -- src/prepare.rt:32:1
 same-length-18 : tie.Need-same-length-18
@@ -155,7 +156,7 @@ same-length-23 c = search needs
 
 -- src/prepare.rt:32:1
 returns-4 : tie.Need-returns-4
-returns-4 c = let s = c .before .before .before .before .before .before .before .before .before .before .before .before .before .before .before .before .before .before .before .before .before .before .before .before .before .before .before .before .before .before .before .before .before .before .before .before .before .before .before .before .before in (prepared (s .pre .0) (c .before .before .before .before .before .before .before .before .before .before .before .before .before .before .before .before .before .before .before .before .before .before .before .before .before .before .fill-offsets .ensures) (c .before .before .before .before .before .before .before .before .before .before .before .before .before .before .before .before .before .before .before .before .before .before .fill-offsets2 .ensures), (c .before .before .before .before .before .before .before .before .before .before .before .before .before .before .before .before .before .before .before .before .before .before .before .before .before .before .before .before .before .before .fill-starts .ensures, (c .before .before .before .before .before .before .before .before .before .before .before .before .before .before .before .before .before .before .fill-drivers .ensures, (sorted-unlooped (s .pre .0) (s .pre .1) (c .before .before .before .before .before .before .sort .ensures) (c .before .if2 .left), (search needs, unordered (modelIn (s .args .signals .now) (s .args .exprs .now) (s .args .stmts .now)) (s .args .n) (s .args .order .now))))))
+returns-4 c = let s = c .before .before .before .before .before .before .before .before .before .before .before .before .before .before .before .before .before .before .before .before .before .before .before .before .before .before .before .before .before .before .before .before .before .before .before .before .before .before .before .before .before in (prepared (s .pre .0) (offsets-filled _ _ (c .before .before .before .before .before .before .before .before .before .before .before .before .before .before .before .before .before .before .before .before .before .before .before .before .before .before .fill-offsets .ensures)) (offsets-filled _ _ (c .before .before .before .before .before .before .before .before .before .before .before .before .before .before .before .before .before .before .before .before .before .before .fill-offsets2 .ensures)), (starts-filled _ _ (c .before .before .before .before .before .before .before .before .before .before .before .before .before .before .before .before .before .before .before .before .before .before .before .before .before .before .before .before .before .before .fill-starts .ensures), (drivers-filled _ _ (c .before .before .before .before .before .before .before .before .before .before .before .before .before .before .before .before .before .before .fill-drivers .ensures), (sorted-unlooped (s .pre .0) (s .pre .1) (c .before .before .before .before .before .before .sort .ensures) (c .before .if2 .left), (search needs, unordered (modelIn (s .args .signals .now) (s .args .exprs .now) (s .args .stmts .now)) (s .args .n) (s .args .order .now))))))
 
 pub prepare-spec : {M : Type 1} → statement M
 prepare-spec =

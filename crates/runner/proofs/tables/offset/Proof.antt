@@ -1,4 +1,5 @@
 use borrow.Author.Needs.{needs}
+use Rattle.simulation.proofs.Tables.{offset-right}
 use Rattle.runner.proofs.tables.offset.Statement.{statement}
 use Rattle.runner.proofs.tables.offset.Tie as tie
 use Rattle.runner.proofs.tables.offset.Reads as reads
@@ -11,7 +12,7 @@ offset-requires c κs = search needs
 
 -- src/tables.rt:19:1
 returns : tie.Need-returns
-returns c = c .offset .ensures (c .before .before .before .pre .0) (c .before .before .before .pre .1) (c .before .before .before .pre .2)
+returns c = offset-right _ _ _ (c .offset .ensures) (c .before .before .before .pre .0) (c .before .before .before .pre .1) (c .before .before .before .pre .2)
 
 pub offset-spec : {M : Type 1} → statement M
 offset-spec = tie.close (tie.spec offset-requires returns)

@@ -8,7 +8,7 @@ use Rattle.runner.proofs.whole.check_list.Statement.{statement}
 use Rattle.runner.proofs.whole.check_list.Tie as tie
 use Rattle.runner.proofs.whole.check_list.Reads as reads
 use Rattle.runner.proofs.whole.check_list.Lts as lts
-use Rattle.model_check.proofs.check.malformed.Reads as malformed-reads
+use Rattle.runner.proofs.cut.malformed.Reads as malformed-reads
 use Rattle.runner.proofs.whole.list_fault.Reads as list-fault-reads
 
 -- src/whole.rt:124:9

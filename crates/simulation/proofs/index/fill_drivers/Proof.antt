@@ -7,6 +7,7 @@ use borrow.Author.Needs.{needs}
 use Rattle.simulation.specs.Index.{fieldsAt}
 use Rattle.simulation.proofs.Steps.{within, left-next, left-out, left-end}
 use Rattle.simulation.proofs.Driving.{Noting, noting-start, noting-next, noting-end}
+use Rattle.simulation.proofs.Tables.{drivers-are}
 use Rattle.simulation.proofs.index.fill_drivers.Statement.{statement}
 use Rattle.simulation.proofs.index.fill_drivers.Tie as tie
 use Rattle.simulation.proofs.index.fill_drivers.Reads as reads
@@ -39,7 +40,7 @@ same-length c = c .before .before .before .loop .inv .1 ∙ c .before .before .b
 
 -- src/index.rt:339:13
 returns : tie.Need-returns Inv-loop μ-loop
-returns c = noting-end (c .before .before .before .loop .inv .2) (left-out _ _ _ (c .before .size .ensures) (c .if1 .taken))
+returns c = drivers-are _ _ (noting-end (c .before .before .before .loop .inv .2) (left-out _ _ _ (c .before .size .ensures) (c .if1 .taken))) (c .before .before .before .loop .inv .1 ∙ c .before .before .before .before .before .before .zero-words .kept .0)
 
 -- src/index.rt:341:9
 note-requires : tie.Need-note-requires Inv-loop μ-loop
@@ -63,7 +64,7 @@ same-length-2 c = c .before .loop .inv .1 ∙ c .before .before .before .before 
 
 -- src/index.rt:331:1
 returns-2 : tie.Need-returns-2 Inv-loop μ-loop
-returns-2 c = noting-end (c .before .loop .inv .2) (left-end _ _ (c .loop-test .left))
+returns-2 c = drivers-are _ _ (noting-end (c .before .loop .inv .2) (left-end _ _ (c .loop-test .left))) (c .before .loop .inv .1 ∙ c .before .before .before .before .zero-words .kept .0)
 
 pub fill-drivers-spec : {M : Type 1} → statement M
 fill-drivers-spec =

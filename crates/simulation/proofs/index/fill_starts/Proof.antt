@@ -1,10 +1,10 @@
 use native.Mathlib.Omega.{arith}
 use mathlib.Core.Path.{_≡_, refl, ap, _∙_}
-use Prim.Native.Nat.{_-_, _≤_}
+use Prim.Native.Nat.{ℕ, _-_, _≤_}
 use lib.ListN.{length, length-set}
 use borrow.Author.Needs.{needs}
-use Rattle.simulation.specs.Index.{clipped}
-use Rattle.simulation.proofs.Offsets.{Filled, startEntry, filled-none, filled-more, starts-all, starts-full}
+use Rattle.simulation.specs.Index.{recordsIn, clipped, filling, startEntry, startTable}
+use Rattle.simulation.proofs.Tables.{filling-none, filling-more, filling-full}
 use Rattle.simulation.proofs.Steps.{Walked, walked-start, walked-next, walked-out, walked-within}
 use Rattle.simulation.proofs.index.fill_starts.Statement.{statement}
 use Rattle.simulation.proofs.index.fill_starts.Tie as tie
@@ -14,14 +14,14 @@ use Rattle.simulation.proofs.index.clip.Reads as clip-reads
 use Rattle.simulation.proofs.index.size.Reads as size-reads
 
 abbrev Inv-loop : tie.InvT-loop
-Inv-loop list table₀ at₀ k₀ table at k = Walked list at k × (k ≤ length table₀) × (length table ≡ length table₀) × Filled (startEntry list) table k
+Inv-loop list table₀ at₀ k₀ table at k = Walked list at k × (k ≤ length table₀) × (length table ≡ length table₀) × (table ≡ filling (startEntry list) k table₀)
 
 abbrev μ-loop : tie.MeasureT-loop
 μ-loop list table₀ at₀ k₀ table at k = length table₀ - k
 
 -- src/index.rt:202:5
 loop-holds : tie.Need-loop-holds Inv-loop μ-loop
-loop-holds c = (walked-start _, omega arith, refl, filled-none _ _)
+loop-holds c = (walked-start _, omega arith, refl, filling-none _ _)
 
 -- src/index.rt:203:13
 size-requires : tie.Need-size-requires Inv-loop μ-loop
@@ -33,7 +33,8 @@ same-length c = c .before .before .before .loop .inv .2
 
 -- src/index.rt:205:13
 returns : tie.Need-returns Inv-loop μ-loop
-returns c = starts-all _ _ _ (c .before .before .before .loop .inv .3) (walked-out (c .before .before .before .loop .inv .0) _ (c .before .size .ensures) (c .if1 .taken))
+unfolding startTable
+returns c = c .before .before .before .loop .inv .3 ∙ ap (λ (j : ℕ). filling (startEntry (c .before .before .before .before .before .before .args .list .now)) j (c .before .before .before .before .before .before .args .table .now)) (walked-out (c .before .before .before .loop .inv .0) _ (c .before .size .ensures) (c .if1 .taken))
 
 -- src/index.rt:207:20
 clip-requires : tie.Need-clip-requires Inv-loop μ-loop
@@ -61,7 +62,7 @@ loop-less c = omega arith
 
 -- src/index.rt:202:5
 loop-again : tie.Need-loop-again Inv-loop μ-loop
-loop-again c = (walked-next (c .before .before .before .before .loop .inv .0) _ (c .before .before .size .ensures) (c .before .if1 .left), omega arith, simp length-set (c .before .before .before .before .loop .inv .2), filled-more _ _ _ _ (c .before .before .before .before .loop .inv .3) (c .clip .ensures ∙ ap clipped (c .before .before .before .before .loop .inv .0 .begins)))
+loop-again c = (walked-next (c .before .before .before .before .loop .inv .0) _ (c .before .before .size .ensures) (c .before .if1 .left), omega arith, simp length-set (c .before .before .before .before .loop .inv .2), filling-more _ _ _ _ (c .before .before .before .before .loop .inv .3) (c .clip .ensures ∙ ap clipped (c .before .before .before .before .loop .inv .0 .begins)))
 
 -- src/index.rt:197:1
 same-length-2 : tie.Need-same-length-2 Inv-loop μ-loop
@@ -69,7 +70,8 @@ same-length-2 c = c .before .loop .inv .2
 
 -- src/index.rt:197:1
 returns-2 : tie.Need-returns-2 Inv-loop μ-loop
-returns-2 c = starts-full _ _ _ (c .before .loop .inv .3) (omega (arith, c .loop-test .left))
+unfolding startTable
+returns-2 c = filling-full _ _ _ _ (c .before .loop .inv .3) (omega (arith, c .loop-test .left)) (c .before .loop .inv .0 .reached)
 
 pub fill-starts-spec : {M : Type 1} → statement M
 fill-starts-spec =
