@@ -1,25 +1,39 @@
 -- Numbers handed out one after the other are those of the answer. Assumes nothing.
 use mathlib.Core.Path.{_≡_, refl, sym, _∙_, ap, subst}
-use mathlib.Core.List.{List, [], _∷_}
-use mathlib.Core.Option.{Option, none, some}
+use mathlib.Core.Bool.{Bool, true, false, _&&_}
+use mathlib.Core.List.{List, [], _∷_, _++_, map}
+use mathlib.Core.Option.{Option, none, some, Option·some-ne-none}
 use Prim.Native.Nat.{ℕ, zero, suc, _+_, _-_, _≤_}
 use native.Mathlib.Nat.{not-suc-le-zero}
 use native.Mathlib.Omega.{arith}
-use lib.ListN.{length, set}
+use lib.Dec.{eqb, leb, ltb}
+use lib.ListN.{length, set, take, drop}
+use lib.Seq.{take-length}
+use borrow.Author.Tests.{ltb-true}
+use Rattle.bits.specs.Bits.{pick}
 use Rattle.refusal.specs.Refusal.{numberOf, placeOf}
 use Rattle.refusal.specs.declared.Refusal.{Refusal}
+use Rattle.netlist.specs.Reader.{base}
 use Rattle.recorder.specs.declared.Tapes.{Tapes}
-use Rattle.simulation.specs.declared.Ran as s
-use Rattle.simulation.specs.Run.{zeroed}
-use Rattle.simulation.specs.Run.{answerOf as ranOf}
-use Rattle.converter.specs.declared.Lowered as c
-use Rattle.converter.specs.Entry.{answerOf}
-use Rattle.simulation.specs.declared.Fired.{Fired}
-use Rattle.simulation.specs.Run.{firedOf}
-use Rattle.simulation.specs.Fault.{callOf}
+use Rattle.recorder.specs.Record.{Model}
 use Rattle.recorder.specs.Lists.{Lists}
+use Rattle.recorder.specs.Read.{only}
+use Rattle.lowering.specs.Lower.{Lowered, Accepted, Refused, Lowering, lowerWords}
+use Rattle.simulation.specs.declared.Ran as s
+use Rattle.simulation.specs.Wellformed.{orElse, largest, malformed}
+use Rattle.simulation.specs.Tick.{looped}
+use Rattle.simulation.specs.Run.{Call, callModel, Outcome, signalBytes, exprBits, tickBits, zeroed, noBit, onLoop, firstOf, causes, refusal, verdict, answer, run, bytesAfter, firedOf}
+use Rattle.simulation.specs.Run.{answerOf as ranOf}
+use Rattle.simulation.specs.Fault.{callOf}
+use Rattle.simulation.proofs.Kept.{accepted-good}
 use Rattle.runner.specs.Calls.{firedBy, Runs}
-use Rattle.capi.specs.Answer.{refusalNumbers, numbersOf, Hands, HandsRan}
+use Rattle.converter.specs.declared.Lowered as c
+use Rattle.converter.specs.Entry.{answerOf, anyShort, blankOf, Lowers}
+use Rattle.converter.specs.Entry as lowers
+use Rattle.simulator.specs.Entry.{Simulation, simulation, Simulated, Simulates, refusedBy}
+use Rattle.simulator.specs.Entry as simulator
+use Rattle.capi.specs.Answer.{refusalNumbers, numbersOf, Hands, HandsLowered, HandsSimulated, HandsRan, orNoRoom, orNoRoomRan}
+use Rattle.capi.specs.Answer as handed
 
 -- nothing is put past the end
 pub put-past : (l : List ℕ) (i v : ℕ) → length l ≤ i → l ≡ set l i v
@@ -61,9 +75,182 @@ pub fired-edge : (f s : ℕ) → (f ≡ 0 → ⊥) → some (s, f - 1) ≡ fired
 fired-edge zero s d = absurd (d refl)
 fired-edge (suc f) s d = ap (λ (k : ℕ). some (s, k)) (omega arith)
 
-pub ran-by : (fires signal : ℕ) (f : Fired) {l : Lists} {bytes ticks wb we ws buffer : List ℕ} {code : ℕ} {r : s.Ran} {bytes′ wb′ we′ ws′ buffer′ : List ℕ} → firedOf f ≡ firedBy fires signal
-    → Runs (callOf l bytes ticks (firedOf f) wb we ws) r bytes′ wb′ we′ ws′
-    → Hands (refusalNumbers (ranOf r)) buffer code buffer′
-    → HandsRan (callOf l bytes ticks (firedBy fires signal) wb we ws) buffer code bytes′ wb′ we′ ws′ buffer′
-ran-by fires signal f {l} {bytes} {ticks} {wb} {we} {ws} {buffer} {code} {r} {bytes′} {wb′} {we′} {ws′} e h k =
-    record { answer = r; runs = subst (λ (o : Option (ℕ × ℕ)). Runs (callOf l bytes ticks o wb we ws) r bytes′ wb′ we′ ws′) e h; hands = k }
+-- A SHORT `answer`
+
+pub read-within : {used n : ℕ} (b : Bool) → used ≡ pick b 0 n → used ≤ n
+read-within true e = omega (arith, e)
+read-within false e = omega (arith, e)
+
+pub or-refused : {r : c.Lowered} {x : Refusal} {a : Lowered} → r ≡ c.the-variants.Refused x → a ≡ orNoRoom (Refused (numberOf x) (placeOf x)) → a ≡ orNoRoom (answerOf r)
+or-refused e h = h ∙ ap (λ (y : c.Lowered). orNoRoom (answerOf y)) (sym e)
+
+picked : (s : Bool) {A : Type 0} (x y : A) → y ≡ pick (pick s false false) x y
+picked true x y = refl
+picked false x y = refl
+
+-- lowering: of no words it is refused for a short work, or with 3
+
+module _ (words : List ℕ) {l l′ : Lists} {works works′ : List (List ℕ)} {used : ℕ} {r a : c.Lowered} where
+  lowering-is : (b : Bool) → used ≡ pick b 0 (length words) → Lowers base (take used words) l works r l′ works′ → answerOf a ≡ pick b (orNoRoom (answerOf r)) (answerOf r)
+      → record { answer = answerOf a; lists = l′ } ≡ pick (pick (anyShort (map length works)) false b) (record { answer = Refused 1 8; lists = blankOf l }) (lowers.callOf base words l works)
+  lowering-is false u h e =
+      ap (λ (x : Lowered). record { answer = x; lists = l′ }) e
+      ∙ h .value
+      ∙ ap (λ (w : List ℕ). lowers.callOf base w l works) (ap (λ (n : ℕ). take n words) u ∙ take-length words)
+      ∙ picked (anyShort (map length works)) (record { answer = Refused 1 8; lists = blankOf l }) (lowers.callOf base words l works)
+  lowering-is true u h e = ap (λ (x : Lowered). record { answer = x; lists = l′ }) e ∙ go (anyShort (map length works)) (h .value ∙ ap (λ (n : ℕ). lowers.callOf base (take n words) l works) u)
+    where
+      go : (s : Bool) → record { answer = answerOf r; lists = l′ } ≡ pick s (record { answer = Refused 1 16384; lists = blankOf l }) (record { answer = Refused 3 0; lists = blankOf l })
+          → record { answer = orNoRoom (answerOf r); lists = l′ } ≡ pick (pick s false true) (record { answer = Refused 1 8; lists = blankOf l }) (pick s (record { answer = Refused 1 16384; lists = blankOf l }) (lowerWords base words (length (l .signals)) (length (l .exprs)) (length (l .stmts))))
+      go true v = ap (λ (x : Lowering). record { answer = orNoRoom (x .answer); lists = x .lists }) v
+      go false v = ap (λ (x : Lowering). record { answer = orNoRoom (x .answer); lists = x .lists }) v
+
+pub lowered-by : (words : List ℕ) {l l′ : Lists} {works works′ : List (List ℕ)} {used : ℕ} {r a : c.Lowered} (buffer : List ℕ) {code : ℕ} {buffer′ : List ℕ}
+    → used ≡ pick (ltb (length buffer) 8) 0 (length words) → Lowers base (take used words) l works r l′ works′ → answerOf a ≡ pick (ltb (length buffer) 8) (orNoRoom (answerOf r)) (answerOf r)
+    → Hands (numbersOf (answerOf a)) buffer code buffer′ → HandsLowered words l works buffer code l′ works′ buffer′
+lowered-by words buffer {code} {buffer′} u h e k =
+    let v = lowering-is words (ltb (length buffer) 8) u h e in
+    record {
+      lists = ap (λ (x : Lowering). x .lists) v;
+      zeros = h .zeros;
+      hands = subst (λ (x : Lowering). Hands (numbersOf (x .answer)) buffer code buffer′) v k;
+    }
+
+-- a netlist and ticks: likewise
+
+module _ (words heads bits : List ℕ) (l : Lists) (works : List (List ℕ)) (bytes wb we ws answers shown : List ℕ) where
+  abbrev call : List ℕ → Simulation
+  call w = simulation w heads bits l works bytes wb we ws answers shown
+
+  module _ {used : ℕ} {r a : c.Lowered} {l′ : Lists} {answers′ shown′ : List ℕ} where
+    abbrev Value : Lowered → Simulated → Type 0
+    Value x y = record { answer = x; lists = l′; answers = answers′; shown = shown′ } ≡ y
+
+    read-all : used ≡ length words → Simulates base (call (take used words)) r l′ answers′ shown′ → Simulates base (call words) r l′ answers′ shown′
+    read-all u h = subst (λ (w : List ℕ). Simulates base (call w) r l′ answers′ shown′) (ap (λ (n : ℕ). take n words) u ∙ take-length words) h
+
+    simulating-is : (b : Bool) → used ≡ pick b 0 (length words) → Simulates base (call (take used words)) r l′ answers′ shown′ → answerOf a ≡ pick b (orNoRoom (answerOf r)) (answerOf r)
+        → Value (answerOf a) (pick (pick (anyShort (map length works)) false b) (refusedBy (call words) 1 8) (simulator.simulateCall base (call words)))
+    unfolding simulator.simulateCall
+    simulating-is false u h e =
+        ap (λ (x : Lowered). record { answer = x; lists = l′; answers = answers′; shown = shown′ }) e
+        ∙ read-all u h .value
+        ∙ picked (anyShort (map length works)) (refusedBy (call words) 1 8) (simulator.simulateCall base (call words))
+    simulating-is true u h e =
+        ap (λ (x : Lowered). record { answer = x; lists = l′; answers = answers′; shown = shown′ }) e
+        ∙ go (anyShort (map length works)) (h .value ∙ ap (λ (n : ℕ). simulator.simulateCall base (call (take n words))) u)
+      where
+        go : (s : Bool) → Value (answerOf r) (let y = pick s (record { answer = Refused 1 16384; lists = blankOf l }) (record { answer = Refused 3 0; lists = blankOf l }) in simulator.lowered (call []) (y .lists) (y .answer))
+            → Value (orNoRoom (answerOf r)) (pick (pick s false true) (refusedBy (call words) 1 8) (let y = pick s (record { answer = Refused 1 16384; lists = blankOf l }) (lowerWords base words (length (l .signals)) (length (l .exprs)) (length (l .stmts))) in simulator.lowered (call words) (y .lists) (y .answer)))
+        go true v = ap (λ (x : Simulated). record { answer = orNoRoom (x .answer); lists = x .lists; answers = x .answers; shown = x .shown }) v
+        go false v = ap (λ (x : Simulated). record { answer = orNoRoom (x .answer); lists = x .lists; answers = x .answers; shown = x .shown }) v
+
+    pub simulated-by : (buffer : List ℕ) {code : ℕ} {buffer′ : List ℕ} → used ≡ pick (ltb (length buffer) 8) 0 (length words) → Simulates base (call (take used words)) r l′ answers′ shown′
+        → answerOf a ≡ pick (ltb (length buffer) 8) (orNoRoom (answerOf r)) (answerOf r) → Hands (numbersOf (answerOf a)) buffer code buffer′ → HandsSimulated (call words) buffer code l′ answers′ shown′ buffer′
+    simulated-by buffer {code} {buffer′} u h e k = go (ltb (length buffer) 8) refl u e (simulating-is (ltb (length buffer) 8) u h e)
+      where
+        go : (b : Bool) → ltb (length buffer) 8 ≡ b → used ≡ pick b 0 (length words) → answerOf a ≡ pick b (orNoRoom (answerOf r)) (answerOf r) → Value (answerOf a) (handed.simulateCall (call words) buffer)
+            → HandsSimulated (call words) buffer code l′ answers′ shown′ buffer′
+        go true t v f z = record { answer = a; value = z; simulates = λ room. absurd (omega (arith, room, ltb-true (length buffer) 8 t)); hands = k }
+        go false t v f z = record {
+          answer = r;
+          value = ap (λ (x : Lowered). record { answer = x; lists = l′; answers = answers′; shown = shown′ }) (sym f) ∙ z;
+          simulates = λ room. read-all v h;
+          hands = subst (λ (x : Lowered). Hands (numbersOf x) buffer code buffer′) f k;
+        }
+
+-- a tick: with an edge that there is not it is refused, for the model, a short buffer, or with 14
+
+or-short : (b : Bool) (p : ℕ) (rest rest′ : Option (ℕ × ℕ)) → orNoRoomRan rest ≡ rest′ → orNoRoomRan (orElse (only b (some (1, p))) rest) ≡ orElse (only b (some (1, p))) rest′
+or-short true p rest rest′ h = refl
+or-short false p rest rest′ h = h
+
+or-bit : (i : ℕ) (bytes : List ℕ) (rest : Option (ℕ × ℕ)) → orNoRoomRan rest ≡ some (1, 8) → orNoRoomRan (orElse (noBit i bytes) rest) ≡ some (1, 8)
+or-bit i [] rest h = h
+or-bit i (b ∷ bytes) rest h = go (leb b 1)
+  where
+    go : (t : Bool) → orNoRoomRan (orElse (pick t (noBit (suc i) bytes) (some (14, i))) rest) ≡ some (1, 8)
+    go true = or-bit (suc i) bytes rest h
+    go false = refl
+
+or-14 : (t : Bool) (p : ℕ) (rest : Option (ℕ × ℕ)) → orNoRoomRan rest ≡ some (1, 8) → orNoRoomRan (orElse (pick t none (some (14, p))) rest) ≡ some (1, 8)
+or-14 true p rest h = h
+or-14 false p rest h = refl
+
+or-loop : (o : Option ℕ) → orNoRoomRan (orElse (onLoop o) none) ≡ some (1, 8)
+or-loop none = refl
+or-loop (some s) = refl
+
+kept-by : (k k₀ : Call) → k₀ .bytes ≡ k .bytes → (r : ℕ × ℕ) → k₀ .bytes ≡ bytesAfter k (orNoRoomRan (some r))
+kept-by k k₀ e r = go (ltb (r .0) 13)
+  where
+    go : (t : Bool) → k₀ .bytes ≡ bytesAfter k (pick t (some r) (some (1, 8)))
+    go true = e
+    go false = e
+
+module _ (l : Lists) (bytes ticks wb we ws : List ℕ) (g : Option (ℕ × ℕ)) where
+  abbrev tick : Option (ℕ × ℕ) → Call
+  tick o = callOf l bytes ticks o wb we ws
+
+  no-edge : answer largest (tick (some (0, 2))) ≡ none → ⊥
+  no-edge h = go (ltb 0 (length (callModel (tick g) .signals))) (accepted-good largest (tick (some (0, 2))) h .right-fired)
+    where
+      go : (b : Bool) → _≡_ {A = Option (ℕ × ℕ)} (pick (b && leb 2 1) none (some (14, 0))) none → ⊥
+      go true e = Option·some-ne-none (14, 0) e
+      go false e = Option·some-ne-none (14, 0) e
+
+  abbrev verdictFor : Bool → Option ℕ → Option (ℕ × ℕ)
+  verdictFor b (some n) = some (12, n)
+  verdictFor b none = let cs = causes (callModel (tick g)) (tick g) in firstOf (take 4 cs ++ (only b (some (1, 8)) ∷ drop 4 cs))
+
+  answer-is : (b : Bool) → pick b (orNoRoomRan (answer largest (tick (pick b (some (0, 2)) g)))) (answer largest (tick (pick b (some (0, 2)) g))) ≡ verdictFor b (malformed largest l)
+  unfolding answer refusal
+  answer-is false = go (malformed largest l)
+    where
+      go : (o : Option ℕ) → verdict (callModel (tick g)) (tick g) o ≡ verdictFor false o
+      go (some n) = refl
+      go none = refl
+  answer-is true = go (malformed largest l)
+    where
+      M : Model
+      M = callModel (tick g)
+
+      go : (o : Option ℕ) → orNoRoomRan (verdict (callModel (tick g)) (tick (some (0, 2))) o) ≡ verdictFor true o
+      go (some n) = refl
+      go none =
+          or-short (ltb (length bytes) (signalBytes M)) _ _ _
+          (or-short (ltb (length wb) (exprBits M)) _ _ _
+          (or-short (ltb (length we) (length (M .exprs))) _ _ _
+          (or-short (ltb (length ws) (length (M .signals))) _ _ _
+          (or-bit 0 (take (signalBytes M) bytes) _
+          (or-14 (eqb (length ticks) (tickBits M)) _ _
+          (or-bit 0 ticks _
+          (or-14 (ltb 0 (length (M .signals)) && leb 2 1) _ _
+          (or-loop (looped M)))))))))
+
+  bytes-are : (b : Bool) → run largest (tick (pick b (some (0, 2)) g)) .bytes ≡ bytesAfter (tick g) (pick b (orNoRoomRan (answer largest (tick (pick b (some (0, 2)) g)))) (answer largest (tick (pick b (some (0, 2)) g))))
+  unfolding run
+  bytes-are false = refl
+  bytes-are true = go (answer largest (tick (some (0, 2)))) refl
+    where
+      go : (o : Option (ℕ × ℕ)) → answer largest (tick (some (0, 2))) ≡ o → bytesAfter (tick (some (0, 2))) o ≡ bytesAfter (tick g) (orNoRoomRan o)
+      go none e = absurd (no-edge e)
+      go (some r) e = kept-by (tick g) (tick (some (0, 2))) refl r
+
+  pub ran-by : (buffer : List ℕ) {f : Option (ℕ × ℕ)} {code : ℕ} {r a : s.Ran} {bytes′ wb′ we′ ws′ buffer′ : List ℕ} → f ≡ pick (ltb (length buffer) 8) (some (0, 2)) g
+      → Runs (callOf l bytes ticks f wb we ws) r bytes′ wb′ we′ ws′ → ranOf a ≡ pick (ltb (length buffer) 8) (orNoRoomRan (ranOf r)) (ranOf r) → Hands (refusalNumbers (ranOf a)) buffer code buffer′
+      → HandsRan (callOf l bytes ticks g wb we ws) buffer code bytes′ wb′ we′ ws′ buffer′
+  unfolding run
+  ran-by buffer {f} {code} {r} {a} {bytes′} {wb′} {we′} {ws′} {buffer′} e h q k = record {
+    bytes = ap (λ (o : Outcome). o .bytes) v ∙ bytes-are b ∙ ap (bytesAfter (tick g)) (answer-is b);
+    bits-zeros = ap (λ (o : Outcome). o .workBits) v;
+    exprs-zeros = ap (λ (o : Outcome). o .workExprs) v;
+    signals-zeros = ap (λ (o : Outcome). o .workSignals) v;
+    hands = subst (λ (o : Option (ℕ × ℕ)). Hands (refusalNumbers o) buffer code buffer′) (q ∙ ap (λ (o : Option (ℕ × ℕ)). pick b (orNoRoomRan o) o) (ap (λ (o : Outcome). o .answer) v) ∙ answer-is b) k;
+  }
+    where
+      b : Bool
+      b = ltb (length buffer) 8
+
+      v : record { answer = ranOf r; bytes = bytes′; workBits = wb′; workExprs = we′; workSignals = ws′ } ≡ run largest (tick (pick (ltb (length buffer) 8) (some (0, 2)) g))
+      v = subst (λ (o : Option (ℕ × ℕ)). Runs (callOf l bytes ticks o wb we ws) r bytes′ wb′ we′ ws′) e h .value

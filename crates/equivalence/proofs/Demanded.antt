@@ -55,7 +55,7 @@ use Rattle.equivalence.proofs.Inputs.{port-bits, total-append}
 use Rattle.equivalence.proofs.Ticking.{runs, all-signals, registers-after, wires-after, ports-after}
 use Rattle.equivalence.proofs.Acceptance.{read-fits, Kept, accepted-kept, used-words, is-lowered}
 use Rattle.equivalence.proofs.Answering.{Tested, passes, fails, refusal-is, answer-tested}
-use Rattle.equivalence.proofs.Shows.{shownBits, BitsIn, bytes-shown, bits-pass, NoneShown, ports-shown, Same, same-split, zero-bytes, zero-bits, zeros-shown}
+use Rattle.equivalence.proofs.Shows.{shownBits, BitsIn, bytes-shown, bits-pass, NoneShown, ports-shown, Same, same-split, zero-bytes, zeros-fresh, zero-bits, zeros-shown}
 
 fits-long : (ss : List Signal) (t : List Bits) → Fits ss t → length t ≡ length ss
 fits-long [] [] h = refl
@@ -200,7 +200,7 @@ module _ {limits : Limits} {n : Netlist} (a : Lowered limits n) {widest : ℕ} (
   at-start : (bytes : List ℕ) → Fresh (signalBytes (loweredModel n)) bytes → Good bytes (start n)
   at-start bytes h = record {
     long = let z = length-take (signalBytes (loweredModel n)) bytes in let y = length-replicate {A = ℕ} (signalBytes (loweredModel n)) 0 in omega (arith, ap length h, z, y);
-    bits = subst AllBits (sym h) (zero-bytes (signalBytes (loweredModel n)));
+    bits = let k = signalBytes (loweredModel n) in subst AllBits (zeros-fresh k k (omega arith) ∙ sym h) (zero-bytes k k);
     regs = all-initial (at [] (stateOf bytes)) (a .wires) (all-false (M .signals) (map isOne bytes) (zero-bits (signalBytes (loweredModel n)) bytes h)) (n .cells) (runs a r .words) (runs a r .laid);
     shows = ap (λ (ss : List Signal). shownBytes ss bytes) (all-signals a r) ∙ zeros-shown (n .ports) 0 rest bytes (subst (λ (ss : List Signal). Same {A = ℕ} 0 (total (λ (s : Signal). s .width) ss) bytes) (all-signals a r) h) rest-hidden;
   }

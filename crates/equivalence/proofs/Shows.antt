@@ -132,9 +132,10 @@ module _ {A : Type 0} (v : A) where
       let r = same-split j k l (t .1) in
       (ap₂ _∷_ (t .0) (r .0), r .1)
 
-pub zero-bytes : (k : ℕ) → AllBits (replicate k 0)
-zero-bytes zero = tt
-zero-bytes (suc k) = (omega arith, zero-bytes k)
+pub zero-bytes : (k size : ℕ) → AllBits (take k (replicate size 0))
+zero-bytes zero size = tt
+zero-bytes (suc k) zero = tt
+zero-bytes (suc k) (suc size) = (omega arith, zero-bytes k size)
 
 pub zeros-fresh : (k size : ℕ) → k ≤ size → Same {A = ℕ} 0 k (replicate size 0)
 zeros-fresh zero size h = refl
