@@ -2,8 +2,10 @@
  *
  * A buffer is a pointer, never null, and how many elements it has. Those that are not const must not overlap any other. None needs to hold anything
  * but those that are const, and the signals' bytes of reamerpoppy_run. Every function answers 0 or a refusal's number (docs/REFUSALS.md),
- * for every input, and puts into `answer`, as many as fit: number, place; and where a netlist is accepted, records and words used of
- * signals, of expressions and of statements. */
+ * for every input, and puts into `answer`: number, place; and where a netlist is accepted, records and words used of signals, of
+ * expressions and of statements. Zeros stand behind them. An `answer` that is shorter than REAMERPOPPY_ANSWER is refused with 1, and gets as much
+ * of number and place as fits: reamerpoppy_lower and reamerpoppy_simulate look at it directly after the five works, reamerpoppy_run after its
+ * other buffers. */
 #ifndef REAMERPOPPY_H
 #define REAMERPOPPY_H
 
@@ -17,7 +19,7 @@ extern "C" {
 /* Words that each of lowering's five works (wires to banks) must have. */
 #define REAMERPOPPY_WORK 16384
 
-/* Numbers in an answer. */
+/* Numbers that an answer must have room for. */
 #define REAMERPOPPY_ANSWER 8
 
 /* A netlist's model in the three lists. A list that is too short is refused with 2, and its place says which: lend a longer one. */

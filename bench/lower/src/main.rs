@@ -11,13 +11,13 @@ use std::hint::black_box;
 use celox::recorder::{self, Recording};
 use lower::{lower_netlist, mapped_netlist};
 use netlist::{Bit, BlockRam, Cell, Control, Direction, Edge, Limits, Netlist, Port};
-use reamerpoppy::calls::{self, WORK};
+use reamerpoppy::calls::{self, ANSWER, WORK};
 
 /// The refusal's number, 0 when accepted.
 fn proved(words: &[u32], lists: &mut [Vec<u32>; 3], works: &mut [Vec<u32>; 5]) -> usize {
     let lists = lists.each_mut().map(Vec::as_mut_slice);
     let works = works.each_mut().map(Vec::as_mut_slice);
-    calls::lower(words, lists, works, &mut [0; 8])
+    calls::lower(words, lists, works, &mut [0; ANSWER])
 }
 
 fn by_rust(words: &[u32]) -> Recording {

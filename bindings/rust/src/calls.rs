@@ -1,8 +1,9 @@
 //! The library's functions, each slice lent by the caller. They answer the
 //! refusal's number, or 0, for every input: none has a condition.
 //!
-//! `answer` takes as many as fit of: number, place, then records and words used
-//! of signals, expressions and statements (lowering and `simulate`).
+//! `answer` takes number, place, then records and words used of signals,
+//! expressions and statements (lowering and `simulate`), and zeros. One that is
+//! shorter than [`ANSWER`] is refused with 1 and gets as much as fits.
 
 // In each line a slice: where it begins, and how many elements it has.
 #[rustfmt::skip]
@@ -58,6 +59,9 @@ unsafe extern "C" {
 
 /// Words that each of lowering's five works must have.
 pub const WORK: usize = 16_384;
+
+/// Numbers that an answer must have room for.
+pub const ANSWER: usize = 8;
 
 /// A netlist's model in three lists: signals, expressions, statements. The works
 /// are wires, places, parts, values and banks.

@@ -1,4 +1,4 @@
-use crate::calls::{self, WORK};
+use crate::calls::{self, ANSWER, WORK};
 use crate::model::{List, Model};
 use crate::refusal::Refusal;
 
@@ -18,7 +18,7 @@ pub fn lower(words: &[u32]) -> Result<Model, Refusal> {
 pub fn lower_within(words: &[u32], longest: usize) -> Result<Model, Refusal> {
     let mut lists: [Vec<u32>; 3] = std::array::from_fn(|_| vec![0; FIRST.min(longest)]);
     let mut works: [Vec<u32>; 5] = std::array::from_fn(|_| vec![0; WORK]);
-    let mut answer = [0; 8];
+    let mut answer = [0; ANSWER];
     loop {
         let lent = lists.each_mut().map(Vec::as_mut_slice);
         calls::lower(words, lent, works.each_mut().map(Vec::as_mut_slice), &mut answer);

@@ -119,7 +119,7 @@ impl Model {
     pub fn run(&self, state: &mut State, bits: &[u8], fired: Fired) -> Result<(), Refusal> {
         let lists = [&self.signals, &self.exprs, &self.stmts].map(List::words);
         let works = state.works.each_mut().map(Vec::as_mut_slice);
-        let mut answer = [0; 2];
+        let mut answer = [0; calls::ANSWER];
         calls::run(lists, &mut state.bytes, bits, fired.words(), works, &mut answer);
         Refusal::check(&answer)
     }

@@ -75,7 +75,7 @@ impl Buffers {
             answers: &mut self.answers,
             shown: &mut self.shown,
         };
-        let mut answer = [0; 2];
+        let mut answer = [0; calls::ANSWER];
         calls::simulate(words, heads, bits, lent, &mut answer);
         Refusal::check(&answer)
     }

@@ -97,7 +97,8 @@ fn refusals() {
     assert_eq!(simulate(&missing, &[Tick::default()]), Err(refusal(8, 7)));
     assert_eq!(refusal(8, 7).to_string(), "refused 8 7: nothing drives the wire");
     let around = [1, 1, 2, 0, 2, 2, 2, 2, 0, 21_845, 0, 1, 3, 1];
-    assert_eq!(simulate(&around, &[]), Err(refusal(13, 1)));
+    let looped = lower(&around).unwrap();
+    assert_eq!(looped.run(&mut looped.start(), &[], Fired::Nothing), Err(refusal(13, 1)));
 
     // What the library is not lent, and a state that is none.
     let mut answer = [1; 8];
@@ -113,6 +114,60 @@ fn refusals() {
     assert_eq!(model.run(&mut state, &[], Fired::Nothing), Err(refusal(14, 1)));
     state.bytes = vec![0];
     assert_eq!(model.run(&mut state, &[], Fired::Nothing), Err(refusal(1, 2)));
+}
+
+/// An `answer` of seven numbers is a short buffer: after the works and before the words are
+/// looked at, and in a run after the other buffers and before the tick is.
+#[test]
+fn short_answers() {
+    let mut answer = [7; 7];
+    let mut lists = [(); 3].map(|()| vec![7; 4]);
+    let mut works = [(); 5].map(|()| vec![7; 16_384]);
+    let lent = lists.each_mut().map(Vec::as_mut_slice);
+    let lowered = calls::lower(&[], lent, works.each_mut().map(Vec::as_mut_slice), &mut answer);
+    assert_eq!((lowered, answer), (1, [1, 8, 0, 0, 0, 0, 0]));
+    assert!(lists.iter().chain(&works).flatten().all(|&word| word == 0));
+
+    works[4].pop();
+    let lent = lists.each_mut().map(Vec::as_mut_slice);
+    let lowered = calls::lower(&EMPTY, lent, works.each_mut().map(Vec::as_mut_slice), &mut answer);
+    assert_eq!((lowered, answer), (1, [1, 16_384, 0, 0, 0, 0, 0]));
+
+    let mut works = [(); 5].map(|()| vec![7; 16_384]);
+    let mut run = [(); 5].map(|()| vec![7; 4]);
+    let [bytes, bits, exprs, signals, shown] = run.each_mut().map(Vec::as_mut_slice);
+    let mut answers = vec![7; 4];
+    let lent = calls::Lent {
+        lists: lists.each_mut().map(Vec::as_mut_slice),
+        tables: works.each_mut().map(Vec::as_mut_slice),
+        bytes,
+        works: [bits, exprs, signals],
+        answers: &mut answers,
+        shown,
+    };
+    let mut one = [7; 1];
+    assert_eq!((calls::simulate(&EMPTY, &[0, 0, 0], &[], lent, &mut one), one), (1, [1]));
+    assert!(lists.iter().chain(&works).flatten().all(|&word| word == 0));
+    assert!(run.iter().flatten().all(|&byte| byte == 0));
+    assert_eq!(answers, [0; 4]);
+
+    let model = lower(&EMPTY).unwrap();
+    let run = |signals: &[u32], bytes: &mut [u8], length: usize| {
+        let lists = [signals, model.exprs.words(), model.stmts.words()];
+        let mut works = [(); 3].map(|()| vec![7; 2]);
+        let mut answer = vec![7; length];
+        let lent = works.each_mut().map(Vec::as_mut_slice);
+        let ran = calls::run(lists, bytes, &[0], (1, 9), lent, &mut answer);
+        assert!(works.iter().flatten().all(|&byte| byte == 0));
+        (ran, answer)
+    };
+    let mut bytes = [2, 0, 7];
+    assert_eq!(run(model.signals.words(), &mut bytes, 2), (1, vec![1, 8]));
+    assert_eq!(run(model.signals.words(), &mut bytes, 0), (1, vec![]));
+    assert_eq!(run(model.signals.words(), &mut bytes[..1], 2), (1, vec![1, 2]));
+    assert_eq!(run(&[0], &mut bytes, 2), (12, vec![12, 0]));
+    assert_eq!(run(model.signals.words(), &mut bytes, 8).1[..2], [14, 0]);
+    assert_eq!(bytes, [2, 0, 7]);
 }
 
 #[test]

@@ -1,11 +1,16 @@
 // Lowering, one tick and a whole list of ticks for programs in other languages: each slice is a pointer and a count of its elements.
-// Every function answers the refusal's number, or 0, and puts its numbers into `answer`, as many as fit.
+// Every function answers the refusal's number, or 0, and puts its numbers into `answer`, as many as fit; one shorter than 8 is refused with 1,
+// after the other buffers. The call that is made then reads no words (of a netlist), or an edge that there is not: all is left as a refusal leaves it.
 mod hand; // hand.rt: answers as numbers
 
 use converter::lower;
 use hand::fired_by;
+use hand::fired_for;
 use hand::hand_lowered;
 use hand::hand_ran;
+use hand::lowered_for;
+use hand::ran_for;
+use hand::words_for;
 use runner::run;
 use simulator::simulate;
 ghost use mathlib.Core.List.{[], _∷_};
@@ -31,8 +36,10 @@ pub extern "C" fn reamerpoppy_lower(
 ) -> usize
     ensures { λ r. ⌜ HandsLowered (now (words .entry)) (lists (now (signals .entry)) (now (exprs .entry)) (now (stmts .entry))) (now (wires .entry) ∷ now (places .entry) ∷ now (parts .entry) ∷ now (values .entry) ∷ now (banks .entry) ∷ []) (now (answer .entry)) r (lists (now (signals .exit)) (now (exprs .exit)) (now (stmts .exit))) (now (wires .exit) ∷ now (places .exit) ∷ now (parts .exit) ∷ now (values .exit) ∷ now (banks .exit) ∷ []) (now (answer .exit)) ⌝ }
 {
+    let room = answer.len();
+    let used = words_for(room, words.len());
     let lowered = lower(
-        words,
+        &words[..used],
         signals,
         exprs,
         stmts,
@@ -42,7 +49,7 @@ pub extern "C" fn reamerpoppy_lower(
         values,
         banks,
     );
-    hand_lowered(answer, lowered)
+    hand_lowered(answer, lowered_for(room, lowered))
 }
 
 // One tick of a model: `fires` is 0 (nothing), 1 (a rising edge) or 2 (a falling edge) of signal number `signal`.
@@ -62,7 +69,8 @@ pub extern "C" fn reamerpoppy_run(
 ) -> usize
     ensures { λ r. ⌜ HandsRan (callOf (lists (now (signals .entry)) (now (exprs .entry)) (now (stmts .entry))) (now (bytes .entry)) (now (ticks .entry)) (firedBy fires signal) (now («work_bits» .entry)) (now («work_exprs» .entry)) (now («work_signals» .entry))) (now (answer .entry)) r (now (bytes .exit)) (now («work_bits» .exit)) (now («work_exprs» .exit)) (now («work_signals» .exit)) (now (answer .exit)) ⌝ }
 {
-    let fired = fired_by(fires, signal);
+    let room = answer.len();
+    let fired = fired_for(room, fired_by(fires, signal));
     let ran = run(
         signals,
         exprs,
@@ -74,7 +82,7 @@ pub extern "C" fn reamerpoppy_run(
         work_exprs,
         work_signals,
     );
-    hand_ran(answer, ran)
+    hand_ran(answer, ran_for(room, ran))
 }
 
 // A netlist and a list of ticks, as `simulator::simulate` takes them.
@@ -102,8 +110,10 @@ pub extern "C" fn reamerpoppy_simulate(
     ensures simulates { λ r. ⌜ HandsSimulated (simulation (now (words .entry)) (now (heads .entry)) (now (bits .entry)) (lists (now (signals .entry)) (now (exprs .entry)) (now (stmts .entry))) (now (wires .entry) ∷ now (places .entry) ∷ now (parts .entry) ∷ now (values .entry) ∷ now (banks .entry) ∷ []) (now (bytes .entry)) (now («work_bits» .entry)) (now («work_exprs» .entry)) (now («work_signals» .entry)) (now (answers .entry)) (now (shown .entry))) (now (answer .entry)) r (lists (now (signals .exit)) (now (exprs .exit)) (now (stmts .exit))) (now (answers .exit)) (now (shown .exit)) (now (answer .exit)) ⌝ }
     ensures works { λ _. ⌜ Zeroed (now (wires .entry) ∷ now (places .entry) ∷ now (parts .entry) ∷ now (values .entry) ∷ now (banks .entry) ∷ now (bytes .entry) ∷ now («work_bits» .entry) ∷ now («work_exprs» .entry) ∷ now («work_signals» .entry) ∷ []) (now (wires .exit) ∷ now (places .exit) ∷ now (parts .exit) ∷ now (values .exit) ∷ now (banks .exit) ∷ now (bytes .exit) ∷ now («work_bits» .exit) ∷ now («work_exprs» .exit) ∷ now («work_signals» .exit) ∷ []) ⌝ }
 {
+    let room = answer.len();
+    let used = words_for(room, words.len());
     let simulated = simulate(
-        words,
+        &words[..used],
         heads,
         bits,
         signals,
@@ -121,5 +131,5 @@ pub extern "C" fn reamerpoppy_simulate(
         answers,
         shown,
     );
-    hand_lowered(answer, simulated)
+    hand_lowered(answer, lowered_for(room, simulated))
 }

@@ -9,10 +9,10 @@ use Prim.Native.Nat.{ℕ, zero, suc, _+_, _≤_, _<_}
 use native.Mathlib.Nat.{not-suc-le-zero}
 use native.Mathlib.Omega.{arith}
 use lib.Dec.{eqb}
-use lib.ListN.{length, getD, take, drop, replicate, length-append, length-replicate, length-map}
-use lib.Seq.{getD-append-add}
+use lib.ListN.{length, getD, take, drop, replicate, length-append, length-replicate, length-map, length-take}
+use lib.Seq.{getD-append-add, drop-at}
 use borrow.Author.Tests.{ne-eqb}
-use Rattle.bits.specs.Bits.{pick, Bits, digit, window}
+use Rattle.bits.specs.Bits.{pick, Bits, digit, window, flat}
 use Rattle.settle.specs.Table.{at}
 use Rattle.netlist.specs.declared.Limits.{Limits}
 use Rattle.netlist.specs.Netlist.{SecondPort, Netlist, Cell, lut4, pfumx, l6mux21, ccu2c, multiplier, flipFlop, blockRam, distributedRam, io, jtagg, pll}
@@ -32,11 +32,11 @@ use Rattle.behaviour.specs.Behaviour.{Registers, State, zeros, initial, start, 
 use Rattle.simulation.specs.Wellformed.{malformed}
 use Rattle.simulation.specs.Tick.{looped}
 use Rattle.simulation.specs.Tick.{tick as tickModel}
-use Rattle.simulation.specs.Run.{Call, callModel, Outcome, total, inputWidth, signalBytes, perSignal, isOne, firing, verdict, refusal, answer, run, stateAfter}
+use Rattle.simulation.specs.Run.{Call, callModel, Outcome, total, inputWidth, signalBytes, perSignal, isOne, firing, verdict, refusal, answer, run, stateAfter, bytesAfter, ticked}
 use Rattle.simulation.specs.Run.{tickBits as inputBits}
 use Rattle.simulation.specs.Kept.{Fits, AllBits}
 use Rattle.simulation.proofs.Sound.{sound-words}
-use Rattle.simulation.proofs.Kept.{fits-cut, fits-tick, accepted-good, length-kept, bytes-are-bits, left-behind, refused-keeps}
+use Rattle.simulation.proofs.Kept.{fits-cut, fits-tick, flat-length, accepted-good, after-fits, length-kept, bytes-are-bits, left-behind, refused-keeps}
 use Rattle.meaning.specs.Held.{refBit, held}
 use Rattle.meaning.specs.Mapped.{LabelFits, SignalsFit, SignalFits, noSlot, portSignals}
 use Rattle.meaning.specs.Runs.{Laid}
@@ -48,14 +48,14 @@ use Rattle.forms.proofs.Counting.{noSignal, kept, slot-signals, slot-count, slo
 use Rattle.forms.proofs.Suiting.{each-from}
 use Rattle.forms.proofs.Sounds.{lowered-sound, each-append, each-same}
 use Rattle.equivalence.specs.Registers.{bitsOf, readOf, secondRead, registersOf, registersAll}
-use Rattle.equivalence.specs.Demand.{usedLists, firedBy, tickBy, enough, made, after, ByCells, bytesOf, shownByCells, Agrees, done, refused, AllAgree, answerTo, Answered, Always, Demand3, AllAnswered}
-use Rattle.simulation.specs.Shown.{Entry, entryCall, shownBytes, ByModel, shownByModel}
+use Rattle.equivalence.specs.Demand.{usedLists, firedBy, tickBy, enough, made, after, ByCells, bytesOf, shownByCells, Agrees, done, refused, AllAgree, answerTo, Answered, Fresh, Always, Demand3, AllAnswered, BehindKept}
+use Rattle.simulation.specs.Shown.{Entry, entryCall, shownBytes, ByModel, shownByModel, bytesAfterAll}
 use Rattle.equivalence.proofs.Loops.{never-looped}
 use Rattle.equivalence.proofs.Inputs.{port-bits, total-append}
 use Rattle.equivalence.proofs.Ticking.{runs, all-signals, registers-after, wires-after, ports-after}
 use Rattle.equivalence.proofs.Acceptance.{read-fits, Kept, accepted-kept, used-words, is-lowered}
 use Rattle.equivalence.proofs.Answering.{Tested, passes, fails, refusal-is, answer-tested}
-use Rattle.equivalence.proofs.Shows.{shownBits, BitsIn, bytes-shown, bits-pass, NoneShown, ports-shown, zero-bytes, drop-zeros, zeros-shown}
+use Rattle.equivalence.proofs.Shows.{shownBits, BitsIn, bytes-shown, bits-pass, NoneShown, ports-shown, Same, same-split, zero-bytes, zeros-fresh, zero-bits, zeros-shown}
 
 fits-long : (ss : List Signal) (t : List Bits) → Fits ss t → length t ≡ length ss
 fits-long [] [] h = refl
@@ -68,23 +68,18 @@ fits-long (s ∷ ss) (v ∷ t) h = ap suc (fits-long ss t (h .1))
 abbrev AllFalse : List Bits → Type 0
 AllFalse t = (s i : ℕ) → getD (getD t s []) i false ≡ false
 
-false-taken : (k size i : ℕ) → getD (take k (map isOne (replicate size 0))) i false ≡ false
-false-taken zero size i = refl
-false-taken (suc k) zero i = refl
-false-taken (suc k) (suc size) zero = refl
-false-taken (suc k) (suc size) (suc i) = false-taken k size i
+same-false : (k : ℕ) (bs : Bits) → Same false k bs → (i : ℕ) → getD (take k bs) i false ≡ false
+same-false k bs h i = ap (λ (l : Bits). getD l i false) h ∙ all-same k i
+  where
+    all-same : (k i : ℕ) → getD (replicate k false) i false ≡ false
+    all-same zero i = refl
+    all-same (suc k) zero = refl
+    all-same (suc k) (suc i) = all-same k i
 
-drop-falses : (k size : ℕ) → (j : ℕ) × (drop k (map isOne (replicate size 0)) ≡ map isOne (replicate j 0))
-drop-falses zero size = (size, refl)
-drop-falses (suc k) zero = (0, refl)
-drop-falses (suc k) (suc size) = drop-falses k size
-
-all-false : (ss : List Signal) (size : ℕ) → AllFalse (perSignal ss (map isOne (replicate size 0)))
-all-false [] size s i = refl
-all-false (x ∷ ss) size zero i = false-taken (x .width) size i
-all-false (x ∷ ss) size (suc s) i =
-    let d = drop-falses (x .width) size in
-    ap (λ (l : Bits). getD (getD (perSignal ss l) s []) i false) (d .1) ∙ all-false ss (d .0) s i
+all-false : (ss : List Signal) (bs : Bits) → Same false (total (λ (s : Signal). s .width) ss) bs → AllFalse (perSignal ss bs)
+all-false [] bs h s i = refl
+all-false (x ∷ ss) bs h zero i = same-false (x .width) bs (same-split false (x .width) (total (λ (s : Signal). s .width) ss) bs h .0) i
+all-false (x ∷ ss) bs h (suc s) i = all-false ss (drop (x .width) bs) (same-split false (x .width) (total (λ (s : Signal). s .width) ss) bs h .1) s i
 
 window-false : (v : Bits) (l w : ℕ) → ((i : ℕ) → getD v i false ≡ false) → window v l w ≡ zeros w
 window-false v l zero h = refl
@@ -202,12 +197,12 @@ module _ {limits : Limits} {n : Netlist} (a : Lowered limits n) {widest : ℕ} (
     shows : shownBytes (loweredModel n .signals) bytes ≡ bytesOf (S .outputs)
 
   -- the start
-  at-start : (size : ℕ) → signalBytes (loweredModel n) ≤ size → Good (replicate size 0) (start n)
-  at-start size h = record {
-    long = omega (arith, h, length-replicate {A = ℕ} size 0);
-    bits = zero-bytes (signalBytes (loweredModel n)) size;
-    regs = all-initial (at [] (stateOf (replicate size 0))) (a .wires) (all-false (M .signals) size) (n .cells) (runs a r .words) (runs a r .laid);
-    shows = ap (λ (ss : List Signal). shownBytes ss (replicate size 0)) (all-signals a r) ∙ zeros-shown (n .ports) 0 rest size (subst (λ (ss : List Signal). total (λ (s : Signal). s .width) ss ≤ size) (all-signals a r) h) rest-hidden;
+  at-start : (bytes : List ℕ) → Fresh (signalBytes (loweredModel n)) bytes → Good bytes (start n)
+  at-start bytes h = record {
+    long = let z = length-take (signalBytes (loweredModel n)) bytes in let y = length-replicate {A = ℕ} (signalBytes (loweredModel n)) 0 in omega (arith, ap length h, z, y);
+    bits = let k = signalBytes (loweredModel n) in subst AllBits (zeros-fresh k k (omega arith) ∙ sym h) (zero-bytes k k);
+    regs = all-initial (at [] (stateOf bytes)) (a .wires) (all-false (M .signals) (map isOne bytes) (zero-bits (signalBytes (loweredModel n)) bytes h)) (n .cells) (runs a r .words) (runs a r .laid);
+    shows = ap (λ (ss : List Signal). shownBytes ss bytes) (all-signals a r) ∙ zeros-shown (n .ports) 0 rest bytes (subst (λ (ss : List Signal). Same {A = ℕ} 0 (total (λ (s : Signal). s .width) ss) bytes) (all-signals a r) h) rest-hidden;
   }
 
   -- as many tick bits as the input ports have
@@ -317,16 +312,32 @@ module _ {limits : Limits} {n : Netlist} (a : Lowered limits n) {widest : ℕ} (
       ((k .0, f .0), ap₂ (λ (o : Option (ℕ × ℕ)) (os : List (Option (ℕ × ℕ))). o ∷ os) (said bytes S g e) (f .1))
 
 both : Always (λ (n : Netlist) (es : List Entry) (ms : List ByModel). AllAgree ms (shownByCells n (start n) es) × Answered (loweredModel n) es ms)
-both limits widest room words s e t tapes l h n q loopless size long entries =
+both limits widest room words s e t tapes l h n q loopless bytes fresh entries =
     let low : lowered n s e t ≡ record { answer = Accepted tapes; lists = l } = ap (λ (x : Rattle.netlist.specs.Reader.Read). loweredRead x s e t) (sym q) ∙ h in
     let k = accepted-kept n s e t tapes l low in
     let a = is-lowered limits n s e t tapes l (read-fits limits words n q) k in
-    subst (λ (x : Lists). let ms = shownByModel widest x (loweredModel n .signals) (replicate size 0) entries in AllAgree ms (shownByCells n (start n) entries) × Answered (loweredModel n) entries ms) (sym (used-words n s e t tapes l k))
-    (all-follow a room loopless entries (replicate size 0) (start n) (at-start a room loopless size long))
+    subst (λ (x : Lists). let ms = shownByModel widest x (loweredModel n .signals) bytes entries in AllAgree ms (shownByCells n (start n) entries) × Answered (loweredModel n) entries ms) (sym (used-words n s e t tapes l k))
+    (all-follow a room loopless entries bytes (start n) (at-start a room loopless bytes fresh))
 
 -- the statements
 pub demand3 : Demand3
-demand3 limits widest room words s e t tapes l h n q loopless size long entries = both limits widest room words s e t tapes l h n q loopless size long entries .0
+demand3 limits widest room words s e t tapes l h n q loopless bytes fresh entries = both limits widest room words s e t tapes l h n q loopless bytes fresh entries .0
 
 pub all-answered : AllAnswered
-all-answered limits widest room words s e t tapes l h n q loopless size long entries = both limits widest room words s e t tapes l h n q loopless size long entries .1
+all-answered limits widest room words s e t tapes l h n q loopless bytes fresh entries = both limits widest room words s e t tapes l h n q loopless bytes fresh entries .1
+
+-- THE BYTES BEHIND
+
+one-keeps : (widest : ℕ) (c : Call) → drop (signalBytes (callModel c)) (run widest c .bytes) ≡ drop (signalBytes (callModel c)) (c .bytes)
+unfolding run ticked
+one-keeps widest c = go (answer widest c) refl
+  where
+    go : (o : Option (ℕ × ℕ)) → answer widest c ≡ o → drop (signalBytes (callModel c)) (bytesAfter c o) ≡ drop (signalBytes (callModel c)) (c .bytes)
+    go (some r) e = refl
+    go none e =
+        drop-at (map digit (flat (stateAfter c))) (drop (signalBytes (callModel c)) (c .bytes)) (signalBytes (callModel c))
+        (length-map (flat (stateAfter c)) digit ∙ flat-length (callModel c .signals) (stateAfter c) (after-fits widest c (accepted-good widest c e)))
+
+pub behind-kept : BehindKept
+behind-kept widest l bytes [] = refl
+behind-kept widest l bytes (e ∷ es) = behind-kept widest l (run widest (entryCall l bytes e) .bytes) es ∙ one-keeps widest (entryCall l bytes e)

@@ -114,44 +114,60 @@ ports-shown (x ∷ ports) p rest (v ∷ t) σ m e l h s =
     go true f q = ap₂ (λ (a : Bits) (l : List Bits). a ∷ l) (here-is ∙ f refl ∙ values-all (held σ m) (x .bits)) q
     go false f q = q
 
--- at the start
+-- AT THE START
+
+-- the first k of a list are all v
+abbrev pub Same : {A : Type 0} → A → ℕ → List A → Type 0
+Same v k l = take k l ≡ replicate k v
+
+module _ {A : Type 0} (v : A) where
+  same-tail : (k : ℕ) (a : A) (l : List A) → Same v (suc k) (a ∷ l) → (a ≡ v) × Same v k l
+  same-tail k a l h = let y : a ≡ v = cc in let z : take k l ≡ replicate k v = cc in (y, z)
+
+  pub same-split : (j k : ℕ) (l : List A) → Same v (j + k) l → Same v j l × Same v k (drop j l)
+  same-split zero k l h = (refl, subst (λ (i : ℕ). Same v i l) (let z : 0 + k ≡ k = omega arith in z) h)
+  same-split (suc j) k [] h = let z = subst (λ (i : ℕ). Same v i []) (let e : suc j + k ≡ suc (j + k) = omega arith in e) h in absurd (omega (arith, ap length z))
+  same-split (suc j) k (a ∷ l) h =
+      let t = same-tail (j + k) a l (subst (λ (i : ℕ). Same v i (a ∷ l)) (let e : suc j + k ≡ suc (j + k) = omega arith in e) h) in
+      let r = same-split j k l (t .1) in
+      (ap₂ _∷_ (t .0) (r .0), r .1)
 
 pub zero-bytes : (k size : ℕ) → AllBits (take k (replicate size 0))
 zero-bytes zero size = tt
 zero-bytes (suc k) zero = tt
 zero-bytes (suc k) (suc size) = (omega arith, zero-bytes k size)
 
-pub drop-zeros : (k size : ℕ) → (j : ℕ) × (drop {A = ℕ} k (replicate size 0) ≡ replicate j 0)
-drop-zeros zero size = (size, refl)
-drop-zeros (suc k) zero = (0, refl)
-drop-zeros (suc k) (suc size) = drop-zeros k size
+pub zeros-fresh : (k size : ℕ) → k ≤ size → Same {A = ℕ} 0 k (replicate size 0)
+zeros-fresh zero size h = refl
+zeros-fresh (suc k) zero h = absurd (omega (arith, h))
+zeros-fresh (suc k) (suc size) h = ap (λ (l : List ℕ). 0 ∷ l) (zeros-fresh k size (omega arith))
 
-take-zeros : (k size : ℕ) → k ≤ size → take k (replicate size 0) ≡ map digit (zeros k)
-take-zeros zero size h = refl
-take-zeros (suc k) zero h = absurd (omega (arith, h))
-take-zeros (suc k) (suc size) h = ap (λ (l : List ℕ). 0 ∷ l) (take-zeros k size (omega arith))
+pub zero-bits : (k : ℕ) (bytes : List ℕ) → Same {A = ℕ} 0 k bytes → Same false k (map isOne bytes)
+zero-bits zero bytes h = refl
+zero-bits (suc k) [] h = absurd (omega (arith, ap length h))
+zero-bits (suc k) (b ∷ bytes) h = let t = same-tail 0 k b bytes h in ap₂ _∷_ (ap isOne (t .0)) (zero-bits k bytes (t .1))
+
+zero-digits : (k : ℕ) → replicate k 0 ≡ map digit (zeros k)
+zero-digits zero = refl
+zero-digits (suc k) = ap (λ (l : List ℕ). 0 ∷ l) (zero-digits k)
 
 none-bytes : (ss : List Signal) (bytes : List ℕ) → NoneShown ss → shownBytes ss bytes ≡ []
 none-bytes [] bytes h = refl
 none-bytes (s ∷ ss) bytes h = ap (λ (b : Bool). pick b (take (s .width) bytes ∷ shownBytes ss (drop (s .width) bytes)) (shownBytes ss (drop (s .width) bytes))) (h .0) ∙ none-bytes ss (drop (s .width) bytes) (h .1)
 
-pub zeros-shown : (ports : List Port) (p : ℕ) (rest : List Signal) (size : ℕ) → total (λ (s : Signal). s .width) (portSignals p ports ++ rest) ≤ size → NoneShown rest
-    → shownBytes (portSignals p ports ++ rest) (replicate size 0) ≡ bytesOf (map (λ (bits : List Bit). zeros (length bits)) (outputPorts ports))
-zeros-shown [] p rest size h q = none-bytes rest (replicate size 0) q
-zeros-shown (x ∷ ports) p rest size h q = go (λ j k. zeros-shown ports (suc p) rest j k q) (eqb (x .direction) 1) h
+abbrev wide : List Signal → ℕ
+wide ss = total (λ (s : Signal). s .width) ss
+
+pub zeros-shown : (ports : List Port) (p : ℕ) (rest : List Signal) (bytes : List ℕ) → Same {A = ℕ} 0 (wide (portSignals p ports ++ rest)) bytes → NoneShown rest
+    → shownBytes (portSignals p ports ++ rest) bytes ≡ bytesOf (map (λ (bits : List Bit). zeros (length bits)) (outputPorts ports))
+zeros-shown [] p rest bytes h q = none-bytes rest bytes q
+zeros-shown (x ∷ ports) p rest bytes h q = go (λ k. zeros-shown ports (suc p) rest (drop (length (x .bits)) bytes) k q) (eqb (x .direction) 1) h
   where
-    d : (j : ℕ) × (drop {A = ℕ} (length (x .bits)) (replicate size 0) ≡ replicate j 0)
-    d = drop-zeros (length (x .bits)) size
+    later : List Signal
+    later = portSignals (suc p) ports ++ rest
 
-    left : length (x .bits) + total (λ (s : Signal). s .width) (portSignals (suc p) ports ++ rest) ≤ size → total (λ (s : Signal). s .width) (portSignals (suc p) ports ++ rest) ≤ d .0
-    left k = omega (arith, k, ap length (d .1), length-drop {A = ℕ} (length (x .bits)) (replicate size 0), length-replicate {A = ℕ} size 0, length-replicate {A = ℕ} (d .0) 0)
-
-    later : length (x .bits) + total (λ (s : Signal). s .width) (portSignals (suc p) ports ++ rest) ≤ size → ((j : ℕ) → total (λ (s : Signal). s .width) (portSignals (suc p) ports ++ rest) ≤ j → shownBytes (portSignals (suc p) ports ++ rest) (replicate j 0) ≡ bytesOf (map (λ (bits : List Bit). zeros (length bits)) (outputPorts ports)))
-        → shownBytes (portSignals (suc p) ports ++ rest) (drop (length (x .bits)) (replicate size 0)) ≡ bytesOf (map (λ (bits : List Bit). zeros (length bits)) (outputPorts ports))
-    later k f = ap (shownBytes (portSignals (suc p) ports ++ rest)) (d .1) ∙ f (d .0) (left k)
-
-    go : ((j : ℕ) → total (λ (s : Signal). s .width) (portSignals (suc p) ports ++ rest) ≤ j → shownBytes (portSignals (suc p) ports ++ rest) (replicate j 0) ≡ bytesOf (map (λ (bits : List Bit). zeros (length bits)) (outputPorts ports)))
-        → (b : Bool) → (pick b (signalOf 1 (length (x .bits)) p) (signalOf 0 (length (x .bits)) p)) .width + total (λ (s : Signal). s .width) (portSignals (suc p) ports ++ rest) ≤ size
-        → shownBytes (pick b (signalOf 1 (length (x .bits)) p) (signalOf 0 (length (x .bits)) p) ∷ (portSignals (suc p) ports ++ rest)) (replicate size 0) ≡ bytesOf (map (λ (bits : List Bit). zeros (length bits)) (pick b (x .bits ∷ outputPorts ports) (outputPorts ports)))
-    go ih true k = ap₂ (λ (a : List ℕ) (l : List (List ℕ)). a ∷ l) (take-zeros (length (x .bits)) size (omega (arith, k))) (later k ih)
-    go ih false k = later k ih
+    go : (Same {A = ℕ} 0 (wide later) (drop (length (x .bits)) bytes) → shownBytes later (drop (length (x .bits)) bytes) ≡ bytesOf (map (λ (bits : List Bit). zeros (length bits)) (outputPorts ports)))
+        → (b : Bool) → Same {A = ℕ} 0 ((pick b (signalOf 1 (length (x .bits)) p) (signalOf 0 (length (x .bits)) p)) .width + wide later) bytes
+        → shownBytes (pick b (signalOf 1 (length (x .bits)) p) (signalOf 0 (length (x .bits)) p) ∷ later) bytes ≡ bytesOf (map (λ (bits : List Bit). zeros (length bits)) (pick b (x .bits ∷ outputPorts ports) (outputPorts ports)))
+    go ih true k = let h = same-split 0 (length (x .bits)) (wide later) bytes k in ap₂ (λ (a : List ℕ) (l : List (List ℕ)). a ∷ l) (h .0 ∙ zero-digits (length (x .bits))) (ih (h .1))
+    go ih false k = ih (same-split 0 (length (x .bits)) (wide later) bytes k .1)

@@ -14,10 +14,12 @@ use Rattle.netlist.specs.Reader.{netlist, readWords}
 use Rattle.recorder.specs.declared.Tapes.{Tapes}
 use Rattle.recorder.specs.Record.{Signal, Model}
 use Rattle.recorder.specs.Lists.{Lists, lists}
+use Rattle.recorder.specs.Read.{modelOf}
+use Rattle.recorder.specs.Words.{rawOf}
 use Rattle.lowering.specs.Lower.{Lowered, Accepted, Lowering, lowerWords}
 use Rattle.behaviour.specs.Behaviour.{Fired, Tick, State, start, tick, accepts, NoWireLoop}
 use Rattle.simulation.specs.Run.{exprBits, signalBytes, tickBits, short, noBit, wrongCount, wrongFired, firstOf}
-use Rattle.simulation.specs.Shown.{Entry, ByModel, shownByModel}
+use Rattle.simulation.specs.Shown.{Entry, ByModel, shownByModel, bytesAfterAll}
 use Rattle.forms.specs.Lowered.{loweredModel, Roomy}
 
 -- THE MODEL
@@ -87,18 +89,27 @@ answerTo M e = firstOf (entryCauses M e)
 abbrev pub Answered : Model → List Entry → List ByModel → Type 0
 Answered M entries shown = map (λ (m : ByModel). m .answer) shown ≡ map (answerTo M) entries
 
--- what P says of a list of calls and what the model shows, for each netlist without a loop that lowering accepts; from signal bytes all
--- zero, of at least the needed length
+-- FROM THE START: at least k bytes, the first k of them zeros; behind them anything
+abbrev pub Fresh : ℕ → List ℕ → Type 0
+Fresh k bytes = take k bytes ≡ replicate k 0
+
+-- what P says of a list of calls and what the model shows, for each netlist without a loop that lowering accepts
 abbrev pub Always : (Netlist → List Entry → List ByModel → Type 0) → Type 0
 Always P =
     (limits : Limits) (widest : ℕ) → Roomy limits widest
     → (words : List ℕ) (s e t : ℕ) (tapes : Tapes) (l : Lists) → lowerWords limits words s e t ≡ record { answer = Accepted tapes; lists = l }
     → (n : Netlist) → readWords limits words ≡ netlist n → NoWireLoop n
-    → (size : ℕ) → signalBytes (loweredModel n) ≤ size
-    → (entries : List Entry) → P n entries (shownByModel widest (usedLists l tapes) (loweredModel n .signals) (replicate size 0) entries)
+    → (bytes : List ℕ) → Fresh (signalBytes (loweredModel n)) bytes
+    → (entries : List Entry) → P n entries (shownByModel widest (usedLists l tapes) (loweredModel n .signals) bytes entries)
 
 abbrev pub Demand3 : Type 0
 Demand3 = Always (λ (n : Netlist) (entries : List Entry) (shown : List ByModel). AllAgree shown (shownByCells n (start n) entries))
 
 abbrev pub AllAnswered : Type 0
 AllAnswered = Always (λ (n : Netlist) (entries : List Entry) (shown : List ByModel). Answered (loweredModel n) entries shown)
+
+-- THE BYTES BEHIND: after a list of calls on any model they are the old ones
+abbrev pub BehindKept : Type 0
+BehindKept =
+    (widest : ℕ) (l : Lists) (bytes : List ℕ) (entries : List Entry)
+    → let k = signalBytes (modelOf (rawOf l)) in drop k (bytesAfterAll widest l bytes entries) ≡ drop k bytes

@@ -23,8 +23,9 @@ use Rattle.simulation.specs.Run.{zeroed, signalBytes, firstOf}
 use Rattle.simulation.specs.Shown.{Entry, ByModel, shownByModel}
 use Rattle.simulation.proofs.Kept.{AllNone, all-none, short-none}
 use Rattle.forms.specs.Lowered.{loweredModel, Roomy}
-use Rattle.equivalence.specs.Demand.{usedLists, shownByCells, AllAgree, Answered}
+use Rattle.equivalence.specs.Demand.{usedLists, shownByCells, AllAgree, Answered, Fresh}
 use Rattle.equivalence.proofs.Acceptance.{accepted-kept, used-words}
+use Rattle.equivalence.proofs.Shows.{zeros-fresh}
 use Rattle.equivalence.proofs.Demanded.{demand3, all-answered}
 use Rattle.converter.specs.Entry.{short, anyShort, lowerCall, callOf}
 use Rattle.runner.specs.Calls.{ListCall, listModel, listCauses, listVerdict, listAnswer, answersOf, outputsOf, filled, listOutcome, runList}
@@ -65,10 +66,10 @@ module _ (x : Simulation) (n : Netlist) (q : readWords base (x .words) ≡ netli
     ticks = shownByModel largest (usedLists l t) (listModel (ticksOn x l t) .signals) (zeroed (x .bytes)) (entriesOf x);
     agree =
         subst (λ (M : Model). AllAgree (shownByModel largest (usedLists l t) (M .signals) (zeroed (x .bytes)) (entriesOf x)) (shownByCells n (start n) (entriesOf x))) (sym model-is)
-        (demand3 base largest room (x .words) s e m t l h n q loopless (length (x .bytes)) long (entriesOf x));
+        (demand3 base largest room (x .words) s e m t l h n q loopless (zeroed (x .bytes)) fresh (entriesOf x));
     answered =
         subst (λ (M : Model). Answered (loweredModel n) (entriesOf x) (shownByModel largest (usedLists l t) (M .signals) (zeroed (x .bytes)) (entriesOf x))) (sym model-is)
-        (all-answered base largest room (x .words) s e m t l h n q loopless (length (x .bytes)) long (entriesOf x));
+        (all-answered base largest room (x .words) s e m t l h n q loopless (zeroed (x .bytes)) fresh (entriesOf x));
     answers-are = ap (λ (o : Option (ℕ × ℕ)). listOutcome largest (ticksOn x l t) o .answers) a;
     shown-are = ap (λ (o : Option (ℕ × ℕ)). listOutcome largest (ticksOn x l t) o .shown) a;
   }
@@ -81,6 +82,9 @@ module _ (x : Simulation) (n : Netlist) (q : readWords base (x .words) ≡ netli
 
       long : signalBytes (loweredModel n) ≤ length (x .bytes)
       long = let b = bytes-long (ticksOn x l t) a in let k = ap signalBytes model-is in let z = length-replicate {A = ℕ} (length (x .bytes)) 0 in omega (arith, b, k, z)
+
+      fresh : Fresh (signalBytes (loweredModel n)) (zeroed (x .bytes))
+      fresh = zeros-fresh (signalBytes (loweredModel n)) (length (x .bytes)) long
 
   abbrev Shown : Simulated → Type 0
   Shown r = IsAccepted (r .answer) → ShowsCells n x (r .answers) (r .shown)
