@@ -33,8 +33,11 @@ hand "0 0, 0 0 0 0"
 hand "3 3, 1 1 0, 1 2 0, 1 1 0, 65537, 0 1 2, 1 1 3, 0 3 0 0 0 2 1, 5 4 1 2 0, 0 0 0, 0 0 0 0 0, 0 2 6 2" 1 1 0
 # a reset beats the enable, an asynchronous one also the clock: enable off, nothing fires, then the reset is gone
 hand "2 2, 1 0 0, 1 0 0, 1, 0 1 2, 1 1 3, 5 0 1 0 0, 1 0 1, 1 2 1 1 1, 0 2 6 1" 1 1
-# a loop of one cell, and one that the rewrites take away
-hand "1 0, 0 0 0, 1 1 2, 0 2 2 2 2 0 21845, 0 1 3 1" "refused 13 1"
+# a head that asks for more bits than there are, though as many as the netlist has inputs are left; the next has none
+hand "2 1, 2 0 0, 1 0 0, 1, 0 1 2, 1 1 2, 0 2 6 0" "refused 14 1" "refused 14 1"
+# a loop of one cell: every tick is refused for its own faults first, then for the loop; and a loop that the rewrites take away
+hand "4 1, 0 0 0, 1 0 0, 0 1 9, 0 1 0, 1, 1 1 2, 0 2 2 2 2 0 21845, 0 1 3 1" "refused 13 1" "refused 14 0" "refused 14 0" "refused 13 1"
+hand "0 0, 1 1 2, 0 2 2 2 2 0 21845, 0 1 3 1"
 hand "1 0, 0 0 0, 1 1 2, 0 2 2 2 2 0 65535, 0 1 3 1" 1
 # the signal list is full
 hand "0 0, 6 16384 1 1, $zeros, 0 1, $zeros, 0 0 0, 0 0 0, 0 0 0, 0 0, 0 0 0 1" "refused 2 0"

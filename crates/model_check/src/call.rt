@@ -26,7 +26,7 @@ ghost use Rattle.simulation.specs.Run.{answerOf, firedOf, noBit, wrongCount, wr
 ghost use Rattle.simulation.specs.Fault.{widthTotal, inputField, inputTotal, lengthCauses, tickCauses, bitCauses, callCauses, callOf, checkedBy};
 
 // The first of two answers.
-fn either(a: Ran, b: Ran) -> Ran
+pub fn either(a: Ran, b: Ran) -> Ran
     ensures { λ r. ⌜ answerOf r ≡ orElse (answerOf a) (answerOf b) ⌝ }
 {
     match a {

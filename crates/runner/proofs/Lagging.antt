@@ -36,10 +36,10 @@ use Rattle.evaluation.proofs.Calling.{holds-same, holds-state as state-of, hold
 use Rattle.evaluation.proofs.Late.{settle-free, settled-so, loaded-late, shown-late, tick-free, late-itself, late-free}
 use Rattle.coding.specs.Coded.{SettlesCode}
 use Rattle.runner.specs.declared.code.Code.{Code}
-use Rattle.runner.specs.Calls.{firedBy, outputWidth, answerWords}
+use Rattle.runner.specs.Calls.{firedBy, handed, outputWidth, answerWords}
 use Rattle.runner.specs.Plan.{controlsAt, outputsAt, firstAt, secondAt, Planned, Planning}
 use Rattle.runner.specs.Parts.{tickCauses, RunsTick, LoadsAfter, ShowsAfter, RunsLate, isMade, finished, Finishes, RunsTicks}
-use Rattle.runner.proofs.Ticking.{good-ticks}
+use Rattle.runner.proofs.Ticking.{good-ticks, handed-made}
 use Rattle.runner.proofs.Running.{Running, running-start, running-end, running-step}
 
 -- WHAT IS FILLED STAYS SO
@@ -154,8 +154,13 @@ module _ {signals exprs stmts ticks : List ℕ} {fired : Option (ℕ × ℕ)} {b
   pub late-refused : (r : ℕ × ℕ) → RunsLate signals exprs stmts ticks fired (some r) bytes bytes
   late-refused r = record { runs-late = λ old behind ho. (old, ho, refl) }
 
-  pub late-runs : {bytes′ : List ℕ} → TicksLate signals exprs stmts ticks (firing fired) bytes bytes′ → RunsLate signals exprs stmts ticks fired none bytes bytes′
+  late-runs : {bytes′ : List ℕ} → TicksLate signals exprs stmts ticks (firing fired) bytes bytes′ → RunsLate signals exprs stmts ticks fired none bytes bytes′
   late-runs t = record { runs-late = λ old behind ho. t .ticks-late old behind ho }
+
+-- of a tick that is made all bits were there
+pub late-handed : {signals exprs stmts ticks : List ℕ} {fired : Option (ℕ × ℕ)} {bytes bytes′ : List ℕ} (inputs asked count : ℕ) → none ≡ tickCauses count inputs (handed inputs asked ticks) fired → TicksLate signals exprs stmts ticks (firing fired) bytes bytes′ → RunsLate signals exprs stmts (handed inputs asked ticks) fired none bytes bytes′
+late-handed {signals} {exprs} {stmts} {ticks} {fired} {bytes} {bytes′} inputs asked count h t =
+    subst (λ (x : List ℕ). RunsLate signals exprs stmts x fired none bytes bytes′) (sym (handed-made inputs asked ticks count fired h)) (late-runs t)
 
 -- A LIST OF THEM
 
@@ -175,6 +180,9 @@ lags-start f = record { state = f .values; held = f .values; behind = f .rest; h
 
 pub lags-filled : {l : Lists} {late : Bool} {meant bytes : List ℕ} → Lags l late meant bytes → Filled (widthsIn (l .signals)) bytes
 lags-filled g = record { values = g .held; rest = g .behind; holds = g .holds-held }
+
+pub lags-meant : {l : Lists} {late : Bool} {meant bytes : List ℕ} → Lags l late meant bytes → Filled (widthsIn (l .signals)) meant
+lags-meant g = record { values = g .state; rest = g .behind; holds = g .holds-state }
 
 -- the outputs' bytes
 
@@ -301,7 +309,7 @@ pub record Along (l : Lists) (heads bits bytes₀ bytes answers₀ answers shown
   pub lags : Lags l late meant bytes
 
 pub along-start : {l : Lists} (heads bits : List ℕ) {bytes₀ : List ℕ} (answers₀ shown₀ : List ℕ) → Filled (widthsIn (l .signals)) bytes₀ → Along l heads bits bytes₀ bytes₀ answers₀ answers₀ shown₀ shown₀ 0 0 0 0 false
-along-start heads bits {bytes₀} answers₀ shown₀ f = record { meant = bytes₀; running = running-start heads bits answers₀ shown₀ f; lags = lags-start f }
+along-start heads bits {bytes₀} answers₀ shown₀ f = record { meant = bytes₀; running = running-start heads bits bytes₀ answers₀ shown₀; lags = lags-start f }
 
 module _ {l : Lists} {heads bits bytes₀ bytes answers₀ answers shown₀ shown : List ℕ} {at pos to i : ℕ} {late : Bool} (g : Along l heads bits bytes₀ bytes answers₀ answers shown₀ shown at pos to i late)
     (h : malformed largest l ≡ none) (u : looped (modelOf (rawOf l)) ≡ none) where
@@ -312,7 +320,7 @@ module _ {l : Lists} {heads bits bytes₀ bytes answers₀ answers shown₀ show
   along-end q {bytes′} f = subst (λ (b : List ℕ). RunsTicks l heads bits bytes₀ b answers₀ answers shown₀ shown) (sym (lags-end l h u (g .lags) f)) (running-end (g .running) q)
 
   pub along-next : (q : i < length heads / 3) {count inputs : ℕ} (hc : count ≡ length (recordsIn (l .signals))) (hi : inputs ≡ total inputWidth (signalsIn (l .signals)))
-      {end : ℕ} (he : end ≡ min (pos + getD heads at 0) (length bits)) {ticks : List ℕ} (ht : ticks ≡ take (end - pos) (drop pos bits)) {fired : Option (ℕ × ℕ)} (hf : fired ≡ firedBy (getD heads (at + 1) 0) (getD heads (at + 2) 0))
+      {end : ℕ} (he : end ≡ min (pos + getD heads at 0) (length bits)) {ticks : List ℕ} (ht : ticks ≡ handed inputs (getD heads at 0) (take (end - pos) (drop pos bits))) {fired : Option (ℕ × ℕ)} (hf : fired ≡ firedBy (getD heads (at + 1) 0) (getD heads (at + 2) 0))
       {a : Option (ℕ × ℕ)} {bytes′ answers′ shown′ : List ℕ} (ha : a ≡ tickCauses count inputs ticks fired) (hr : RunsLate (l .signals) (l .exprs) (l .stmts) ticks fired a bytes bytes′)
       (wa : answers′ ≡ over answers (2 * i) (answerWords a)) (hs : shown′ ≡ over shown to (flat (shownBytes (signalsIn (l .signals)) bytes′))) {late′ : Bool} (e : late′ ≡ (late || isMade a))
       → length bytes′ ≡ length bytes → length answers′ ≡ length answers → length shown′ ≡ length shown → Along l heads bits bytes₀ bytes′ answers₀ answers′ shown₀ shown′ (at + 3) end (to + total outputWidth (signalsIn (l .signals))) (i + 1) late′
@@ -320,6 +328,6 @@ module _ {l : Lists} {heads bits bytes₀ bytes answers₀ answers shown₀ show
       let x = lags-next l h u (g .lags) count hi ha hr e in
       record {
         meant = x .meant′;
-        running = running-step (g .running) q h u hc hi he ht hf ha (x .ran) wa (hs ∙ ap (λ (o : List (List ℕ)). over shown to (flat o)) (lags-shown l h u (x .lags))) (sym (lags-long l h u (x .lags)) ∙ lb ∙ lags-long l h u (g .lags)) la ls;
+        running = running-step (g .running) q (lags-meant (g .lags)) h u hc hi he ht hf ha (x .ran) wa (hs ∙ ap (λ (o : List (List ℕ)). over shown to (flat o)) (lags-shown l h u (x .lags))) (sym (lags-long l h u (x .lags)) ∙ lb ∙ lags-long l h u (g .lags)) la ls;
         lags = x .lags;
       }

@@ -19,13 +19,13 @@ use Rattle.recorder.specs.Words.{rawOf}
 use Rattle.recorder.proofs.Room.{over-over}
 use Rattle.simulation.specs.Wellformed.{largest, malformed}
 use Rattle.simulation.specs.Tick.{looped}
-use Rattle.simulation.specs.Run.{Call, inputWidth, total, flat, answer, run}
+use Rattle.simulation.specs.Run.{Call, inputWidth, total, tickBits, flat, answer, run}
 use Rattle.simulation.specs.Shown.{Entry, entryCall, shownBytes, ByModel, bytesAfterAll}
 use Rattle.simulation.specs.Index.{recordsIn, widthsIn}
 use Rattle.simulation.proofs.Found.{faultless}
 use Rattle.evaluation.specs.Ticks.{Filled, signalsIn}
 use Rattle.evaluation.proofs.Calling.{holds-enough}
-use Rattle.runner.specs.Calls.{firedBy, entries, outputWidth, answerWords, answersOf, outputsOf}
+use Rattle.runner.specs.Calls.{firedBy, handed, entries, outputWidth, answerWords, answersOf, outputsOf}
 use Rattle.runner.specs.Parts.{tickCauses, RunsTick, Enough, made, RunsTicks}
 use Rattle.runner.proofs.Showing.{over-nothing}
 use Rattle.runner.proofs.Ticking.{tick-filled, same-answer, same-bytes}
@@ -58,12 +58,12 @@ module _ (bits : List ℕ) (pos n end : ℕ) (p : pos ≤ length bits) (e : end 
 
 -- THREE WORDS A TICK
 
-module _ (wb we ws : List ℕ) where
-  abbrev entryAt : List ℕ → List ℕ → ℕ → ℕ → Entry
-  entryAt heads bits at pos = record { ticks = take (getD heads at 0) (drop pos bits); fired = firedBy (getD heads (at + 1) 0) (getD heads (at + 2) 0); workBits = wb; workExprs = we; workSignals = ws }
+module _ (inputs : ℕ) (wb we ws : List ℕ) where
+  abbrev pub entryAt : List ℕ → List ℕ → ℕ → ℕ → Entry
+  entryAt heads bits at pos = record { ticks = handed inputs (getD heads at 0) (take (getD heads at 0) (drop pos bits)); fired = firedBy (getD heads (at + 1) 0) (getD heads (at + 2) 0); workBits = wb; workExprs = we; workSignals = ws }
 
-  entries-next : (heads bits : List ℕ) (at : ℕ) → at + 3 ≤ length heads → entries wb we ws (drop at heads) bits ≡ record { ticks = take (getD heads at 0) bits; fired = firedBy (getD heads (at + 1) 0) (getD heads (at + 2) 0); workBits = wb; workExprs = we; workSignals = ws } ∷ entries wb we ws (drop (at + 3) heads) (drop (getD heads at 0) bits)
-  entries-next heads bits at q = ap (λ (h : List ℕ). entries wb we ws h bits) three
+  entries-next : (heads bits : List ℕ) (at : ℕ) → at + 3 ≤ length heads → entries inputs wb we ws (drop at heads) bits ≡ record { ticks = handed inputs (getD heads at 0) (take (getD heads at 0) bits); fired = firedBy (getD heads (at + 1) 0) (getD heads (at + 2) 0); workBits = wb; workExprs = we; workSignals = ws } ∷ entries inputs wb we ws (drop (at + 3) heads) (drop (getD heads at 0) bits)
+  entries-next heads bits at q = ap (λ (h : List ℕ). entries inputs wb we ws h bits) three
     where
       one : suc at ≡ at + 1
       one = omega arith
@@ -83,22 +83,22 @@ module _ (wb we ws : List ℕ) where
           (ap (λ (k : ℕ). drop k heads) two ∙ drop-cons heads (at + 2) 0 (omega arith)
           ∙ ap (λ (k : ℕ). getD heads (at + 2) 0 ∷ drop k heads) all))
 
-  few : (heads bits : List ℕ) → length heads < 3 → entries wb we ws heads bits ≡ []
+  few : (heads bits : List ℕ) → length heads < 3 → entries inputs wb we ws heads bits ≡ []
   few [] bits q = refl
   few (n ∷ []) bits q = refl
   few (n ∷ f ∷ []) bits q = refl
   few (n ∷ f ∷ s ∷ heads) bits q = absurd (omega arith)
 
-  entries-end : (heads bits : List ℕ) (at : ℕ) → length heads < at + 3 → entries wb we ws (drop at heads) bits ≡ []
+  entries-end : (heads bits : List ℕ) (at : ℕ) → length heads < at + 3 → entries inputs wb we ws (drop at heads) bits ≡ []
   entries-end heads bits at q = few (drop at heads) bits (omega (arith, length-drop at heads))
 
 -- WHAT ONE TICK SHOWS
 
-words-two : (a : Option (ℕ × ℕ)) → length (answerWords a) ≡ 2
+pub words-two : (a : Option (ℕ × ℕ)) → length (answerWords a) ≡ 2
 words-two none = refl
 words-two (some a) = refl
 
-shown-length : (ss : List Signal) (bytes : List ℕ) → total (λ (s : Signal). s .width) ss ≤ length bytes → length (flat (shownBytes ss bytes)) ≡ total outputWidth ss
+pub shown-length : (ss : List Signal) (bytes : List ℕ) → total (λ (s : Signal). s .width) ss ≤ length bytes → length (flat (shownBytes ss bytes)) ≡ total outputWidth ss
 shown-length [] bytes h = refl
 shown-length (s ∷ ss) bytes h = go (eqb (s .label) 1) (shown-length ss (drop (s .width) bytes) (omega (arith, length-drop (s .width) bytes)))
   where
@@ -110,11 +110,15 @@ run-answer : (c : Call) → run largest c .answer ≡ answer largest c
 unfolding run
 run-answer c = refl
 
-signals-in : (l : Lists) → modelOf (rawOf l) .signals ≡ signalsIn (l .signals)
+pub signals-in : (l : Lists) → modelOf (rawOf l) .signals ≡ signalsIn (l .signals)
 unfolding modelOf
 signals-in l = refl
 
 -- ALL TICKS
+
+-- what is asked for of a model's inputs
+abbrev asks : Lists → ℕ
+asks l = tickBits (modelOf (rawOf l))
 
 -- i ticks are made: the next head stands at a word, its bits at an index; its answer and outputs go to others
 pub record Running (l : Lists) (heads bits bytes₀ bytes answers₀ answers shown₀ shown : List ℕ) (at pos to i : ℕ) : Type 0 where
@@ -124,20 +128,18 @@ pub record Running (l : Lists) (heads bits bytes₀ bytes answers₀ answers sho
   pub bytes-long : length bytes ≡ length bytes₀
   pub answers-long : length answers ≡ length answers₀
   pub shown-long : length shown ≡ length shown₀
-  pub filled : Filled (widthsIn (l .signals)) bytes
-  pub bytes-left : (wb we ws : List ℕ) → Enough (modelOf (rawOf l)) wb we ws → bytesAfterAll largest l bytes (entries wb we ws (drop at heads) (drop pos bits)) ≡ bytesAfterAll largest l bytes₀ (entries wb we ws heads bits)
-  pub answers-left : (wb we ws : List ℕ) → Enough (modelOf (rawOf l)) wb we ws → over answers (2 * i) (answersOf (made l bytes (entries wb we ws (drop at heads) (drop pos bits)))) ≡ over answers₀ 0 (answersOf (made l bytes₀ (entries wb we ws heads bits)))
-  pub shown-left : (wb we ws : List ℕ) → Enough (modelOf (rawOf l)) wb we ws → over shown to (outputsOf (made l bytes (entries wb we ws (drop at heads) (drop pos bits)))) ≡ over shown₀ 0 (outputsOf (made l bytes₀ (entries wb we ws heads bits)))
+  pub bytes-left : (wb we ws : List ℕ) → Enough (modelOf (rawOf l)) wb we ws → bytesAfterAll largest l bytes (entries (asks l) wb we ws (drop at heads) (drop pos bits)) ≡ bytesAfterAll largest l bytes₀ (entries (asks l) wb we ws heads bits)
+  pub answers-left : (wb we ws : List ℕ) → Enough (modelOf (rawOf l)) wb we ws → over answers (2 * i) (answersOf (made l bytes (entries (asks l) wb we ws (drop at heads) (drop pos bits)))) ≡ over answers₀ 0 (answersOf (made l bytes₀ (entries (asks l) wb we ws heads bits)))
+  pub shown-left : (wb we ws : List ℕ) → Enough (modelOf (rawOf l)) wb we ws → over shown to (outputsOf (made l bytes (entries (asks l) wb we ws (drop at heads) (drop pos bits)))) ≡ over shown₀ 0 (outputsOf (made l bytes₀ (entries (asks l) wb we ws heads bits)))
 
-pub running-start : {l : Lists} (heads bits : List ℕ) {bytes₀ : List ℕ} (answers₀ shown₀ : List ℕ) → Filled (widthsIn (l .signals)) bytes₀ → Running l heads bits bytes₀ bytes₀ answers₀ answers₀ shown₀ shown₀ 0 0 0 0
-running-start {l} heads bits answers₀ shown₀ f = record {
+pub running-start : {l : Lists} (heads bits bytes₀ answers₀ shown₀ : List ℕ) → Running l heads bits bytes₀ bytes₀ answers₀ answers₀ shown₀ shown₀ 0 0 0 0
+running-start {l} heads bits bytes₀ answers₀ shown₀ = record {
   at-is = refl;
   to-is = sym (mul-zero (total outputWidth (signalsIn (l .signals))));
   pos-inside = omega arith;
   bytes-long = refl;
   answers-long = refl;
   shown-long = refl;
-  filled = f;
   bytes-left = λ wb we ws q. refl;
   answers-left = λ wb we ws q. refl;
   shown-left = λ wb we ws q. refl;
@@ -151,8 +153,8 @@ module _ {l : Lists} {heads bits bytes₀ bytes answers₀ answers shown₀ show
     shown-are = λ wb we ws e. sym (over-nothing shown to) ∙ ap (λ (es : List Entry). over shown to (outputsOf (made l bytes es))) (sym (gone wb we ws)) ∙ g .shown-left wb we ws e;
   }
     where
-      gone : (wb we ws : List ℕ) → entries wb we ws (drop at heads) (drop pos bits) ≡ []
-      gone wb we ws = entries-end wb we ws heads (drop pos bits) at (omega (arith, g .at-is))
+      gone : (wb we ws : List ℕ) → entries (asks l) wb we ws (drop at heads) (drop pos bits) ≡ []
+      gone wb we ws = entries-end (asks l) wb we ws heads (drop pos bits) at (omega (arith, g .at-is))
 
   -- the next one
   module _ (q : i < length heads / 3) where
@@ -170,52 +172,32 @@ module _ {l : Lists} {heads bits bytes₀ bytes answers₀ answers shown₀ show
         let z : i + 1 ≤ length heads / 3 = omega arith in
         le-trans (le-of-eq (sym next-room)) (le-trans (mul-le-mul-left (total outputWidth (signalsIn (l .signals))) z) (le-trans r (le-of-eq (sym (g .shown-long)))))
 
-    module _ (h : malformed largest l ≡ none) (u : looped (modelOf (rawOf l)) ≡ none) {count inputs : ℕ} (hc : count ≡ length (recordsIn (l .signals))) (hi : inputs ≡ total inputWidth (signalsIn (l .signals)))
-        {end : ℕ} (he : end ≡ min (pos + getD heads at 0) (length bits)) {ticks : List ℕ} (ht : ticks ≡ take (end - pos) (drop pos bits)) {fired : Option (ℕ × ℕ)} (hf : fired ≡ firedBy (getD heads (at + 1) 0) (getD heads (at + 2) 0))
-        {a : Option (ℕ × ℕ)} {bytes′ answers′ shown′ : List ℕ} (ha : a ≡ tickCauses count inputs ticks fired) (hr : RunsTick (l .signals) (l .exprs) (l .stmts) ticks fired a bytes bytes′)
-        (wa : answers′ ≡ over answers (2 * i) (answerWords a)) (hs : shown′ ≡ over shown to (flat (shownBytes (signalsIn (l .signals)) bytes′))) where
-      full : Filled (widthsIn (l .signals)) bytes′
-      full = tick-filled hr (g .filled)
-
-      room : total (λ (s : Signal). s .width) (signalsIn (l .signals)) ≤ length bytes′
-      room = le-trans (le-of-eq (ap (total (λ (s : Signal). s .width)) (sym (signals-in l)))) (holds-enough largest l (faultless largest l h) (full .holds))
-
+    -- whoever answers and leaves what a call of a run does, and shows it
+    module _ {end : ℕ} (he : end ≡ min (pos + getD heads at 0) (length bits)) {a : Option (ℕ × ℕ)} {bytes′ answers′ shown′ : List ℕ} (room : total (λ (s : Signal). s .width) (signalsIn (l .signals)) ≤ length bytes′)
+        (wa : answers′ ≡ over answers (2 * i) (answerWords a)) (hs : shown′ ≡ over shown to (flat (shownBytes (signalsIn (l .signals)) bytes′)))
+        (answered : (wb we wt : List ℕ) → Enough (modelOf (rawOf l)) wb we wt → a ≡ answer largest (entryCall l bytes (entryAt (asks l) wb we wt heads bits at pos)))
+        (left : (wb we wt : List ℕ) → Enough (modelOf (rawOf l)) wb we wt → bytes′ ≡ run largest (entryCall l bytes (entryAt (asks l) wb we wt heads bits at pos)) .bytes) where
       -- whatever works the calls of a run are lent
       module _ (wb we wt : List ℕ) (w : Enough (modelOf (rawOf l)) wb we wt) where
         abbrev e : Entry
-        e = entryAt wb we wt heads bits at pos
+        e = entryAt (asks l) wb we wt heads bits at pos
 
         abbrev c : Call
         c = entryCall l bytes e
 
         abbrev es : List Entry
-        es = entries wb we wt (drop (at + 3) heads) (drop end bits)
+        es = entries (asks l) wb we wt (drop (at + 3) heads) (drop end bits)
 
-        ticks-are : ticks ≡ take (getD heads at 0) (drop pos bits)
-        ticks-are = ht ∙ bits-taken bits pos (getD heads at 0) end (g .pos-inside) he
+        these : entries (asks l) wb we wt (drop at heads) (drop pos bits) ≡ entryAt (asks l) wb we wt heads bits at pos ∷ entries (asks l) wb we wt (drop (at + 3) heads) (drop end bits)
+        these = entries-next (asks l) wb we wt heads (drop pos bits) at head-inside ∙ ap (λ (b : List ℕ). e ∷ entries (asks l) wb we wt (drop (at + 3) heads) b) (bits-left bits pos (getD heads at 0) end (g .pos-inside) he)
 
-        cause : a ≡ tickCauses count inputs (take (getD heads at 0) (drop pos bits)) (firedBy (getD heads (at + 1) 0) (getD heads (at + 2) 0))
-        cause = ha ∙ ap₂ (tickCauses count inputs) ticks-are hf
+        made-next : made l bytes (entries (asks l) wb we wt (drop at heads) (drop pos bits)) ≡ record { answer = a; outputs = shownBytes (modelOf (rawOf l) .signals) bytes′ } ∷ made l bytes′ (entries (asks l) wb we wt (drop (at + 3) heads) (drop end bits))
+        made-next = ap (made l bytes) these ∙ ap₂ (λ (o : Option (ℕ × ℕ)) (b : List ℕ). record { answer = o; outputs = shownBytes (modelOf (rawOf l) .signals) b } ∷ made l b es) (run-answer c ∙ sym (answered wb we wt w)) (sym (left wb we wt w))
 
-        runs : RunsTick (l .signals) (l .exprs) (l .stmts) (take (getD heads at 0) (drop pos bits)) (firedBy (getD heads (at + 1) 0) (getD heads (at + 2) 0)) a bytes bytes′
-        runs = subst (λ (f : Option (ℕ × ℕ)). RunsTick (l .signals) (l .exprs) (l .stmts) (take (getD heads at 0) (drop pos bits)) f a bytes bytes′) hf (subst (λ (t : List ℕ). RunsTick (l .signals) (l .exprs) (l .stmts) t fired a bytes bytes′) ticks-are hr)
+        bytes-next : bytesAfterAll largest l bytes′ (entries (asks l) wb we wt (drop (at + 3) heads) (drop end bits)) ≡ bytesAfterAll largest l bytes₀ (entries (asks l) wb we wt heads bits)
+        bytes-next = ap (λ (b : List ℕ). bytesAfterAll largest l b es) (left wb we wt w) ∙ ap (bytesAfterAll largest l bytes) (sym these) ∙ g .bytes-left wb we wt w
 
-        answered : a ≡ answer largest (entryCall l bytes (entryAt wb we wt heads bits at pos))
-        answered = same-answer l h u e w (g .filled .holds) hc hi cause
-
-        left : bytes′ ≡ run largest (entryCall l bytes (entryAt wb we wt heads bits at pos)) .bytes
-        left = same-bytes l h u e w (g .filled .holds) hc hi cause runs
-
-        these : entries wb we wt (drop at heads) (drop pos bits) ≡ entryAt wb we wt heads bits at pos ∷ entries wb we wt (drop (at + 3) heads) (drop end bits)
-        these = entries-next wb we wt heads (drop pos bits) at head-inside ∙ ap (λ (b : List ℕ). e ∷ entries wb we wt (drop (at + 3) heads) b) (bits-left bits pos (getD heads at 0) end (g .pos-inside) he)
-
-        made-next : made l bytes (entries wb we wt (drop at heads) (drop pos bits)) ≡ record { answer = a; outputs = shownBytes (modelOf (rawOf l) .signals) bytes′ } ∷ made l bytes′ (entries wb we wt (drop (at + 3) heads) (drop end bits))
-        made-next = ap (made l bytes) these ∙ ap₂ (λ (o : Option (ℕ × ℕ)) (b : List ℕ). record { answer = o; outputs = shownBytes (modelOf (rawOf l) .signals) b } ∷ made l b es) (run-answer c ∙ sym answered) (sym left)
-
-        bytes-next : bytesAfterAll largest l bytes′ (entries wb we wt (drop (at + 3) heads) (drop end bits)) ≡ bytesAfterAll largest l bytes₀ (entries wb we wt heads bits)
-        bytes-next = ap (λ (b : List ℕ). bytesAfterAll largest l b es) left ∙ ap (bytesAfterAll largest l bytes) (sym these) ∙ g .bytes-left wb we wt w
-
-        answers-next : over answers′ (2 * (i + 1)) (answersOf (made l bytes′ (entries wb we wt (drop (at + 3) heads) (drop end bits)))) ≡ over answers₀ 0 (answersOf (made l bytes₀ (entries wb we wt heads bits)))
+        answers-next : over answers′ (2 * (i + 1)) (answersOf (made l bytes′ (entries (asks l) wb we wt (drop (at + 3) heads) (drop end bits)))) ≡ over answers₀ 0 (answersOf (made l bytes₀ (entries (asks l) wb we wt heads bits)))
         answers-next =
             let z : 2 * (i + 1) ≡ 2 * i + length (answerWords a) = omega (arith, words-two a) in
             ap₂ (λ (l′ : List ℕ) (k : ℕ). over l′ k (answersOf (made l bytes′ es))) wa z
@@ -223,7 +205,7 @@ module _ {l : Lists} {heads bits bytes₀ bytes answers₀ answers shown₀ show
             ∙ ap (λ (ts : List ByModel). over answers (2 * i) (answersOf ts)) (sym made-next)
             ∙ g .answers-left wb we wt w
 
-        shown-next : over shown′ (to + total outputWidth (signalsIn (l .signals))) (outputsOf (made l bytes′ (entries wb we wt (drop (at + 3) heads) (drop end bits)))) ≡ over shown₀ 0 (outputsOf (made l bytes₀ (entries wb we wt heads bits)))
+        shown-next : over shown′ (to + total outputWidth (signalsIn (l .signals))) (outputsOf (made l bytes′ (entries (asks l) wb we wt (drop (at + 3) heads) (drop end bits)))) ≡ over shown₀ 0 (outputsOf (made l bytes₀ (entries (asks l) wb we wt heads bits)))
         shown-next =
             ap₂ (λ (l′ : List ℕ) (k : ℕ). over l′ (to + k) (outputsOf (made l bytes′ es))) hs (sym (shown-length (signalsIn (l .signals)) bytes′ room))
             ∙ over-over (flat (shownBytes (signalsIn (l .signals)) bytes′)) (outputsOf (made l bytes′ es)) shown to
@@ -231,16 +213,42 @@ module _ {l : Lists} {heads bits bytes₀ bytes answers₀ answers shown₀ show
             ∙ ap (λ (ts : List ByModel). over shown to (outputsOf ts)) (sym made-next)
             ∙ g .shown-left wb we wt w
 
-      pub running-step : length bytes′ ≡ length bytes → length answers′ ≡ length answers → length shown′ ≡ length shown → Running l heads bits bytes₀ bytes′ answers₀ answers′ shown₀ shown′ (at + 3) end (to + total outputWidth (signalsIn (l .signals))) (i + 1)
-      running-step lb la ls = record {
+      pub running-next : length bytes′ ≡ length bytes → length answers′ ≡ length answers → length shown′ ≡ length shown → Running l heads bits bytes₀ bytes′ answers₀ answers′ shown₀ shown′ (at + 3) end (to + total outputWidth (signalsIn (l .signals))) (i + 1)
+      running-next lb la ls = record {
         at-is = omega (arith, g .at-is);
         to-is = sym next-room;
         pos-inside = end-inside bits pos (getD heads at 0) end (g .pos-inside) he;
         bytes-long = lb ∙ g .bytes-long;
         answers-long = la ∙ g .answers-long;
         shown-long = ls ∙ g .shown-long;
-        filled = full;
         bytes-left = λ wb we wt w. bytes-next wb we wt w;
         answers-left = λ wb we wt w. answers-next wb we wt w;
         shown-left = λ wb we wt w. shown-next wb we wt w;
       }
+
+    -- a tick on a model without a loop, from bytes that are bits
+    module _ (f : Filled (widthsIn (l .signals)) bytes) (h : malformed largest l ≡ none) (u : looped (modelOf (rawOf l)) ≡ none) {count inputs : ℕ} (hc : count ≡ length (recordsIn (l .signals))) (hi : inputs ≡ total inputWidth (signalsIn (l .signals)))
+        {end : ℕ} (he : end ≡ min (pos + getD heads at 0) (length bits)) {ticks : List ℕ} (ht : ticks ≡ handed inputs (getD heads at 0) (take (end - pos) (drop pos bits))) {fired : Option (ℕ × ℕ)} (hf : fired ≡ firedBy (getD heads (at + 1) 0) (getD heads (at + 2) 0))
+        {a : Option (ℕ × ℕ)} {bytes′ answers′ shown′ : List ℕ} (ha : a ≡ tickCauses count inputs ticks fired) (hr : RunsTick (l .signals) (l .exprs) (l .stmts) ticks fired a bytes bytes′)
+        (wa : answers′ ≡ over answers (2 * i) (answerWords a)) (hs : shown′ ≡ over shown to (flat (shownBytes (signalsIn (l .signals)) bytes′))) where
+      long : total (λ (s : Signal). s .width) (signalsIn (l .signals)) ≤ length bytes′
+      long = le-trans (le-of-eq (ap (total (λ (s : Signal). s .width)) (sym (signals-in l)))) (holds-enough largest l (faultless largest l h) (tick-filled hr f .holds))
+
+      ticks-are : ticks ≡ handed (tickBits (modelOf (rawOf l))) (getD heads at 0) (take (getD heads at 0) (drop pos bits))
+      ticks-are = ht ∙ ap₂ (λ (k : ℕ) (b : List ℕ). handed k (getD heads at 0) b) (hi ∙ ap (total inputWidth) (sym (signals-in l))) (bits-taken bits pos (getD heads at 0) end (g .pos-inside) he)
+
+      module _ (wb we wt : List ℕ) (w : Enough (modelOf (rawOf l)) wb we wt) where
+        cause : a ≡ tickCauses count inputs (handed (tickBits (modelOf (rawOf l))) (getD heads at 0) (take (getD heads at 0) (drop pos bits))) (firedBy (getD heads (at + 1) 0) (getD heads (at + 2) 0))
+        cause = ha ∙ ap₂ (tickCauses count inputs) ticks-are hf
+
+        runs : RunsTick (l .signals) (l .exprs) (l .stmts) (handed (tickBits (modelOf (rawOf l))) (getD heads at 0) (take (getD heads at 0) (drop pos bits))) (firedBy (getD heads (at + 1) 0) (getD heads (at + 2) 0)) a bytes bytes′
+        runs = subst (λ (z : Option (ℕ × ℕ)). RunsTick (l .signals) (l .exprs) (l .stmts) (handed (tickBits (modelOf (rawOf l))) (getD heads at 0) (take (getD heads at 0) (drop pos bits))) z a bytes bytes′) hf (subst (λ (t : List ℕ). RunsTick (l .signals) (l .exprs) (l .stmts) t fired a bytes bytes′) ticks-are hr)
+
+        as-called : a ≡ answer largest (entryCall l bytes (entryAt (asks l) wb we wt heads bits at pos))
+        as-called = same-answer l h u (entryAt (asks l) wb we wt heads bits at pos) w (f .holds) hc hi cause
+
+        as-left : bytes′ ≡ run largest (entryCall l bytes (entryAt (asks l) wb we wt heads bits at pos)) .bytes
+        as-left = same-bytes l h u (entryAt (asks l) wb we wt heads bits at pos) w (f .holds) hc hi cause runs
+
+      pub running-step : length bytes′ ≡ length bytes → length answers′ ≡ length answers → length shown′ ≡ length shown → Running l heads bits bytes₀ bytes′ answers₀ answers′ shown₀ shown′ (at + 3) end (to + total outputWidth (signalsIn (l .signals))) (i + 1)
+      running-step = running-next he long wa hs as-called as-left

@@ -1,29 +1,33 @@
 -- One tick of a list: what refuses it, and what it leaves in the signal bytes. Assumes nothing.
-use Prim.Native.Nat.{ℕ, _≤_, min}
+use Prim.Native.Nat.{ℕ, suc, _≤_, _<_, min}
 use mathlib.Core.Path.{_≡_, refl, sym, _∙_, ap, ap₂, subst}
 use mathlib.Core.List.{List, [], _∷_, _++_, map}
-use mathlib.Core.Option.{Option, none, some}
+use mathlib.Core.Option.{Option, none, some, Option·some-ne-none}
 use native.Mathlib.Omega.{arith}
-use lib.ListN.{length, length-map}
-use borrow.Author.Tests.{le-ltb}
-use Rattle.bits.specs.Bits.{Bits, digit}
+use mathlib.Core.Bool.{Bool, true, false, false≢true}
+use lib.Dec.{leb}
+use lib.ListN.{length, take, replicate, length-map, length-replicate}
+use borrow.Author.Tests.{le-ltb, le-leb, lt-leb, leb-false}
+use Rattle.bits.specs.Bits.{Bits, digit, pick}
 use Rattle.recorder.specs.Record.{Model}
 use Rattle.recorder.specs.Lists.{Lists}
 use Rattle.recorder.specs.Read.{modelOf}
 use Rattle.recorder.specs.Words.{rawOf}
-use Rattle.simulation.specs.Wellformed.{largest, firstFault, malformed}
+use Rattle.simulation.specs.Wellformed.{largest, firstFault, malformed, orElse}
 use Rattle.simulation.specs.Tick.{looped, tick}
 use Rattle.simulation.specs.Run.{Call, firing, inputWidth, total, signalBytes, tickBits, short, noBit, wrongCount, wrongFired, onLoop, firstOf, causes, refusal, verdict, answer, flat, isOne, ticked, bytesAfter, run}
 use Rattle.simulation.specs.Shown.{Entry, entryCall}
 use Rattle.simulation.specs.Index.{recordsIn, widthsIn}
 use Rattle.simulation.proofs.Found.{faultless, signals-count}
 use Rattle.simulation.proofs.Kept.{AllNone, all-none, count-none, accepted-good}
-use Rattle.simulation.proofs.Calls.{only-false}
+use Rattle.simulation.proofs.Calls.{only-false, count-wrong, firsts-append, orElse-none}
 use Rattle.evaluation.specs.Bytes.{Holds}
 use Rattle.evaluation.specs.Ready.{modelIn}
 use Rattle.evaluation.specs.Ticks.{Filled, signalsIn, GoodTicks}
 use Rattle.evaluation.proofs.Calling.{holds-same, holds-state, holds-behind, holds-enough, holds-bits, holds-ticked}
-use Rattle.runner.specs.Parts.{tickCauses, afterTick, RunsTick, Enough}
+use Rattle.runner.specs.Calls.{handed}
+use Rattle.runner.specs.Parts.{tickCauses, afterTick, RunsTick, Enough, isMade}
+use Rattle.runner.specs.Whole.{among}
 
 pub short-so : (n : ℕ) (l : List ℕ) → n ≤ length l → short n l ≡ none
 short-so n l h = sym (only-false (some (1, min n 18446744073709551615)) (le-ltb (length l) n h))
@@ -31,6 +35,12 @@ short-so n l h = sym (only-false (some (1, min n 18446744073709551615)) (le-ltb 
 -- of a call's causes those of the tick are left
 causes-left : {a b c d e f : Option (ℕ × ℕ)} (x y z : Option (ℕ × ℕ)) → a ≡ none → b ≡ none → c ≡ none → d ≡ none → e ≡ none → f ≡ none → firstOf (a ∷ b ∷ c ∷ d ∷ e ∷ x ∷ y ∷ z ∷ f ∷ []) ≡ firstOf (x ∷ y ∷ z ∷ [])
 causes-left x y z qa qb qc qd qe qf = rw (qa, qb, qc, qd, qe, qf)
+
+-- the signal bytes' come before them, and a loop behind
+causes-among : {a b c d : Option (ℕ × ℕ)} (p x y z q : Option (ℕ × ℕ)) → a ≡ none → b ≡ none → c ≡ none → d ≡ none → firstOf (a ∷ b ∷ c ∷ d ∷ p ∷ x ∷ y ∷ z ∷ q ∷ []) ≡ among p (firstOf (x ∷ y ∷ z ∷ [])) q
+causes-among {a} {b} {c} {d} p x y z q qa qb qc qd =
+    let left : firstOf (a ∷ b ∷ c ∷ d ∷ p ∷ x ∷ y ∷ z ∷ q ∷ []) ≡ firstOf (p ∷ x ∷ y ∷ z ∷ q ∷ []) = rw (qa, qb, qc, qd) in
+    left ∙ ap (orElse p) (firsts-append (x ∷ y ∷ z ∷ []) (q ∷ []) ∙ ap (orElse (firstOf (x ∷ y ∷ z ∷ []))) (orElse-none q))
 
 -- ONE TICK
 
@@ -42,6 +52,34 @@ good-ticks signals ticks fired count inputs e q =
 module _ {signals exprs stmts ticks : List ℕ} {fired : Option (ℕ × ℕ)} {bytes : List ℕ} where
   pub tick-filled : {a : Option (ℕ × ℕ)} {bytes′ : List ℕ} → RunsTick signals exprs stmts ticks fired a bytes bytes′ → Filled (widthsIn signals) bytes → Filled (widthsIn signals) bytes′
   tick-filled {a} t f = record { values = afterTick (modelIn signals exprs stmts) ticks fired a (f .values); rest = f .rest; holds = t .runs (f .values) (f .rest) (f .holds) }
+
+-- THE BITS THAT A HEAD ASKS FOR
+
+module _ (inputs asked : ℕ) (ticks : List ℕ) where
+  pub handed-all : asked ≤ length ticks → handed inputs asked ticks ≡ ticks
+  handed-all h = ap (λ (b : Bool). pick b ticks (replicate (suc inputs) 0)) (le-leb asked (length ticks) h)
+
+  pub handed-few : length ticks < asked → handed inputs asked ticks ≡ replicate (suc inputs) 0
+  handed-few h = ap (λ (b : Bool). pick b ticks (replicate (suc inputs) 0)) (lt-leb asked (length ticks) h)
+
+  module _ (count : ℕ) (fired : Option (ℕ × ℕ)) where
+    -- too few: a wrong count
+    pub few-refused : length ticks < asked → some (14, inputs) ≡ tickCauses count inputs (handed inputs asked ticks) fired
+    few-refused h =
+        let w : some (14, inputs) ≡ wrongCount inputs (replicate (suc inputs) 0) = count-wrong inputs (replicate (suc inputs) 0) (λ q. let z = length-replicate {A = ℕ} (suc inputs) 0 in omega (arith, q, z)) in
+        ap (λ (o : Option (ℕ × ℕ)). firstOf (o ∷ noBit 0 (replicate (suc inputs) 0) ∷ wrongFired count fired ∷ [])) w
+        ∙ ap (λ (t : List ℕ). tickCauses count inputs t fired) (sym (handed-few h))
+
+    -- what is refused for nothing was there
+    pub handed-made : none ≡ tickCauses count inputs (handed inputs asked ticks) fired → handed inputs asked ticks ≡ ticks
+    handed-made h = go (leb asked (length ticks)) refl
+      where
+        go : (b : Bool) → leb asked (length ticks) ≡ b → handed inputs asked ticks ≡ ticks
+        go true z = ap (λ (b : Bool). pick b ticks (replicate (suc inputs) 0)) z
+        go false z = absurd (Option·some-ne-none (14, inputs) (few-refused (leb-false asked (length ticks) z) ∙ sym h))
+
+    pub handed-causes : none ≡ tickCauses count inputs (handed inputs asked ticks) fired → tickCauses count inputs ticks fired ≡ none
+    handed-causes h = ap (λ (t : List ℕ). tickCauses count inputs t fired) (sym (handed-made h)) ∙ sym h
 
 -- THE SAME AS A CALL
 
@@ -88,3 +126,24 @@ module _ (l : Lists) (h : malformed largest l ≡ none) (u : looped (modelOf (ra
       -- and leaves the same
       pub same-bytes : {bytes′ : List ℕ} → RunsTick (l .signals) (l .exprs) (l .stmts) (e .ticks) (e .fired) a bytes bytes′ → bytes′ ≡ run largest (entryCall l bytes e) .bytes
       same-bytes {bytes′} r = holds-same (subst (λ (o : Option (ℕ × ℕ)). Holds (widthsIn (l .signals)) (afterTick m (e .ticks) (e .fired) o old) behind bytes′) same-answer (r .runs old behind ho)) entry-holds
+
+-- whatever the bytes and the loops
+module _ (l : Lists) (h : malformed largest l ≡ none) (bytes : List ℕ) (b : signalBytes (modelOf (rawOf l)) ≤ length bytes) (e : Entry) (q : Enough (modelOf (rawOf l)) (e .workBits) (e .workExprs) (e .workSignals)) where
+  pub entry-among : answer largest (entryCall l bytes e) ≡ among (noBit 0 (take (signalBytes (modelOf (rawOf l))) bytes)) (tickCauses (length (modelOf (rawOf l) .signals)) (tickBits (modelOf (rawOf l))) (e .ticks) (e .fired)) (onLoop (looped (modelOf (rawOf l))))
+  unfolding answer refusal
+  entry-among =
+      ap (verdict (modelOf (rawOf l)) (entryCall l bytes e)) h
+      ∙ causes-among (noBit 0 (take (signalBytes (modelOf (rawOf l))) bytes)) (wrongCount (tickBits (modelOf (rawOf l))) (e .ticks)) (noBit 0 (e .ticks)) (wrongFired (length (modelOf (rawOf l) .signals)) (e .fired)) (onLoop (looped (modelOf (rawOf l))))
+      (short-so (signalBytes (modelOf (rawOf l))) bytes b)
+      (short-so _ (e .workBits) (q .0))
+      (short-so _ (e .workExprs) (q .1))
+      (short-so _ (e .workSignals) (q .2))
+
+  -- a refused call leaves the bytes
+  pub entry-kept : isMade (answer largest (entryCall l bytes e)) ≡ false → bytes ≡ run largest (entryCall l bytes e) .bytes
+  unfolding run
+  entry-kept = go (answer largest (entryCall l bytes e))
+    where
+      go : (o : Option (ℕ × ℕ)) → isMade o ≡ false → bytes ≡ bytesAfter (entryCall l bytes e) o
+      go (some r) z = refl
+      go none z = absurd (false≢true (sym z))

@@ -1,7 +1,7 @@
 -- A whole list: what refuses it, and what its run leaves. Assumes nothing.
 use Prim.Native.Nat.{ℕ, zero, suc, _+_, _*_, _/_, _≤_, _<_, min}
 use mathlib.Core.Path.{_≡_, refl, sym, _∙_, ap, ap₂, subst}
-use mathlib.Core.Bool.{Bool}
+use mathlib.Core.Bool.{Bool, false}
 use mathlib.Core.List.{List, [], _∷_, _++_}
 use mathlib.Core.Option.{Option, none, some, Option·some-ne-none}
 use native.Mathlib.Omega.{arith}
@@ -30,17 +30,17 @@ use Rattle.ordering.specs.Loops.{loopOf}
 use Rattle.evaluation.specs.Ready.{modelIn}
 use Rattle.evaluation.specs.Ticks.{signalsIn, ReadSignals}
 use Rattle.runner.specs.Calls.{ListCall, listModel, entries, entriesOf, outputWidth, outputBytes, listCauses, listVerdict, listAnswer, listOutcome, ListOutcome, runList, RunsList}
-use Rattle.runner.specs.Parts.{Unrefused, RunsTicks}
-use Rattle.runner.specs.Whole.{listCall, shownCauses, faultCauses, listChecked, listCheckedBy, ListUnrefused, leaves, Leaves, TriesList}
+use Rattle.runner.specs.Parts.{isMade, Unrefused, RunsTicks}
+use Rattle.runner.specs.Whole.{listCall, shownCauses, faultCauses, ListFits, ListUnrefused, among, Stopped, leaves, Leaves}
 use Rattle.runner.proofs.Ticking.{short-so}
 use Rattle.runner.proofs.Call.{total-offset}
 
 -- as many ticks as whole heads
-entries-count : (wb we ws heads bits : List ℕ) → length (entries wb we ws heads bits) ≡ length heads / 3
-entries-count wb we ws [] bits = refl
-entries-count wb we ws (n ∷ []) bits = refl
-entries-count wb we ws (n ∷ f ∷ []) bits = refl
-entries-count wb we ws (n ∷ f ∷ s ∷ heads) bits = let z = entries-count wb we ws heads (drop n bits) in omega (arith, z)
+pub entries-count : (inputs : ℕ) (wb we ws heads bits : List ℕ) → length (entries inputs wb we ws heads bits) ≡ length heads / 3
+entries-count inputs wb we ws [] bits = refl
+entries-count inputs wb we ws (n ∷ []) bits = refl
+entries-count inputs wb we ws (n ∷ f ∷ []) bits = refl
+entries-count inputs wb we ws (n ∷ f ∷ s ∷ heads) bits = let z = entries-count inputs wb we ws heads (drop n bits) in omega (arith, z)
 
 -- 1 FOR THE TWO BUFFERS OF WHAT IS SHOWN
 
@@ -67,18 +67,15 @@ module _ (signals heads answers shown : List ℕ) where
     pub shown-long : needed ≤ length shown → none ≡ firstOf (shownCauses signals heads answers shown)
     shown-long q = sym (ap (λ (b : Bool). only b (some (1, needed))) (le-ltb (length shown) needed q)) ∙ left-short
 
--- 1, AND 14 FOR A SIGNAL BYTE
+-- 1
 
--- the first of three answers
-module _ (x b d : Option (ℕ × ℕ)) where
-  pub first-refuses : {a : Option (ℕ × ℕ)} {r : ℕ × ℕ} → a ≡ some r → a ≡ x → a ≡ orElse x (orElse b d)
-  first-refuses e q = e ∙ ap (λ (o : Option (ℕ × ℕ)). orElse o (orElse b d)) (sym e ∙ q)
+-- the first of two answers
+module _ (x b : Option (ℕ × ℕ)) where
+  pub first-refuses : {a : Option (ℕ × ℕ)} {r : ℕ × ℕ} → a ≡ some r → a ≡ x → a ≡ orElse x b
+  first-refuses e q = e ∙ ap (λ (o : Option (ℕ × ℕ)). orElse o b) (sym e ∙ q)
 
-  pub second-refuses : {a : Option (ℕ × ℕ)} {r : ℕ × ℕ} → none ≡ x → a ≡ some r → a ≡ b → a ≡ orElse x (orElse b d)
-  second-refuses n e q = e ∙ ap₂ (λ (o p : Option (ℕ × ℕ)). orElse o (orElse p d)) n (sym e ∙ q)
-
-  pub third-answers : {a : Option (ℕ × ℕ)} → none ≡ x → none ≡ b → a ≡ d → a ≡ orElse x (orElse b d)
-  third-answers n m q = q ∙ ap₂ (λ (o p : Option (ℕ × ℕ)). orElse o (orElse p d)) n m
+  pub second-answers : {a : Option (ℕ × ℕ)} → none ≡ x → a ≡ b → a ≡ orElse x b
+  second-answers n q = q ∙ ap (λ (o : Option (ℕ × ℕ)). orElse o b) n
 
 -- bytes that are enough: the widths' sum can be named
 pub sum-named : (signals exprs bytes wb we ws : List ℕ) → none ≡ firstOf (lengthCauses signals exprs bytes wb we ws) → length bytes < 18446744073709551615 → offset (widthsIn signals) (length (recordsIn signals)) ≤ 18446744073709551615
@@ -91,15 +88,15 @@ sum-named signals exprs bytes wb we ws h q =
 pub work-same : (l : Lists) (heads bits bytes wb we ws other answers shown : List ℕ) → length other ≡ length ws → faultCauses (listCall l heads bits bytes wb we other answers shown) ≡ faultCauses (listCall l heads bits bytes wb we ws answers shown)
 work-same l heads bits bytes wb we ws other answers shown h =
     ap (λ (n : ℕ). orElse (firstOf (short (widthTotal (l .signals)) bytes ∷ short (widthTotal (l .exprs)) wb ∷ short (length (recordsIn (l .exprs))) we ∷ only (ltb n (length (recordsIn (l .signals)))) (some (1, min (length (recordsIn (l .signals))) 18446744073709551615)) ∷ []))
-    (orElse (firstOf (shownCauses (l .signals) heads answers shown)) (noBit 0 (take (widthTotal (l .signals)) bytes)))) h
+    (firstOf (shownCauses (l .signals) heads answers shown))) h
 
--- 12, 1 AND 14
+-- 12 AND 1
 
 -- the causes, by the numbers that they ask for
-abbrev seven : ℕ → ℕ → ℕ → ℕ → ℕ → ℕ → ListCall → List (Option (ℕ × ℕ))
-seven sb eb ne ns k out c =
+abbrev six : ℕ → ℕ → ℕ → ℕ → ℕ → ℕ → ListCall → List (Option (ℕ × ℕ))
+six sb eb ne ns k out c =
     short sb (c .bytes) ∷ short eb (c .workBits) ∷ short ne (c .workExprs) ∷ short ns (c .workSignals)
-    ∷ short (2 * k) (c .answers) ∷ short (out * k) (c .shown) ∷ noBit 0 (take sb (c .bytes)) ∷ []
+    ∷ short (2 * k) (c .answers) ∷ short (out * k) (c .shown) ∷ []
 
 outputs-same : (l : Lists) → outputBytes (modelOf (rawOf l)) ≡ total outputWidth (signalsIn (l .signals))
 unfolding modelOf
@@ -112,125 +109,135 @@ signals-readable l h = record { readable = signals-read largest (rawOf l) (fault
 abbrev other : Lists → Call
 other l = callOf l [] [] none [] [] []
 
+pub outcome-same : {a a′ : Option (ℕ × ℕ)} {b b′ w w′ s s′ : List ℕ} → a ≡ a′ → b ≡ b′ → w ≡ w′ → s ≡ s′ → _≡_ {A = ListOutcome} (record { answer = a; bytes = b; answers = w; shown = s }) (record { answer = a′; bytes = b′; answers = w′; shown = s′ })
+outcome-same p q r t = rw (p, q, r, t)
+
 module _ (c : ListCall) where
   abbrev m : Model
   m = listModel c
 
-  causes-so : malformed largest (c .lists) ≡ none → faultCauses c ≡ firstOf (take 7 (listCauses (listModel c) c))
+  causes-so : malformed largest (c .lists) ≡ none → faultCauses c ≡ firstOf (listCauses (listModel c) c)
   causes-so h =
       let sb = widthTotal (c .lists .signals) in
       let eb = widthTotal (c .lists .exprs) in
       let ne = length (recordsIn (c .lists .exprs)) in
       let ns = length (recordsIn (c .lists .signals)) in
       let k = length (c .heads) / 3 in
-      sym (ap (λ (n : ℕ). firstOf (seven n (exprBits m) (length (m .exprs)) (length (m .signals)) (length (entriesOf c)) (outputBytes m) c)) (bytes-same largest (other (c .lists)) h)
-      ∙ ap (λ (n : ℕ). firstOf (seven sb n (length (m .exprs)) (length (m .signals)) (length (entriesOf c)) (outputBytes m) c)) (bits-same largest (other (c .lists)) h)
-      ∙ ap (λ (n : ℕ). firstOf (seven sb eb n (length (m .signals)) (length (entriesOf c)) (outputBytes m) c)) (exprs-count largest (c .lists) (faultless largest (c .lists) h))
-      ∙ ap (λ (n : ℕ). firstOf (seven sb eb ne n (length (entriesOf c)) (outputBytes m) c)) (signals-count largest (c .lists) (faultless largest (c .lists) h))
-      ∙ ap (λ (n : ℕ). firstOf (seven sb eb ne ns n (outputBytes m) c)) (entries-count (c .workBits) (c .workExprs) (c .workSignals) (c .heads) (c .bits))
-      ∙ ap (λ (n : ℕ). firstOf (seven sb eb ne ns k n c)) (outputs-same (c .lists))
-      ∙ firsts-append (lengthCauses (c .lists .signals) (c .lists .exprs) (c .bytes) (c .workBits) (c .workExprs) (c .workSignals)) (shownCauses (c .lists .signals) (c .heads) (c .answers) (c .shown) ++ noBit 0 (take sb (c .bytes)) ∷ [])
-      ∙ ap (orElse (firstOf (lengthCauses (c .lists .signals) (c .lists .exprs) (c .bytes) (c .workBits) (c .workExprs) (c .workSignals))))
-      (firsts-append (shownCauses (c .lists .signals) (c .heads) (c .answers) (c .shown)) (noBit 0 (take sb (c .bytes)) ∷ [])
-      ∙ ap (orElse (firstOf (shownCauses (c .lists .signals) (c .heads) (c .answers) (c .shown)))) (orElse-none (noBit 0 (take sb (c .bytes))))))
+      sym (ap (λ (n : ℕ). firstOf (six n (exprBits m) (length (m .exprs)) (length (m .signals)) (length (entriesOf c)) (outputBytes m) c)) (bytes-same largest (other (c .lists)) h)
+      ∙ ap (λ (n : ℕ). firstOf (six sb n (length (m .exprs)) (length (m .signals)) (length (entriesOf c)) (outputBytes m) c)) (bits-same largest (other (c .lists)) h)
+      ∙ ap (λ (n : ℕ). firstOf (six sb eb n (length (m .signals)) (length (entriesOf c)) (outputBytes m) c)) (exprs-count largest (c .lists) (faultless largest (c .lists) h))
+      ∙ ap (λ (n : ℕ). firstOf (six sb eb ne n (length (entriesOf c)) (outputBytes m) c)) (signals-count largest (c .lists) (faultless largest (c .lists) h))
+      ∙ ap (λ (n : ℕ). firstOf (six sb eb ne ns n (outputBytes m) c)) (entries-count (tickBits m) (c .workBits) (c .workExprs) (c .workSignals) (c .heads) (c .bits))
+      ∙ ap (λ (n : ℕ). firstOf (six sb eb ne ns k n c)) (outputs-same (c .lists))
+      ∙ firsts-append (lengthCauses (c .lists .signals) (c .lists .exprs) (c .bytes) (c .workBits) (c .workExprs) (c .workSignals)) (shownCauses (c .lists .signals) (c .heads) (c .answers) (c .shown)))
 
-  pub checked-fault : (n : ℕ) → some n ≡ malformed largest (c .lists) → some (12, n) ≡ listCheckedBy largest c
-  unfolding listCheckedBy
-  checked-fault n h = ap (listChecked (listModel c) c) h
+  pub checked-fault : (n : ℕ) → some n ≡ malformed largest (c .lists) → some (12, n) ≡ listAnswer largest c
+  unfolding listAnswer
+  checked-fault n h = ap (listVerdict (listModel c) c) h
 
-  pub checked-fine : {o : Option (ℕ × ℕ)} → none ≡ malformed largest (c .lists) → o ≡ faultCauses c → o ≡ listCheckedBy largest c
-  unfolding listCheckedBy
-  checked-fine h e = e ∙ causes-so (sym h) ∙ ap (listChecked (listModel c) c) h
+  pub checked-fine : {o : Option (ℕ × ℕ)} → none ≡ malformed largest (c .lists) → o ≡ faultCauses c → o ≡ listAnswer largest c
+  unfolding listAnswer
+  checked-fine h e = e ∙ causes-so (sym h) ∙ ap (listVerdict (listModel c) c) h
 
-  -- what is left is a loop
-  answer-checked : listAnswer largest c ≡ orElse (listCheckedBy largest c) (onLoop (looped (listModel c)))
-  unfolding listAnswer listCheckedBy
-  answer-checked = go (malformed largest (c .lists))
+  -- nothing refuses it as a whole
+  pub fitting : none ≡ listAnswer largest c → ListFits (c .lists) (c .heads) (c .bytes) (c .workBits) (c .workExprs) (c .workSignals) (c .answers) (c .shown)
+  unfolding listAnswer
+  fitting = go (malformed largest (c .lists)) refl
     where
-      go : (o : Option ℕ) → listVerdict (listModel c) c o ≡ orElse (listChecked (listModel c) c o) (onLoop (looped (listModel c)))
-      go (some n) = refl
-      go none = firsts-append (take 7 (listCauses (listModel c) c)) (onLoop (looped (listModel c)) ∷ []) ∙ ap (orElse (firstOf (take 7 (listCauses (listModel c) c)))) (orElse-none (onLoop (looped (listModel c))))
-
-  unrefused : none ≡ listCheckedBy largest c → ListUnrefused (c .lists) (c .heads) (c .bytes) (c .workBits) (c .workExprs) (c .workSignals) (c .answers) (c .shown)
-  unfolding listCheckedBy
-  unrefused = go (malformed largest (c .lists)) refl
-    where
-      go : (o : Option ℕ) → malformed largest (c .lists) ≡ o → none ≡ listChecked (listModel c) c o → ListUnrefused (c .lists) (c .heads) (c .bytes) (c .workBits) (c .workExprs) (c .workSignals) (c .answers) (c .shown)
+      go : (o : Option ℕ) → malformed largest (c .lists) ≡ o → none ≡ listVerdict (listModel c) c o → ListFits (c .lists) (c .heads) (c .bytes) (c .workBits) (c .workExprs) (c .workSignals) (c .answers) (c .shown)
       go (some n) e h = absurd (Option·some-ne-none (12, n) (sym h))
       go none e h =
-          let a : AllNone (take 7 (listCauses (listModel c) c)) = all-none (take 7 (listCauses (listModel c) c)) (sym h) in
-          let k = entries-count (c .workBits) (c .workExprs) (c .workSignals) (c .heads) (c .bits) in
+          let a : AllNone (listCauses (listModel c) c) = all-none (listCauses (listModel c) c) (sym h) in
+          let k = entries-count (tickBits (listModel c)) (c .workBits) (c .workExprs) (c .workSignals) (c .heads) (c .bits) in
           record {
             well-formed = e;
             bytes-enough = short-none (signalBytes (listModel c)) (c .bytes) (a .0);
             enough = (short-none (exprBits (listModel c)) (c .workBits) (a .1 .0), short-none (length (listModel c .exprs)) (c .workExprs) (a .1 .1 .0), short-none (length (listModel c .signals)) (c .workSignals) (a .1 .1 .1 .0));
             answers-enough = subst (λ (n : ℕ). 2 * n ≤ length (c .answers)) k (short-none (2 * length (entriesOf c)) (c .answers) (a .1 .1 .1 .1 .0));
             shown-enough = subst (λ (n : ℕ). outputBytes (listModel c) * n ≤ length (c .shown)) k (short-none (outputBytes (listModel c) * length (entriesOf c)) (c .shown) (a .1 .1 .1 .1 .1 .0));
-            bits = a .1 .1 .1 .1 .1 .1 .0;
           }
 
   -- with works of the same length
-  pub checked-none : {k r : Ran} {ws : List ℕ} → answerOf k ≡ listCheckedBy largest c → k ≡ r → answerOf r ≡ none → length ws ≡ length (c .workSignals) → ListUnrefused (c .lists) (c .heads) (c .bytes) (c .workBits) (c .workExprs) ws (c .answers) (c .shown)
+  pub checked-none : {k r : Ran} {ws : List ℕ} → answerOf k ≡ listAnswer largest c → k ≡ r → answerOf r ≡ none → length ws ≡ length (c .workSignals) → ListFits (c .lists) (c .heads) (c .bytes) (c .workBits) (c .workExprs) ws (c .answers) (c .shown)
   checked-none q e n w =
-      let u = unrefused (sym n ∙ ap answerOf (sym e) ∙ q) in
-      record { well-formed = u .well-formed; bytes-enough = u .bytes-enough; enough = (u .enough .0, u .enough .1, (let h = u .enough .2 in omega (arith, h, w))); answers-enough = u .answers-enough; shown-enough = u .shown-enough; bits = u .bits }
+      let u = fitting (sym n ∙ ap answerOf (sym e) ∙ q) in
+      record { well-formed = u .well-formed; bytes-enough = u .bytes-enough; enough = (u .enough .0, u .enough .1, (let h = u .enough .2 in omega (arith, h, w))); answers-enough = u .answers-enough; shown-enough = u .shown-enough }
 
-  -- refused before a loop is looked for
-  pub list-refused : (x : ℕ × ℕ) {k r : Ran} → answerOf k ≡ listCheckedBy largest c → k ≡ r → answerOf r ≡ some x → Leaves c (listAnswer largest c) r (c .bytes) (c .answers) (c .shown)
+  -- refused
+  pub list-refused : (x : ℕ × ℕ) {k r : Ran} → answerOf k ≡ listAnswer largest c → k ≡ r → answerOf r ≡ some x → Leaves c (listAnswer largest c) r (c .bytes) (c .answers) (c .shown)
   list-refused x q e n =
-      let a : some x ≡ listAnswer largest c = ap (λ (o : Option (ℕ × ℕ)). orElse o (onLoop (looped (listModel c)))) (sym n ∙ ap answerOf (sym e) ∙ q) ∙ sym answer-checked in
-      record { left = ap (λ (o : Option (ℕ × ℕ)). record { answer = o; bytes = c .bytes; answers = c .answers; shown = c .shown }) n ∙ ap (leaves c) a }
+      record { left = ap (λ (o : Option (ℕ × ℕ)). record { answer = o; bytes = c .bytes; answers = c .answers; shown = c .shown }) n ∙ ap (leaves c) (sym n ∙ ap answerOf (sym e) ∙ q) }
 
   -- or not
-  pub list-tried : {k d r : Ran} {bytes′ answers′ shown′ : List ℕ} → answerOf k ≡ listCheckedBy largest c → k ≡ d → answerOf d ≡ none → TriesList (c .lists) (c .heads) (c .bits) (c .bytes) (c .answers) (c .shown) r bytes′ answers′ shown′ → Leaves c (listAnswer largest c) r bytes′ answers′ shown′
-  list-tried q e n t =
-      let f : none ≡ listCheckedBy largest c = sym n ∙ ap answerOf (sym e) ∙ q in
-      record { left = t .tries (c .workBits) (c .workExprs) (c .workSignals) (unrefused f .enough) .left ∙ ap (leaves c) (ap (λ (o : Option (ℕ × ℕ)). orElse o (onLoop (looped (listModel c)))) f ∙ sym answer-checked) }
+  pub list-made : {k d r : Ran} {bytes′ answers′ shown′ : List ℕ} → answerOf k ≡ listAnswer largest c → k ≡ d → answerOf d ≡ none → RunsTicks (c .lists) (c .heads) (c .bits) (c .bytes) bytes′ (c .answers) answers′ (c .shown) shown′ → answerOf r ≡ none → Leaves c (listAnswer largest c) r bytes′ answers′ shown′
+  list-made q e n t a =
+      let f : none ≡ listAnswer largest c = sym n ∙ ap answerOf (sym e) ∙ q in
+      let w = fitting f .enough in
+      record { left = outcome-same a (t .bytes-are (c .workBits) (c .workExprs) (c .workSignals) w) (t .answers-are (c .workBits) (c .workExprs) (c .workSignals) w) (t .shown-are (c .workBits) (c .workExprs) (c .workSignals) w) ∙ ap (leaves c) f }
 
--- THE TICKS OF A LIST THAT NOTHING REFUSES BUT MAYBE A LOOP
+-- THE TICKS OF A LIST THAT NOTHING REFUSES AS A WHOLE
 
 zeros-bits : (k n : ℕ) → noBit k (replicate n 0) ≡ none
 zeros-bits k zero = refl
 zeros-bits k (suc n) = zeros-bits (suc k) n
 
-outcome-same : {a a′ : Option (ℕ × ℕ)} {b b′ w w′ s s′ : List ℕ} → a ≡ a′ → b ≡ b′ → w ≡ w′ → s ≡ s′ → _≡_ {A = ListOutcome} (record { answer = a; bytes = b; answers = w; shown = s }) (record { answer = a′; bytes = b′; answers = w′; shown = s′ })
-outcome-same p q r t = rw (p, q, r, t)
-
-module _ {signals exprs stmts heads bytes wb we ws answers shown : List ℕ} (u : ListUnrefused (lists signals exprs stmts) heads bytes wb we ws answers shown) where
+module _ {signals exprs stmts heads bytes wb we ws answers shown : List ℕ} (u : ListFits (lists signals exprs stmts) heads bytes wb we ws answers shown) where
   abbrev l : Lists
   l = lists signals exprs stmts
 
-  -- a tick of zeros, in which nothing fires, would not be refused
-  pub quiet : Unrefused (lists signals exprs stmts) bytes (replicate (tickBits (modelOf (rawOf (lists signals exprs stmts)))) 0) none wb we ws
-  quiet = record {
-    well-formed = u .well-formed;
-    bytes-enough = u .bytes-enough;
-    enough = u .enough;
-    bits = u .bits;
-    no-cause = ap₂ (λ (a b : Option (ℕ × ℕ)). firstOf (a ∷ b ∷ none ∷ [])) (sym (count-right (tickBits (modelOf (rawOf l))) (replicate (tickBits (modelOf (rawOf l))) 0) (length-replicate (tickBits (modelOf (rawOf l))) 0))) (zeros-bits 0 (tickBits (modelOf (rawOf l))));
-  }
+  pub bytes-room : widthTotal signals ≤ length bytes
+  bytes-room = le-trans (le-of-eq (sym (bytes-same largest (other l) (u .well-formed)))) (u .bytes-enough)
 
   pub inputs-are : {sum : ℕ} → sum ≡ min (inputTotal signals) 18446744073709551615 → length bytes < 18446744073709551615 → sum ≡ total inputWidth (signalsIn signals)
   unfolding modelOf
-  inputs-are {sum} e q =
-      let b = bytes-same largest (other l) (u .well-formed) in
-      let h : widthTotal signals ≤ length bytes = le-trans (le-of-eq (sym b)) (u .bytes-enough) in
-      input-fits signals sum (length bytes) e h q ∙ sym (ticks-same largest (other l) (u .well-formed))
+  inputs-are {sum} e q = input-fits signals sum (length bytes) e bytes-room q ∙ sym (ticks-same largest (other l) (u .well-formed))
 
   pub shown-room : total outputWidth (signalsIn signals) * (length heads / 3) ≤ length shown
   shown-room = le-trans (le-of-eq (ap (λ (n : ℕ). n * (length heads / 3)) (sym (outputs-same l)))) (u .shown-enough)
 
-  -- with a loop
-  pub list-looped : (bits : List ℕ) (x : ℕ) {found : Loop} → found ≡ At x → loopOf found ≡ looped (modelIn signals exprs stmts) → (r : Ran) → answerOf r ≡ some (13, x) → TriesList (lists signals exprs stmts) heads bits bytes answers shown r bytes answers shown
-  list-looped bits x {found} e f r a = record {
-    tries = λ wb′ we′ ws′ q. record { left = outcome-same a refl refl refl ∙ ap (leaves (listCall l heads bits bytes wb′ we′ ws′ answers shown)) (ap onLoop (ap loopOf (sym e) ∙ f)) };
+  -- 14 for a signal byte, by the words
+  byte-so : {o : Option (ℕ × ℕ)} → o ≡ noBit 0 (take (widthTotal signals) bytes) → o ≡ noBit 0 (take (signalBytes (modelOf (rawOf (lists signals exprs stmts)))) bytes)
+  byte-so e = e ∙ ap (λ (n : ℕ). noBit 0 (take n bytes)) (sym (bytes-same largest (other l) (u .well-formed)))
+
+  -- it refuses every tick
+  pub stopped-byte : (x : ℕ × ℕ) (k ahead behind : Ran) → answerOf k ≡ noBit 0 (take (widthTotal signals) bytes) → k ≡ ahead → answerOf ahead ≡ some x → answerOf behind ≡ none → Stopped (lists signals exprs stmts) bytes (answerOf ahead) (answerOf behind)
+  stopped-byte x k ahead behind q e b n =
+      let z : some x ≡ noBit 0 (take (signalBytes (modelOf (rawOf l))) bytes) = byte-so (sym b ∙ ap answerOf (sym e) ∙ q) in
+      record {
+        stops = λ own. ap (λ (o : Option (ℕ × ℕ)). among o own (answerOf behind)) b ∙ ap (λ (o : Option (ℕ × ℕ)). among o own (onLoop (looped (modelOf (rawOf l))))) z;
+        refuses = λ own. ap (λ (o : Option (ℕ × ℕ)). isMade (among o own (answerOf behind))) b;
+      }
+
+  -- all signal bytes are bits
+  pub unrefused : {k d : Ran} → answerOf k ≡ noBit 0 (take (widthTotal signals) bytes) → k ≡ d → answerOf d ≡ none → ListUnrefused (lists signals exprs stmts) heads bytes wb we ws answers shown
+  unrefused q e n = record { fits = u; bits = sym (byte-so (sym n ∙ ap answerOf (sym e) ∙ q)) }
+
+module _ {signals exprs stmts heads bytes wb we ws answers shown : List ℕ} (u : ListUnrefused (lists signals exprs stmts) heads bytes wb we ws answers shown) where
+  abbrev l₁ : Lists
+  l₁ = lists signals exprs stmts
+
+  -- a tick of zeros, in which nothing fires, would not be refused
+  pub quiet : Unrefused (lists signals exprs stmts) bytes (replicate (tickBits (modelOf (rawOf (lists signals exprs stmts)))) 0) none wb we ws
+  quiet = record {
+    well-formed = u .fits .well-formed;
+    bytes-enough = u .fits .bytes-enough;
+    enough = u .fits .enough;
+    bits = u .bits;
+    no-cause = ap₂ (λ (a b : Option (ℕ × ℕ)). firstOf (a ∷ b ∷ none ∷ [])) (sym (count-right (tickBits (modelOf (rawOf l₁))) (replicate (tickBits (modelOf (rawOf l₁))) 0) (length-replicate (tickBits (modelOf (rawOf l₁))) 0))) (zeros-bits 0 (tickBits (modelOf (rawOf l₁))));
   }
 
-  -- without
-  pub list-made : (bits : List ℕ) → looped (modelIn signals exprs stmts) ≡ none → {bytes′ answers′ shown′ : List ℕ} → RunsTicks (lists signals exprs stmts) heads bits bytes bytes′ answers answers′ shown shown′ → (r : Ran) → answerOf r ≡ none → TriesList (lists signals exprs stmts) heads bits bytes answers shown r bytes′ answers′ shown′
-  list-made bits n t r a = record {
-    tries = λ wb′ we′ ws′ q. record { left = outcome-same a (t .bytes-are wb′ we′ ws′ q) (t .answers-are wb′ we′ ws′ q) (t .shown-are wb′ we′ ws′ q) ∙ ap (leaves (listCall l heads bits bytes wb′ we′ ws′ answers shown)) (ap onLoop (sym n)) };
-  }
+  -- a loop refuses every tick
+  pub stopped-loop : (x : ℕ) {found : Loop} → found ≡ At x → loopOf found ≡ looped (modelIn signals exprs stmts) → (ahead behind : Ran) → answerOf ahead ≡ none → answerOf behind ≡ some (13, x) → Stopped (lists signals exprs stmts) bytes (answerOf ahead) (answerOf behind)
+  stopped-loop x {found} e f ahead behind n b =
+      let z : onLoop (looped (modelOf (rawOf l₁))) ≡ some (13, x) = ap onLoop (sym f ∙ ap loopOf e) in
+      record {
+        stops = λ own. ap₂ (λ (o p : Option (ℕ × ℕ)). among o own p) (n ∙ sym (u .bits)) (b ∙ sym z);
+        refuses = λ own. ap₂ (λ (o p : Option (ℕ × ℕ)). isMade (among o own p)) n b ∙ never own;
+      }
+    where
+      never : (own : Option (ℕ × ℕ)) → isMade (orElse own (some (13, x))) ≡ false
+      never none = refl
+      never (some r) = refl
 
 -- ALL OF A LIST
 

@@ -3,7 +3,7 @@ use Prim.Native.Nat.{ℕ, zero, suc, _*_}
 use mathlib.Core.Path.{_≡_}
 use mathlib.Core.List.{List, [], _∷_, _++_, map}
 use mathlib.Core.Option.{Option, none, some}
-use lib.Dec.{eqb}
+use lib.Dec.{eqb, leb}
 use lib.ListN.{length, take, drop, replicate}
 use Rattle.bits.specs.Bits.{pick}
 use Rattle.recorder.specs.Record.{Signal, Model}
@@ -12,8 +12,7 @@ use Rattle.recorder.specs.Read.{modelOf}
 use Rattle.recorder.specs.Words.{rawOf}
 use Rattle.simulation.specs.declared.Ran.{Ran}
 use Rattle.simulation.specs.Wellformed.{largest, malformed}
-use Rattle.simulation.specs.Tick.{looped}
-use Rattle.simulation.specs.Run.{Call, answerOf, run, answer, bytesAfter, zeroed, flat, total, signalBytes, exprBits, short, noBit, onLoop, firstOf}
+use Rattle.simulation.specs.Run.{Call, answerOf, run, answer, bytesAfter, zeroed, flat, total, signalBytes, exprBits, tickBits, short, firstOf}
 use Rattle.simulation.specs.Shown.{Entry, ByModel, shownByModel, bytesAfterAll}
 
 -- ONE TICK
@@ -34,12 +33,16 @@ abbrev pub firedBy : ℕ → ℕ → Option (ℕ × ℕ)
 firedBy zero s = none
 firedBy (suc d) s = some (s, d)
 
+-- n tick bits are asked for and these are there. Too few are a wrong count, whatever it is: one bit more than a model has inputs
+abbrev pub handed : ℕ → ℕ → List ℕ → List ℕ
+handed inputs n there = pick (leb n (length there)) there (replicate (suc inputs) 0)
+
 -- three words a tick: how many tick bits it has, what fires, and of which signal; the bits of all ticks stand one after the other
-abbrev pub entries : List ℕ → List ℕ → List ℕ → List ℕ → List ℕ → List Entry
-entries wb we ws (n ∷ f ∷ s ∷ heads) bits = record { ticks = take n bits; fired = firedBy f s; workBits = wb; workExprs = we; workSignals = ws } ∷ entries wb we ws heads (drop n bits)
-entries wb we ws (n ∷ f ∷ []) bits = []
-entries wb we ws (n ∷ []) bits = []
-entries wb we ws [] bits = []
+abbrev pub entries : ℕ → List ℕ → List ℕ → List ℕ → List ℕ → List ℕ → List Entry
+entries inputs wb we ws (n ∷ f ∷ s ∷ heads) bits = record { ticks = handed inputs n (take n bits); fired = firedBy f s; workBits = wb; workExprs = we; workSignals = ws } ∷ entries inputs wb we ws heads (drop n bits)
+entries inputs wb we ws (n ∷ f ∷ []) bits = []
+entries inputs wb we ws (n ∷ []) bits = []
+entries inputs wb we ws [] bits = []
 
 -- what a caller hands over: of the two buffers for what is shown only the lengths matter
 pub record ListCall : Type 0 where
@@ -57,7 +60,7 @@ abbrev pub listModel : ListCall → Model
 listModel c = modelOf (rawOf (c .lists))
 
 abbrev pub entriesOf : ListCall → List Entry
-entriesOf c = entries (c .workBits) (c .workExprs) (c .workSignals) (c .heads) (c .bits)
+entriesOf c = entries (tickBits (listModel c)) (c .workBits) (c .workExprs) (c .workSignals) (c .heads) (c .bits)
 
 -- the bytes of all output signals together
 abbrev pub outputWidth : Signal → ℕ
@@ -66,7 +69,7 @@ outputWidth s = pick (eqb (s .label) 1) (s .width) 0
 abbrev pub outputBytes : Model → ℕ
 outputBytes m = total outputWidth (m .signals)
 
--- what refuses the whole list: 1, 14 for a signal byte, 13
+-- what refuses the whole list: 1. The other causes are each tick's own
 abbrev pub listCauses : Model → ListCall → List (Option (ℕ × ℕ))
 listCauses m c =
     short (signalBytes m) (c .bytes)
@@ -75,8 +78,6 @@ listCauses m c =
     ∷ short (length (m .signals)) (c .workSignals)
     ∷ short (2 * length (entriesOf c)) (c .answers)
     ∷ short (outputBytes m * length (entriesOf c)) (c .shown)
-    ∷ noBit 0 (take (signalBytes m) (c .bytes))
-    ∷ onLoop (looped m)
     ∷ []
 
 -- 12 comes first

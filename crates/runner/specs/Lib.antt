@@ -3,3 +3,4 @@ pub mod Calls
 pub mod Parts
 pub mod Whole
 pub mod Plan
+pub mod Pieces

@@ -84,6 +84,6 @@ abbrev pub made : Lists → List ℕ → List Entry → List ByModel
 made l bytes es = shownByModel largest l (modelOf (rawOf l) .signals) bytes es
 
 pub record RunsTicks (l : Lists) (heads bits bytes bytes′ answers answers′ shown shown′ : List ℕ) : Type 0 where
-  pub bytes-are : (wb we ws : List ℕ) → Enough (modelOf (rawOf l)) wb we ws → bytes′ ≡ bytesAfterAll largest l bytes (entries wb we ws heads bits)
-  pub answers-are : (wb we ws : List ℕ) → Enough (modelOf (rawOf l)) wb we ws → answers′ ≡ over answers 0 (answersOf (made l bytes (entries wb we ws heads bits)))
-  pub shown-are : (wb we ws : List ℕ) → Enough (modelOf (rawOf l)) wb we ws → shown′ ≡ over shown 0 (outputsOf (made l bytes (entries wb we ws heads bits)))
+  pub bytes-are : (wb we ws : List ℕ) → Enough (modelOf (rawOf l)) wb we ws → bytes′ ≡ bytesAfterAll largest l bytes (entries (tickBits (modelOf (rawOf l))) wb we ws heads bits)
+  pub answers-are : (wb we ws : List ℕ) → Enough (modelOf (rawOf l)) wb we ws → answers′ ≡ over answers 0 (answersOf (made l bytes (entries (tickBits (modelOf (rawOf l))) wb we ws heads bits)))
+  pub shown-are : (wb we ws : List ℕ) → Enough (modelOf (rawOf l)) wb we ws → shown′ ≡ over shown 0 (outputsOf (made l bytes (entries (tickBits (modelOf (rawOf l))) wb we ws heads bits)))

@@ -1,6 +1,7 @@
 -- What the parts of a whole list's run answer and leave.
 use Prim.Native.Nat.{ℕ, _*_, _/_, _≤_}
 use mathlib.Core.Path.{_≡_}
+use mathlib.Core.Bool.{false}
 use mathlib.Core.List.{List, [], _∷_}
 use mathlib.Core.Option.{Option, none, some}
 use lib.ListN.{length, take}
@@ -16,7 +17,7 @@ use Rattle.simulation.specs.Fault.{widthTotal, lengthCauses}
 use Rattle.simulation.specs.Shown.{bytesAfterAll}
 use Rattle.evaluation.specs.Ticks.{signalsIn}
 use Rattle.runner.specs.Calls.{ListCall, listModel, entriesOf, outputWidth, outputBytes, listCauses, answersOf, outputsOf, ListOutcome}
-use Rattle.runner.specs.Parts.{Enough, made}
+use Rattle.runner.specs.Parts.{isMade, Enough, made}
 
 abbrev pub listCall : Lists → List ℕ → List ℕ → List ℕ → List ℕ → List ℕ → List ℕ → List ℕ → List ℕ → ListCall
 listCall l heads bits bytes wb we ws answers shown =
@@ -31,29 +32,32 @@ shownCauses signals heads answers shown =
     ∷ short (total outputWidth (signalsIn signals) * (length heads / 3)) shown
     ∷ []
 
--- 1, and 14 for a signal byte
+-- 1
 abbrev pub faultCauses : ListCall → Option (ℕ × ℕ)
 faultCauses c =
     orElse (firstOf (lengthCauses (c .lists .signals) (c .lists .exprs) (c .bytes) (c .workBits) (c .workExprs) (c .workSignals)))
-    (orElse (firstOf (shownCauses (c .lists .signals) (c .heads) (c .answers) (c .shown)))
-    (noBit 0 (take (widthTotal (c .lists .signals)) (c .bytes))))
+    (firstOf (shownCauses (c .lists .signals) (c .heads) (c .answers) (c .shown)))
 
--- all causes but the last, which is a loop; 12 comes first
-abbrev pub listChecked : Model → ListCall → Option ℕ → Option (ℕ × ℕ)
-listChecked m c (some n) = some (12, n)
-listChecked m c none = firstOf (take 7 (listCauses m c))
-
-unfoldable pub listCheckedBy : ℕ → ListCall → Option (ℕ × ℕ)
-listCheckedBy widest c = listChecked (listModel c) c (malformed widest (c .lists))
-
--- a list that nothing refuses but maybe a loop
-pub record ListUnrefused (l : Lists) (heads bytes wb we ws answers shown : List ℕ) : Type 0 where
+-- a list that nothing refuses as a whole
+pub record ListFits (l : Lists) (heads bytes wb we ws answers shown : List ℕ) : Type 0 where
   pub well-formed : malformed largest l ≡ none
   pub bytes-enough : signalBytes (modelOf (rawOf l)) ≤ length bytes
   pub enough : Enough (modelOf (rawOf l)) wb we ws
   pub answers-enough : 2 * (length heads / 3) ≤ length answers
   pub shown-enough : outputBytes (modelOf (rawOf l)) * (length heads / 3) ≤ length shown
+
+-- and whose signal bytes are bits
+pub record ListUnrefused (l : Lists) (heads bytes wb we ws answers shown : List ℕ) : Type 0 where
+  pub fits : ListFits l heads bytes wb we ws answers shown
   pub bits : noBit 0 (take (signalBytes (modelOf (rawOf l))) bytes) ≡ none
+
+-- WHAT STOPS EVERY TICK: a signal byte, ahead of its own causes, or a loop, behind them
+abbrev pub among : Option (ℕ × ℕ) → Option (ℕ × ℕ) → Option (ℕ × ℕ) → Option (ℕ × ℕ)
+among ahead own behind = orElse ahead (orElse own behind)
+
+pub record Stopped (l : Lists) (bytes : List ℕ) (ahead behind : Option (ℕ × ℕ)) : Type 0 where
+  pub stops : (own : Option (ℕ × ℕ)) → among ahead own behind ≡ among (noBit 0 (take (signalBytes (modelOf (rawOf l))) bytes)) own (onLoop (looped (modelOf (rawOf l))))
+  pub refuses : (own : Option (ℕ × ℕ)) → isMade (among ahead own behind) ≡ false
 
 -- WHAT IS LEFT
 
@@ -66,7 +70,3 @@ leaves c none =
 
 pub record Leaves (c : ListCall) (o : Option (ℕ × ℕ)) (r : Ran) (bytes′ answers′ shown′ : List ℕ) : Type 0 where
   pub left : record { answer = answerOf r; bytes = bytes′; answers = answers′; shown = shown′ } ≡ leaves c o
-
--- 13 or all ticks, with whatever works are long enough
-pub record TriesList (l : Lists) (heads bits bytes answers shown : List ℕ) (r : Ran) (bytes′ answers′ shown′ : List ℕ) : Type 0 where
-  pub tries : (wb we ws : List ℕ) → Enough (modelOf (rawOf l)) wb we ws → Leaves (listCall l heads bits bytes wb we ws answers shown) (onLoop (looped (modelOf (rawOf l)))) r bytes′ answers′ shown′

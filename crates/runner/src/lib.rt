@@ -11,6 +11,7 @@ mod lists; // lists.rt: what a plan lists
 mod loops; // loops.rt: the lowest signal on a loop
 mod marks; // marks.rt: what an expression needs, marked
 mod prepare; // prepare.rt: tables, order and loop of a model
+mod refused; // refused.rt: a list of ticks of which none is made
 mod settling; // settling.rt: the values of all expressions
 mod show; // show.rt: what a list of ticks reads and shows
 mod sort; // sort.rt: an order of all expressions

@@ -9,6 +9,7 @@ use crate::show::put_answer;
 use crate::show::show;
 use crate::ticks::tick;
 use model_check::call::tick_fault;
+use refusal::Refusal;
 use simulation::Fired;
 use simulation::Ran;
 use simulation::index::wide;
@@ -24,7 +25,7 @@ ghost use Rattle.simulation.specs.Tick.{looped};
 ghost use Rattle.evaluation.specs.Ready.{Prepared, Room, modelIn};
 ghost use Rattle.evaluation.specs.Late.{TicksLate};
 ghost use Rattle.evaluation.specs.Ticks.{Filled, Ordered, GoodTicks, signalsIn};
-ghost use Rattle.runner.specs.Calls.{outputWidth};
+ghost use Rattle.runner.specs.Calls.{outputWidth, handed};
 ghost use Rattle.runner.specs.Parts.{tickCauses, isMade, RunsLate, RunsTicks, Finishes};
 ghost use Rattle.runner.specs.Plan.{Planning};
 
@@ -93,6 +94,16 @@ fn tick_either(
     }
 }
 
+// 14 for one tick of which `asked` bits are asked for and `ticks` are there.
+pub fn head_fault(count: usize, inputs: usize, asked: usize, ticks: &[u8], fired: Fired) -> Ran
+    ensures { λ r. ⌜ answerOf r ≡ tickCauses count inputs (handed inputs asked (now (ticks .entry))) (firedOf fired) ⌝ }
+{
+    if ticks.len() < asked {
+        return Ran::Refused(Refusal::BadTick(inputs));
+    }
+    tick_fault(count, inputs, ticks, fired)
+}
+
 // One tick of a model of n expressions, `count` signals and `inputs` input bits, unless it is refused.
 fn run_tick(
     signals: &[u32],
@@ -107,6 +118,7 @@ fn run_tick(
     code: Code,
     count: usize,
     inputs: usize,
+    asked: usize,
     ticks: &[u8],
     fired: Fired,
     bytes: &mut [u8],
@@ -115,11 +127,11 @@ fn run_tick(
     work_signals: &mut [u8],
 ) -> Ran
     requires { ⌜ Prepared (now signals) (now exprs) (now stmts) (now «expr_table») (now «signal_table») × Starts (now exprs) (now starts) × Driven (now stmts) (now «driver_table») × Room (now signals) (now exprs) (now bytes) (now values) × (n ≡ length (recordsIn (now exprs))) × (count ≡ length (recordsIn (now signals))) × (n ≤ length (now «work_exprs»)) × (count ≤ length (now «work_signals»)) × Ordered (modelIn (now signals) (now exprs) (now stmts)) n (now order) × (looped (modelIn (now signals) (now exprs) (now stmts)) ≡ none) × Filled (widthsIn (now exprs)) (now values) × Filled (widthsIn (now signals)) (now bytes) × (inputs ≡ total inputWidth (signalsIn (now signals))) × Planning (now signals) (now exprs) (now stmts) n count code (now order) (now values) ⌝ }
-    ensures answered { λ r. ⌜ answerOf r ≡ tickCauses count inputs (now (ticks .entry)) (firedOf fired) ⌝ }
-    ensures runs { λ r. ⌜ RunsLate (now (signals .entry)) (now (exprs .entry)) (now (stmts .entry)) (now (ticks .entry)) (firedOf fired) (answerOf r) (now (bytes .entry)) (now (bytes .exit)) ⌝ }
+    ensures answered { λ r. ⌜ answerOf r ≡ tickCauses count inputs (handed inputs asked (now (ticks .entry))) (firedOf fired) ⌝ }
+    ensures runs { λ r. ⌜ RunsLate (now (signals .entry)) (now (exprs .entry)) (now (stmts .entry)) (handed inputs asked (now (ticks .entry))) (firedOf fired) (answerOf r) (now (bytes .entry)) (now (bytes .exit)) ⌝ }
     ensures filled { λ _. ⌜ Filled (widthsIn (now (exprs .entry))) (now (values .exit)) ⌝ }
 {
-    match tick_fault(count, inputs, ticks, fired) {
+    match head_fault(count, inputs, asked, ticks, fired) {
         Ran::Refused(x) => Ran::Refused(x),
         Ran::Done => {
             tick_either(
@@ -228,7 +240,8 @@ pub fn run_ticks(
     let mut late = false;
     let k = heads.len() / 3;
     while i < k {
-        let end = end_of(bits, pos, wide(heads[at]));
+        let asked = wide(heads[at]);
+        let end = end_of(bits, pos, asked);
         let fired = fired_by(heads[at + 1], heads[at + 2]);
         let r = run_tick(
             signals,
@@ -243,6 +256,7 @@ pub fn run_ticks(
             code,
             count,
             inputs,
+            asked,
             &bits[pos..end],
             fired,
             bytes,

@@ -4,6 +4,7 @@ use crate::code::encode;
 use crate::cut::malformed;
 use crate::list::run_ticks;
 use crate::prepare::prepare;
+use crate::refused::refuse_ticks;
 use crate::show::output_total;
 use crate::show::times;
 use model_check::call::byte_fault;
@@ -26,7 +27,8 @@ ghost use Rattle.simulation.specs.Index.{recordsIn, widthsIn, offset as sumTo};
 ghost use Rattle.simulation.specs.Run.{answerOf, firstOf, zeroed};
 ghost use Rattle.evaluation.specs.Ticks.{ReadSignals};
 ghost use Rattle.runner.specs.Calls.{listAnswer};
-ghost use Rattle.runner.specs.Whole.{listCall, shownCauses, faultCauses, listCheckedBy, ListUnrefused, Leaves, TriesList};
+ghost use Rattle.runner.specs.Whole.{listCall, shownCauses, faultCauses, ListFits, ListUnrefused, Leaves};
+ghost use Rattle.runner.specs.Parts.{RunsTicks};
 
 pub fn zero_works(work_bits: &mut [u8], work_exprs: &mut [u8], work_signals: &mut [u8])
     ensures { λ _. ⌜ (now («work_bits» .exit) ≡ zeroed (now («work_bits» .entry))) × (now («work_exprs» .exit) ≡ zeroed (now («work_exprs» .entry))) × (now («work_signals» .exit) ≡ zeroed (now («work_signals» .entry))) ⌝ }
@@ -68,7 +70,7 @@ fn shown_lengths(signals: &[u32], heads: &[u32], answers: &[u64], shown: &[u8]) 
     Ran::Done
 }
 
-// 1, and 14 for a signal byte.
+// 1.
 fn list_fault(
     signals: &[u32],
     exprs: &[u32],
@@ -87,14 +89,10 @@ fn list_fault(
     let Ran::Done = a else {
         return a;
     };
-    let b = shown_lengths(signals, heads, answers, shown);
-    let Ran::Done = b else {
-        return b;
-    };
-    byte_fault(signals, bytes)
+    shown_lengths(signals, heads, answers, shown)
 }
 
-// 12, 1 and 14. The tables and the work on signals are left as they come.
+// 12 and 1. The tables and the work on signals are left as they come.
 fn check_list(
     signals: &[u32],
     signal_table: &mut [u32],
@@ -110,7 +108,7 @@ fn check_list(
     answers: &[u64],
     shown: &[u8],
 ) -> Ran
-    ensures { λ r. ⌜ answerOf r ≡ listCheckedBy largest (listCall (lists (now (signals .entry)) (now (exprs .entry)) (now (stmts .entry))) (now (heads .entry)) (now (bits .entry)) (now (bytes .entry)) (now («work_bits» .entry)) (now («work_exprs» .entry)) (now («work_signals» .entry)) (now (answers .entry)) (now (shown .entry))) ⌝ }
+    ensures { λ r. ⌜ answerOf r ≡ listAnswer largest (listCall (lists (now (signals .entry)) (now (exprs .entry)) (now (stmts .entry))) (now (heads .entry)) (now (bits .entry)) (now (bytes .entry)) (now («work_bits» .entry)) (now («work_exprs» .entry)) (now («work_signals» .entry)) (now (answers .entry)) (now (shown .entry))) ⌝ }
 {
     let f = malformed(
         signals,
@@ -137,7 +135,7 @@ fn check_list(
     }
 }
 
-// The ticks of a list that nothing refuses but maybe a loop (13). The tables are work.
+// The ticks of a list that nothing refuses as a whole and whose signal bytes are bits. The tables are work.
 fn run_unrefused(
     signals: &[u32],
     exprs: &[u32],
@@ -155,9 +153,9 @@ fn run_unrefused(
     order: &mut [u32],
     answers: &mut [u64],
     shown: &mut [u8],
-) -> Ran
+)
     requires { ⌜ ListUnrefused (lists (now signals) (now exprs) (now stmts)) (now heads) (now bytes) (now «work_bits») (now «work_exprs») (now «work_signals») (now answers) (now shown) ⌝ }
-    ensures { λ r. ⌜ TriesList (lists (now (signals .entry)) (now (exprs .entry)) (now (stmts .entry))) (now (heads .entry)) (now (bits .entry)) (now (bytes .entry)) (now (answers .entry)) (now (shown .entry)) r (now (bytes .exit)) (now (answers .exit)) (now (shown .exit)) ⌝ }
+    ensures { λ _. ⌜ RunsTicks (lists (now (signals .entry)) (now (exprs .entry)) (now (stmts .entry))) (now (heads .entry)) (now (bits .entry)) (now (bytes .entry)) (now (bytes .exit)) (now (answers .entry)) (now (answers .exit)) (now (shown .entry)) (now (shown .exit)) ⌝ }
 {
     let counted_exprs = count(exprs);
     let n = counted_exprs.count;
@@ -178,7 +176,23 @@ fn run_unrefused(
     );
     let found = ready.found;
     match found {
-        Loop::At(x) => Ran::Refused(Refusal::CombinationalLoop(x)),
+        Loop::At(x) => {
+            let inputs = input_total(signals);
+            refuse_ticks(
+                signals,
+                exprs,
+                stmts,
+                heads,
+                bits,
+                bytes,
+                Ran::Done,
+                s,
+                inputs,
+                Ran::Refused(Refusal::CombinationalLoop(x)),
+                answers,
+                shown,
+            );
+        }
         Loop::Free => {
             let inputs = input_total(signals);
             let code = encode(
@@ -221,12 +235,76 @@ fn run_unrefused(
                 answers,
                 shown,
             );
-            Ran::Done
         }
     }
 }
 
-// 12, 1 and 14, then 13 and the ticks.
+// The ticks of a list that nothing refuses as a whole. A signal byte that is no bit refuses each of them.
+fn run_fitting(
+    signals: &[u32],
+    exprs: &[u32],
+    stmts: &[u32],
+    heads: &[u32],
+    bits: &[u8],
+    bytes: &mut [u8],
+    work_bits: &mut [u8],
+    work_exprs: &mut [u8],
+    work_signals: &mut [u8],
+    starts: &mut [u32],
+    expr_table: &mut [u32],
+    signal_table: &mut [u32],
+    driver_table: &mut [u32],
+    order: &mut [u32],
+    answers: &mut [u64],
+    shown: &mut [u8],
+)
+    requires { ⌜ ListFits (lists (now signals) (now exprs) (now stmts)) (now heads) (now bytes) (now «work_bits») (now «work_exprs») (now «work_signals») (now answers) (now shown) ⌝ }
+    ensures { λ _. ⌜ RunsTicks (lists (now (signals .entry)) (now (exprs .entry)) (now (stmts .entry))) (now (heads .entry)) (now (bits .entry)) (now (bytes .entry)) (now (bytes .exit)) (now (answers .entry)) (now (answers .exit)) (now (shown .entry)) (now (shown .exit)) ⌝ }
+{
+    let stopped = byte_fault(signals, bytes);
+    match stopped {
+        Ran::Refused(x) => {
+            let counted = count(signals);
+            let inputs = input_total(signals);
+            refuse_ticks(
+                signals,
+                exprs,
+                stmts,
+                heads,
+                bits,
+                bytes,
+                Ran::Refused(x),
+                counted.count,
+                inputs,
+                Ran::Done,
+                answers,
+                shown,
+            );
+        }
+        Ran::Done => {
+            run_unrefused(
+                signals,
+                exprs,
+                stmts,
+                heads,
+                bits,
+                bytes,
+                work_bits,
+                work_exprs,
+                work_signals,
+                starts,
+                expr_table,
+                signal_table,
+                driver_table,
+                order,
+                answers,
+                shown,
+            );
+        }
+    }
+}
+
+// 12 and 1, then the ticks.
 pub fn run_list_with(
     signals: &[u32],
     exprs: &[u32],
@@ -264,23 +342,26 @@ pub fn run_list_with(
     );
     match checked {
         Ran::Refused(x) => Ran::Refused(x),
-        Ran::Done => run_unrefused(
-            signals,
-            exprs,
-            stmts,
-            heads,
-            bits,
-            bytes,
-            work_bits,
-            work_exprs,
-            work_signals,
-            starts,
-            expr_table,
-            signal_table,
-            driver_table,
-            order,
-            answers,
-            shown,
-        ),
+        Ran::Done => {
+            run_fitting(
+                signals,
+                exprs,
+                stmts,
+                heads,
+                bits,
+                bytes,
+                work_bits,
+                work_exprs,
+                work_signals,
+                starts,
+                expr_table,
+                signal_table,
+                driver_table,
+                order,
+                answers,
+                shown,
+            );
+            Ran::Done
+        }
     }
 }

@@ -19,7 +19,7 @@ use Rattle.recorder.proofs.Roundtrip.{model-read}
 use Rattle.lowering.specs.Lower.{Lowered, Accepted, Refused, Lowering, lowered, loweredRead, lowerWords}
 use Rattle.behaviour.specs.Behaviour.{start, NoWireLoop}
 use Rattle.simulation.specs.Wellformed.{largest, malformed}
-use Rattle.simulation.specs.Run.{zeroed, signalBytes, firstOf}
+use Rattle.simulation.specs.Run.{zeroed, signalBytes, tickBits, firstOf}
 use Rattle.simulation.specs.Shown.{Entry, ByModel, shownByModel}
 use Rattle.simulation.proofs.Kept.{AllNone, all-none, short-none}
 use Rattle.forms.specs.Lowered.{loweredModel, Roomy}
@@ -28,7 +28,7 @@ use Rattle.equivalence.proofs.Acceptance.{accepted-kept, used-words}
 use Rattle.equivalence.proofs.Shows.{zeros-fresh}
 use Rattle.equivalence.proofs.Demanded.{demand3, all-answered}
 use Rattle.converter.specs.Entry.{short, anyShort, lowerCall, callOf}
-use Rattle.runner.specs.Calls.{ListCall, listModel, listCauses, listVerdict, listAnswer, answersOf, outputsOf, filled, listOutcome, runList}
+use Rattle.runner.specs.Calls.{ListCall, entries, listModel, listCauses, listVerdict, listAnswer, answersOf, outputsOf, filled, listOutcome, runList}
 use Rattle.simulator.specs.Entry.{Simulation, Simulated, ShowsCells, entriesOf, refusedBy, ticksOn, ran, simulateCall}
 use Rattle.simulator.specs.Entry.{lowered as loweredTo}
 
@@ -63,15 +63,11 @@ module _ (x : Simulation) (n : Netlist) (q : readWords base (x .words) ≡ netli
       → ShowsCells n x (runList largest (ticksOn x l t) .answers) (runList largest (ticksOn x l t) .shown)
   unfolding runList
   shows t l h a = record {
-    ticks = shownByModel largest (usedLists l t) (listModel (ticksOn x l t) .signals) (zeroed (x .bytes)) (entriesOf x);
-    agree =
-        subst (λ (M : Model). AllAgree (shownByModel largest (usedLists l t) (M .signals) (zeroed (x .bytes)) (entriesOf x)) (shownByCells n (start n) (entriesOf x))) (sym model-is)
-        (demand3 base largest room (x .words) s e m t l h n q loopless (zeroed (x .bytes)) fresh (entriesOf x));
-    answered =
-        subst (λ (M : Model). Answered (loweredModel n) (entriesOf x) (shownByModel largest (usedLists l t) (M .signals) (zeroed (x .bytes)) (entriesOf x))) (sym model-is)
-        (all-answered base largest room (x .words) s e m t l h n q loopless (zeroed (x .bytes)) fresh (entriesOf x));
-    answers-are = ap (λ (o : Option (ℕ × ℕ)). listOutcome largest (ticksOn x l t) o .answers) a;
-    shown-are = ap (λ (o : Option (ℕ × ℕ)). listOutcome largest (ticksOn x l t) o .shown) a;
+    ticks = shownByModel largest (usedLists l t) (loweredModel n .signals) (zeroed (x .bytes)) (entriesOf n x);
+    agree = demand3 base largest room (x .words) s e m t l h n q loopless (zeroed (x .bytes)) fresh (entriesOf n x);
+    answered = all-answered base largest room (x .words) s e m t l h n q loopless (zeroed (x .bytes)) fresh (entriesOf n x);
+    answers-are = ap (λ (o : Option (ℕ × ℕ)). listOutcome largest (ticksOn x l t) o .answers) a ∙ ap (λ (M : Model). filled (x .answers) (answersOf (ticksBy M))) model-is;
+    shown-are = ap (λ (o : Option (ℕ × ℕ)). listOutcome largest (ticksOn x l t) o .shown) a ∙ ap (λ (M : Model). filled (x .shown) (outputsOf (ticksBy M))) model-is;
   }
     where
       low : lowered n s e m ≡ record { answer = Accepted t; lists = l }
@@ -79,6 +75,10 @@ module _ (x : Simulation) (n : Netlist) (q : readWords base (x .words) ≡ netli
 
       model-is : listModel (ticksOn x l t) ≡ loweredModel n
       model-is = ap (λ (w : Lists). modelOf (rawOf w)) (used-words n s e m t l (accepted-kept n s e m t l low)) ∙ model-read (loweredModel n)
+
+      -- a model's signals and inputs are what the ticks are read and shown by
+      ticksBy : Model → List ByModel
+      ticksBy M = shownByModel largest (usedLists l t) (M .signals) (zeroed (x .bytes)) (entries (tickBits M) (x .workBits) (x .workExprs) (x .workSignals) (x .heads) (x .bits))
 
       long : signalBytes (loweredModel n) ≤ length (x .bytes)
       long = let b = bytes-long (ticksOn x l t) a in let k = ap signalBytes model-is in let z = length-replicate {A = ℕ} (length (x .bytes)) 0 in omega (arith, b, k, z)

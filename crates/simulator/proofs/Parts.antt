@@ -173,7 +173,7 @@ module _ (words heads bits : List ℕ) (l : Lists) (works : List (List ℕ)) (by
   simulates-so v = record {
     value = v;
     cells = λ n q loopless t e. subst (λ (y : Simulated). IsAccepted (y .answer) → ShowsCells n call (y .answers) (y .shown)) (sym v) (cells-shown call n q loopless) (subst IsAccepted (sym e) tt);
-    only-short = λ n q loopless t d e number place h. refused-short call n q loopless t d e number place (sym (ap (λ (y : Simulated). y .answer) v) ∙ h);
+    only-short = λ n q t d e number place h. refused-short call n q t d e number place (sym (ap (λ (y : Simulated). y .answer) v) ∙ h);
   }
 
   pub simulates : {a r : c.Lowered} {signals₁ exprs₁ stmts₁ : List ℕ} {l′ : Lists} {works₁ : List (List ℕ)} {bytes₁ answers′ shown′ : List ℕ}

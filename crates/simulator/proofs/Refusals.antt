@@ -1,33 +1,28 @@
--- A netlist that lowering accepts and whose wires form no loop is refused only for a short buffer. Assumes nothing.
-use mathlib.Core.Path.{_≡_, refl, sym, _∙_, ap, ap₂, subst}
+-- A netlist that lowering accepts is refused only for a short buffer. Assumes nothing.
+use mathlib.Core.Path.{_≡_, sym, _∙_, ap, subst}
 use mathlib.Core.Bool.{Bool, true, false}
 use mathlib.Core.List.{List, [], _∷_, map}
 use mathlib.Core.Option.{Option, none, some}
 use Prim.Native.Nat.{ℕ}
 use native.Mathlib.Omega.{arith}
 use lib.Dec.{ltb}
-use lib.ListN.{length, take}
+use lib.ListN.{length}
 use Rattle.bits.specs.Bits.{pick}
 use Rattle.netlist.specs.Netlist.{Netlist}
 use Rattle.netlist.specs.Reader.{base, netlist, readWords, Read}
 use Rattle.recorder.specs.declared.Tapes.{Tapes}
 use Rattle.recorder.specs.Record.{Model}
 use Rattle.recorder.specs.Lists.{Lists}
-use Rattle.recorder.specs.Read.{only, modelOf}
-use Rattle.recorder.specs.Words.{rawOf, wordsOf, blank}
-use Rattle.recorder.proofs.Roundtrip.{model-read}
+use Rattle.recorder.specs.Read.{only}
+use Rattle.recorder.specs.Words.{wordsOf, blank}
 use Rattle.lowering.specs.Lower.{Lowered, Accepted, Refused, Lowering, lowered, loweredRead, lowerWords}
-use Rattle.behaviour.specs.Behaviour.{NoWireLoop}
 use Rattle.simulation.specs.Wellformed.{largest, malformed, orElse}
-use Rattle.simulation.specs.Tick.{looped}
-use Rattle.simulation.specs.Run.{zeroed, signalBytes, short, noBit, onLoop, firstOf}
+use Rattle.simulation.specs.Run.{short, firstOf}
 use Rattle.simulation.proofs.Sound.{sound-words}
 use Rattle.forms.specs.Lowered.{loweredModel, Roomy}
 use Rattle.forms.proofs.Sounds.{lowered-sound}
 use Rattle.equivalence.specs.Demand.{usedLists}
 use Rattle.equivalence.proofs.Acceptance.{read-fits, accepted-kept, used-words, is-lowered}
-use Rattle.equivalence.proofs.Loops.{never-looped}
-use Rattle.equivalence.proofs.Shows.{bits-pass, zero-bytes}
 use Rattle.converter.specs.Entry.{anyShort, callOf}
 use Rattle.runner.specs.Calls.{ListCall, listModel, listCauses, listVerdict, listAnswer, ListOutcome, listOutcome, runList}
 use Rattle.simulator.specs.Entry.{Simulation, Simulated, ticksOn, ran, simulateCall}
@@ -50,22 +45,17 @@ short-one n buffer = go (ltb (length buffer) n)
     go true = one _
     go false = nothing
 
-none-one : {o : Option (ℕ × ℕ)} → o ≡ none → One o
-none-one e = subst One (sym e) nothing
-
--- six buffers, the bytes' bits and a loop
-causes-one : (k : ListCall) → noBit 0 (take (signalBytes (listModel k)) (k .bytes)) ≡ none → looped (listModel k) ≡ none → One (firstOf (listCauses (listModel k) k))
-causes-one k b f =
+-- six buffers
+causes-one : (k : ListCall) → One (firstOf (listCauses (listModel k) k))
+causes-one k =
     one-then (short-one _ (k .bytes))
     (one-then (short-one _ (k .workBits))
     (one-then (short-one _ (k .workExprs))
     (one-then (short-one _ (k .workSignals))
     (one-then (short-one _ (k .answers))
-    (one-then (short-one _ (k .shown))
-    (one-then (none-one b)
-    (one-then (none-one (ap onLoop f)) nothing)))))))
+    (one-then (short-one _ (k .shown)) nothing)))))
 
-module _ (x : Simulation) (n : Netlist) (q : readWords base (x .words) ≡ netlist n) (loopless : NoWireLoop n) where
+module _ (x : Simulation) (n : Netlist) (q : readWords base (x .words) ≡ netlist n) where
   abbrev s : ℕ
   s = length (x .lists .signals)
 
@@ -83,9 +73,8 @@ module _ (x : Simulation) (n : Netlist) (q : readWords base (x .words) ≡ netli
         let k = accepted-kept n s e m t l low in
         let a = is-lowered base n s e m t l (read-fits base (x .words) n q) k in
         let words : usedLists l t ≡ wordsOf (loweredModel n) = used-words n s e m t l k in
-        let model-is : listModel (ticksOn x l t) ≡ loweredModel n = ap (λ (w : Lists). modelOf (rawOf w)) words ∙ model-read (loweredModel n) in
         subst (λ (o : Option ℕ). One (listVerdict (listModel (ticksOn x l t)) (ticksOn x l t) o)) (sym (ap (malformed largest) words ∙ sound-words (loweredModel n) largest (lowered-sound a room)))
-        (causes-one (ticksOn x l t) (bits-pass 0 (take (signalBytes (listModel (ticksOn x l t))) (zeroed (x .bytes))) (zero-bytes (signalBytes (listModel (ticksOn x l t))) (length (x .bytes)))) (ap looped model-is ∙ never-looped a room loopless))
+        (causes-one (ticksOn x l t))
 
     ran-one : (number place : ℕ) → ran x l t (runList largest (ticksOn x l t) .answer) (runList largest (ticksOn x l t)) .answer ≡ Refused number place → number ≡ 1
     unfolding runList

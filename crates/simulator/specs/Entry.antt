@@ -13,7 +13,7 @@ use Rattle.lowering.specs.Lower.{Lowered, Accepted, Refused, Lowering}
 use Rattle.behaviour.specs.Behaviour.{start, NoWireLoop}
 use Rattle.simulation.specs.Wellformed.{largest}
 use Rattle.simulation.specs.declared.Ran.{Ran}
-use Rattle.simulation.specs.Run.{zeroed}
+use Rattle.simulation.specs.Run.{zeroed, tickBits}
 use Rattle.simulation.specs.Run as s
 use Rattle.simulation.specs.Shown.{Entry, ByModel}
 use Rattle.forms.specs.Lowered.{loweredModel}
@@ -79,14 +79,14 @@ simulateCall limits x = let r = callOf limits (x .words) (x .lists) (x .works) i
 
 -- THE CELLS
 
-abbrev pub entriesOf : Simulation → List Entry
-entriesOf x = entries (x .workBits) (x .workExprs) (x .workSignals) (x .heads) (x .bits)
+abbrev pub entriesOf : Netlist → Simulation → List Entry
+entriesOf n x = entries (tickBits (loweredModel n)) (x .workBits) (x .workExprs) (x .workSignals) (x .heads) (x .bits)
 
 -- for each tick its answer and the outputs after it stand in the buffers, and they are those of the netlist's own cells
 pub record ShowsCells (n : Netlist) (x : Simulation) (answers′ shown′ : List ℕ) : Type 0 where
   pub ticks : List ByModel
-  pub agree : AllAgree ticks (shownByCells n (start n) (entriesOf x))
-  pub answered : Answered (loweredModel n) (entriesOf x) ticks
+  pub agree : AllAgree ticks (shownByCells n (start n) (entriesOf n x))
+  pub answered : Answered (loweredModel n) (entriesOf n x) ticks
   pub answers-are : answers′ ≡ filled (x .answers) (answersOf ticks)
   pub shown-are : shown′ ≡ filled (x .shown) (outputsOf ticks)
 
@@ -94,8 +94,8 @@ pub record ShowsCells (n : Netlist) (x : Simulation) (answers′ shown′ : List
 pub record Simulates (limits : Limits) (x : Simulation) (r : c.Lowered) (l′ : Lists) (answers′ shown′ : List ℕ) : Type 0 where
   pub value : record { answer = answerOf r; lists = l′; answers = answers′; shown = shown′ } ≡ simulateCall limits x
   pub cells : (n : Netlist) → readWords limits (x .words) ≡ netlist n → NoWireLoop n → (t : Tapes) → answerOf r ≡ Accepted t → ShowsCells n x answers′ shown′
-  -- a netlist that lowering accepts and whose wires form no loop is refused only for a short buffer: never 12, 13 or 14
-  pub only-short : (n : Netlist) → readWords limits (x .words) ≡ netlist n → NoWireLoop n → (t : Tapes) (l : Lists) → callOf limits (x .words) (x .lists) (x .works) ≡ record { answer = Accepted t; lists = l }
+  -- a netlist that lowering accepts is refused only for a short buffer: 12 never comes, 13 and 14 are a tick's own
+  pub only-short : (n : Netlist) → readWords limits (x .words) ≡ netlist n → (t : Tapes) (l : Lists) → callOf limits (x .words) (x .lists) (x .works) ≡ record { answer = Accepted t; lists = l }
       → (number place : ℕ) → answerOf r ≡ Refused number place → number ≡ 1
 
 pub record Zeroed (works works′ : List (List ℕ)) : Type 0 where

@@ -52,7 +52,7 @@ fn ticks_for(seed: u64, index: u64, words: &[u32], ticks: usize) -> Vec<Tick> {
     let drawn = (0..ticks).map(|_| {
         let tick = draw(&mut rng, &mut bits, &clocks, signals);
         let (fires, signal) = tick.fired.map_or((0, 0), |(signal, edge)| (edge + 1, signal));
-        let mut tick = Tick { bits: tick.bits, fires, signal };
+        let mut tick = Tick { asked: 0, bits: tick.bits, fires, signal };
         // Now and then the largest values; a signal counts only where one fires.
         match rng.below(400) {
             0 => tick.fires = u32::MAX,
@@ -61,7 +61,17 @@ fn ticks_for(seed: u64, index: u64, words: &[u32], ticks: usize) -> Vec<Tick> {
             3 => tick.bits.clear(),
             _ => {}
         }
+        tick.asked = tick.bits.len() as u32;
         tick
     });
-    drawn.collect()
+    let mut drawn = drawn.collect::<Vec<_>>();
+    // Now and then the last one asks for more bits than there are.
+    if let Some(last) = drawn.last_mut() {
+        match rng.below(20) {
+            0 => last.asked += 1 + rng.below(3) as u32,
+            1 => last.asked = u32::MAX,
+            _ => {}
+        }
+    }
+    drawn
 }

@@ -19,9 +19,11 @@ pub const BITS: usize = 262_144;
 /// ticks. Works here are as long as they must be; this is for those who draw cases.
 pub const WORKS: [usize; 3] = [65_536, 262_144, 262_144];
 
-/// One tick as it is written: `fires` is 0 for nothing, else an edge and 1.
+/// One tick as it is written: `asked` bits are asked for, of which `bits` are
+/// there; `fires` is 0 for nothing, else an edge and 1.
 #[derive(Clone, Debug, PartialEq, Eq)]
 pub struct Tick {
+    pub asked: u32,
     pub bits: Vec<u8>,
     pub fires: u32,
     pub signal: u32,
@@ -52,7 +54,7 @@ impl Case {
         let ticks = heads.chunks_exact(3).map(|head| {
             let (bits, behind) = left.split_at(left.len().min(head[0] as usize));
             left = behind;
-            Tick { bits: bits.to_vec(), fires: head[1], signal: head[2] }
+            Tick { asked: head[0], bits: bits.to_vec(), fires: head[1], signal: head[2] }
         });
         Some(Self { ticks: ticks.collect(), netlist: netlist.to_vec() })
     }
@@ -62,7 +64,7 @@ impl Case {
         let mut bits = self.ticks.iter().flat_map(|tick| tick.bits.clone()).collect::<Vec<_>>();
         let mut words = vec![self.ticks.len() as u32, bits.len() as u32];
         for tick in &self.ticks {
-            words.extend([tick.bits.len() as u32, tick.fires, tick.signal]);
+            words.extend([tick.asked, tick.fires, tick.signal]);
         }
         bits.resize(bits.len().next_multiple_of(4), 0);
         let packed = bits.chunks_exact(4).map(|bytes| bytes.try_into().expect("four bytes"));
@@ -95,9 +97,6 @@ impl Case {
         };
         let lists = recording.words.each_ref().map(Vec::as_slice);
         let model = Model::new(lists).expect("a model of the Rust is well formed");
-        if let Some(signal) = model.on_loop() {
-            return refused(13, signal);
-        }
         let netlist = netlist::read(&self.netlist, &Limits::BASE).expect("lowering accepts it");
         let mut circuit = Circuit::new(&netlist);
         let by_cells = !circuit.has_loop();
@@ -105,6 +104,10 @@ impl Case {
         let mut lines = String::new();
         for tick in &self.ticks {
             let fired = (tick.fires > 0).then(|| (tick.signal, tick.fires - 1));
+            if tick.asked as usize > tick.bits.len() {
+                lines += &refused(14, model.input_bits() as u32);
+                continue;
+            }
             let outcome = model.run(&mut bytes, model.works(), &tick.bits, fired);
             if by_cells {
                 assert_eq!(circuit.tick(&tick.bits, fired), outcome.is_ok(), "{tick:?}");

@@ -63,15 +63,18 @@ fn count(tally: &mut BTreeMap<String, u64>, case: &Case, lines: &str) {
         let lists = recording.words.each_ref().map(Vec::as_slice);
         Model::new(lists).expect("a model of the Rust is well formed")
     });
-    let Some(model) = whole.filter(|model| model.on_loop().is_none()) else {
+    let Some(model) = whole else {
         let number = lines.split(' ').nth(1).expect("a refusal");
         return add(format!("cases refused with {number}"), 1);
     };
+    add("cases with a loop".to_owned(), model.on_loop().is_some().into());
     add("ticks".to_owned(), case.ticks.len());
     for (line, tick) in lines.lines().zip(&case.ticks) {
         if let Some(refusal) = line.strip_prefix("refused ") {
             let number = refusal.split(' ').next().expect("a number");
             let cause = match () {
+                () if number == "13" => "a loop",
+                () if tick.asked as usize > tick.bits.len() => "bits that are not there",
                 () if tick.bits.len() != model.input_bits() => "count of bits",
                 () if tick.bits.iter().any(|&bit| bit > 1) => "a bit",
                 () if tick.fires > 2 => "edge",
@@ -82,7 +85,8 @@ fn count(tally: &mut BTreeMap<String, u64>, case: &Case, lines: &str) {
     }
     let netlist = netlist::read(&case.netlist, &Limits::BASE).expect("lowering accepts it");
     let circuit = Circuit::new(&netlist);
-    add("cells form a loop, the model's assignments do not".to_owned(), circuit.has_loop().into());
+    let only_cells = circuit.has_loop() && model.on_loop().is_none();
+    add("cells form a loop, the model's assignments do not".to_owned(), only_cells.into());
     let mut clocks = circuit.clocks();
     clocks.sort_unstable();
     clocks.dedup();

@@ -2,7 +2,8 @@ use native.Mathlib.Omega.{arith}
 use Prim.Native.Nat.{ℕ, _+_, _-_, min}
 use mathlib.Core.Bool.{Bool, _||_}
 use mathlib.Core.Path.{_≡_, refl, sym, _∙_, ap, subst}
-use lib.ListN.{length, getD}
+use lib.ListN.{length, getD, take, drop}
+use Rattle.runner.specs.Calls.{handed}
 use Rattle.simulation.specs.Index.{widthsIn}
 use Rattle.recorder.specs.Lists.{lists}
 use Rattle.evaluation.specs.Ticks.{Filled}
@@ -113,7 +114,7 @@ put-answer-requires c κs = answer-room (c .before .before .before .before .befo
 
 -- src/list.rt:255:9
 show-requires : tie.Need-show-requires Inv-loop μ-loop
-show-requires c κs = (read-signals (c .before .before .before .before .before .before .before .before .before .before .before .before .before .before .before .before .before .before .before .before .before .before .before .before .before .before .before .before .before .before .before .before .before .before .before .before .before .before .before .before .before .before .before .before .before .before .pre .0), omega (arith, c .before .before .before .before .before .before .before .before .before .before .before .before .before .before .before .before .before .before .before .before .before .before .before .before .before .before .before .before .before .before .before .before .before .before .before .before .before .before .before .before .before .before .before .before .before .before .pre .3 .bytes-room, c .before .before .before .before .before .before .before .before .before .before .before .before .before .before .before .before .run-tick .kept .1 .1 .1 .1 .1 .1 .1 .1 .1 .1 .1 .1 .1 .1 .0, along-long (c .before .before .before .before .before .before .before .before .before .before .before .before .before .before .before .before .before .before .before .before .before .before .before .before .before .before .before .before .before .loop .inv .0) (c .before .before .before .before .before .before .before .before .before .before .before .before .before .before .before .before .before .before .before .before .before .before .before .before .before .before .before .before .before .before .before .before .before .before .before .before .before .before .before .before .before .before .before .before .before .before .pre .15) (c .before .before .before .before .before .before .before .before .before .before .before .before .before .before .before .before .before .before .before .before .before .before .before .before .before .before .before .before .before .before .before .before .before .before .before .before .before .before .before .before .before .before .before .before .before .before .pre .9)), shown-room (c .before .before .before .before .before .before .before .before .before .before .before .before .before .before .before .before .before .before .before .before .before .before .before .before .before .before .before .before .before .loop .inv .0 .running) (c .before .before .before .before .before .before .before .before .before .before .before .before .before .before .before .before .before .before .before .before .before .before .before .before .before .before .before .before .loop-test .taken) (c .before .before .before .before .before .before .before .before .before .before .before .before .before .before .before .before .before .before .before .before .before .before .before .before .before .before .before .before .before .before .before .before .before .before .before .before .before .before .before .before .before .before .before .before .before .before .pre .14), c .before .before .before .before .before .before .before .before .before .before .before .before .before .before .before .before .before .before .before .before .before .before .before .before .before .before .before .before .before .before .before .before .before .before .before .before .before .before .before .before .before .before .before .before .before .before .pre .16 .ports)
+show-requires c κs = (read-signals (c .before .before .before .before .before .before .before .before .before .before .before .before .before .before .before .before .before .before .before .before .before .before .before .before .before .before .before .before .before .before .before .before .before .before .before .before .before .before .before .before .before .before .before .before .before .before .pre .0), omega (arith, c .before .before .before .before .before .before .before .before .before .before .before .before .before .before .before .before .before .before .before .before .before .before .before .before .before .before .before .before .before .before .before .before .before .before .before .before .before .before .before .before .before .before .before .before .before .before .pre .3 .bytes-room, c .before .before .before .before .before .before .before .before .before .before .before .before .before .before .before .before .run-tick .kept .1 .1 .1 .1 .1 .1 .1 .1 .1 .1 .1 .1 .1 .1 .1 .0, along-long (c .before .before .before .before .before .before .before .before .before .before .before .before .before .before .before .before .before .before .before .before .before .before .before .before .before .before .before .before .before .loop .inv .0) (c .before .before .before .before .before .before .before .before .before .before .before .before .before .before .before .before .before .before .before .before .before .before .before .before .before .before .before .before .before .before .before .before .before .before .before .before .before .before .before .before .before .before .before .before .before .before .pre .15) (c .before .before .before .before .before .before .before .before .before .before .before .before .before .before .before .before .before .before .before .before .before .before .before .before .before .before .before .before .before .before .before .before .before .before .before .before .before .before .before .before .before .before .before .before .before .before .pre .9)), shown-room (c .before .before .before .before .before .before .before .before .before .before .before .before .before .before .before .before .before .before .before .before .before .before .before .before .before .before .before .before .before .loop .inv .0 .running) (c .before .before .before .before .before .before .before .before .before .before .before .before .before .before .before .before .before .before .before .before .before .before .before .before .before .before .before .before .loop-test .taken) (c .before .before .before .before .before .before .before .before .before .before .before .before .before .before .before .before .before .before .before .before .before .before .before .before .before .before .before .before .before .before .before .before .before .before .before .before .before .before .before .before .before .before .before .before .before .before .pre .14), c .before .before .before .before .before .before .before .before .before .before .before .before .before .before .before .before .before .before .before .before .before .before .before .before .before .before .before .before .before .before .before .before .before .before .before .before .before .before .before .before .before .before .before .before .before .before .pre .16 .ports)
 
 -- src/list.rt:256:9
 add-at : tie.Need-add-at Inv-loop μ-loop
@@ -135,11 +136,11 @@ loop-again c = let s = c .before .before .before .before .before .before .before
     let L = c .before .before .before .before .before .before .before .before .before .before .before .before .before .before .before .before .before .before .before .before .before .before .before .before .before .before .before .before .before .before .before .before .loop in
     let e = c .before .before .before .before .before .before .before .before .before .before .before .before .before .before .before .before .before .before .before .before .before .before .before .before .before .before .before .before .end-of .result in
     let n : e ≡ min (L .pos + getD (s .args .heads .now) (L .at) 0) (length (s .args .bits .now)) = c .before .before .before .before .before .before .before .before .before .before .before .before .before .before .before .before .before .before .before .before .before .before .before .before .before .before .before .before .end-of .ensures ∙ ap (λ (w : ℕ). min (L .pos + w) (length (s .args .bits .now))) (c .before .before .before .before .before .before .before .before .before .before .before .before .before .before .before .before .before .before .before .before .before .before .before .before .before .before .before .before .before .wide .ensures) in (
-      subst (λ (j : ℕ). Along (lists (s .args .signals .now) (s .args .exprs .now) (s .args .stmts .now)) (s .args .heads .now) (s .args .bits .now) (s .args .bytes .now) (t .last .1 .1 .1 .1 .1 .1 .1 .1 .1 .1 .1 .1 .1 .1 .0) (s .args .answers .now) (c .before .before .before .before .before .before .before .put-answer .last .0) (s .args .shown .now) (c .before .before .show .last .1 .1 .0) (L .at + 3) e j (L .i + 1) (c .before .before .before .before .before .before .before .before .before .either .result)) (sym (c .before .before .show .ensures .0))
-          (along-next (g .0) (s .pre .15) (s .pre .9) (c .before .before .before .before .before .before .before .before .before .before .before .before .before .before .before .before .before .before .before .before .before .before .before .before .before .before .before .before .before .before .before .loop-test .taken) (s .pre .5) (s .pre .12) n refl (c .before .before .before .before .before .before .before .before .before .before .before .before .before .before .before .before .before .before .before .before .before .before .before .before .before .fired-by .ensures) (t .ensures .0) (t .ensures .1 .0) (c .before .before .before .before .before .before .before .put-answer .ensures) (c .before .before .show .ensures .1) (c .before .before .before .before .before .before .before .before .before .either .ensures ∙ ap (λ (b : Bool). L .late || b) (c .before .before .before .before .before .before .before .before .before .before .is-made .ensures)) (t .kept .1 .1 .1 .1 .1 .1 .1 .1 .1 .1 .1 .1 .1 .1 .0) (c .before .before .before .before .before .before .before .put-answer .kept .0) (c .before .before .show .kept .1 .1 .0)),
-      t .kept .1 .1 .1 .1 .1 .1 .1 .1 .1 .1 .1 .1 .1 .1 .1 .0 ∙ g .1,
-      t .kept .1 .1 .1 .1 .1 .1 .1 .1 .1 .1 .1 .1 .1 .1 .1 .1 .0 ∙ g .2,
-      t .kept .1 .1 .1 .1 .1 .1 .1 .1 .1 .1 .1 .1 .1 .1 .1 .1 .1 .0 ∙ g .3,
+      subst (λ (j : ℕ). Along (lists (s .args .signals .now) (s .args .exprs .now) (s .args .stmts .now)) (s .args .heads .now) (s .args .bits .now) (s .args .bytes .now) (t .last .1 .1 .1 .1 .1 .1 .1 .1 .1 .1 .1 .1 .1 .1 .1 .0) (s .args .answers .now) (c .before .before .before .before .before .before .before .put-answer .last .0) (s .args .shown .now) (c .before .before .show .last .1 .1 .0) (L .at + 3) e j (L .i + 1) (c .before .before .before .before .before .before .before .before .before .either .result)) (sym (c .before .before .show .ensures .0))
+          (along-next (g .0) (s .pre .15) (s .pre .9) (c .before .before .before .before .before .before .before .before .before .before .before .before .before .before .before .before .before .before .before .before .before .before .before .before .before .before .before .before .before .before .before .loop-test .taken) (s .pre .5) (s .pre .12) n (ap (λ (w : ℕ). handed (s .args .inputs) w (take (e - L .pos) (drop (L .pos) (s .args .bits .now)))) (c .before .before .before .before .before .before .before .before .before .before .before .before .before .before .before .before .before .before .before .before .before .before .before .before .before .before .before .before .before .wide .ensures)) (c .before .before .before .before .before .before .before .before .before .before .before .before .before .before .before .before .before .before .before .before .before .before .before .before .before .fired-by .ensures) (t .ensures .0) (t .ensures .1 .0) (c .before .before .before .before .before .before .before .put-answer .ensures) (c .before .before .show .ensures .1) (c .before .before .before .before .before .before .before .before .before .either .ensures ∙ ap (λ (b : Bool). L .late || b) (c .before .before .before .before .before .before .before .before .before .before .is-made .ensures)) (t .kept .1 .1 .1 .1 .1 .1 .1 .1 .1 .1 .1 .1 .1 .1 .1 .0) (c .before .before .before .before .before .before .before .put-answer .kept .0) (c .before .before .show .kept .1 .1 .0)),
+      t .kept .1 .1 .1 .1 .1 .1 .1 .1 .1 .1 .1 .1 .1 .1 .1 .1 .0 ∙ g .1,
+      t .kept .1 .1 .1 .1 .1 .1 .1 .1 .1 .1 .1 .1 .1 .1 .1 .1 .1 .0 ∙ g .2,
+      t .kept .1 .1 .1 .1 .1 .1 .1 .1 .1 .1 .1 .1 .1 .1 .1 .1 .1 .1 .0 ∙ g .3,
       t .ensures .1 .1,
     )
 
