@@ -22,7 +22,7 @@ use Rattle.lowering.specs.Lower.{Lowered, Accepted, Refused, Lowering, lowerWor
 use Rattle.simulation.specs.declared.Ran as s
 use Rattle.simulation.specs.Wellformed.{orElse, largest, malformed}
 use Rattle.simulation.specs.Tick.{looped}
-use Rattle.simulation.specs.Run.{Call, callModel, Outcome, signalBytes, exprBits, tickBits, zeroed, noBit, onLoop, firstOf, causes, refusal, verdict, answer, run, bytesAfter, firedOf}
+use Rattle.simulation.specs.Run.{Call, callModel, Outcome, signalBytes, exprBits, tickBits, zeroed, noBit, onLoop, firstOf, causes, refusal, verdict, answer, run, bytesAfter}
 use Rattle.simulation.specs.Run.{answerOf as ranOf}
 use Rattle.simulation.specs.Fault.{callOf}
 use Rattle.simulation.proofs.Kept.{accepted-good}

@@ -1,7 +1,6 @@
 use lib.ListN.{length}
 use lib.Dec.{ltb}
 use Rattle.capi.proofs.Handing.{read-length, lowered-by}
-use borrow.Author.Needs.{needs}
 use Rattle.capi.proofs.reamerpoppy_lower.Statement.{statement}
 use Rattle.capi.proofs.reamerpoppy_lower.Tie as tie
 use Rattle.capi.proofs.reamerpoppy_lower.Reads as reads

@@ -3,7 +3,6 @@ use mathlib.Core.List.{[], _∷_}
 use lib.ListN.{length}
 use lib.Dec.{ltb}
 use Rattle.capi.proofs.Handing.{read-length, simulated-by}
-use borrow.Author.Needs.{needs}
 use Rattle.capi.proofs.reamerpoppy_simulate.Statement.{statement}
 use Rattle.capi.proofs.reamerpoppy_simulate.Tie as tie
 use Rattle.capi.proofs.reamerpoppy_simulate.Reads as reads
