@@ -8,7 +8,7 @@ use native.Mathlib.Nat.{not-suc-le-zero}
 use native.Mathlib.Omega.{arith}
 use lib.Dec.{eqb, leb, ltb}
 use lib.ListN.{length, set, take, drop}
-use lib.Seq.{take-length}
+use lib.Seq.{take-length, length-take-le}
 use borrow.Author.Tests.{ltb-true, lt-ltb, le-ltb, eq-eqb, ne-eqb}
 use Rattle.bits.specs.Bits.{pick}
 use Rattle.refusal.specs.Refusal.{numberOf, placeOf}
@@ -22,7 +22,7 @@ use Rattle.lowering.specs.Lower.{Lowered, Accepted, Refused, Lowering, lowerWor
 use Rattle.simulation.specs.declared.Ran as s
 use Rattle.simulation.specs.Wellformed.{orElse, largest, malformed}
 use Rattle.simulation.specs.Tick.{looped}
-use Rattle.simulation.specs.Run.{Call, callModel, Outcome, signalBytes, exprBits, tickBits, zeroed, noBit, onLoop, firstOf, causes, refusal, verdict, answer, run, bytesAfter, firedOf}
+use Rattle.simulation.specs.Run.{Call, callModel, Outcome, signalBytes, exprBits, tickBits, zeroed, noBit, onLoop, firstOf, causes, refusal, verdict, answer, run, bytesAfter}
 use Rattle.simulation.specs.Run.{answerOf as ranOf}
 use Rattle.simulation.specs.Fault.{callOf}
 use Rattle.simulation.proofs.Kept.{accepted-good}
@@ -112,9 +112,10 @@ module _ {r : s.Ran} where
     pub short-later : 13 ≤ n → some (1, 8) ≡ orNoRoomRan (ranOf r)
     short-later h = ran-by-number false (le-ltb n 13 h)
 
-pub read-within : {used n : ℕ} (b : Bool) → used ≡ pick b 0 n → used ≤ n
-read-within true e = omega (arith, e)
-read-within false e = omega (arith, e)
+-- as many words are read as are asked for
+pub read-length : {used : ℕ} (words : List ℕ) (b : Bool) → used ≡ pick b 0 (length words) → used ≡ length (take used words)
+read-length words true e = sym (length-take-le _ words (omega (arith, e)))
+read-length words false e = sym (length-take-le _ words (omega (arith, e)))
 
 picked : (s : Bool) {A : Type 0} (x y : A) → y ≡ pick (pick s false false) x y
 picked true x y = refl

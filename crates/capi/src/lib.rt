@@ -1,6 +1,6 @@
 // Lowering, one tick and a whole list of ticks for programs in other languages: each slice is a pointer and a count of its elements.
 // Every function answers the refusal's number, or 0, and puts its numbers into `answer`, as many as fit; one shorter than 8 is refused with 1,
-// after the other buffers. The call that is made then reads no words (of a netlist), or an edge that there is not: all is left as a refusal leaves it.
+// after lowering's works or a run's buffers. The call that is made then reads no words, or fires an edge that there is not, so that it is refused too.
 mod hand; // hand.rt: answers as numbers
 
 use converter::lower;

@@ -1,3 +1,11 @@
+use Rattle.runner.specs.Calls.{firedBy}
+use Rattle.recorder.specs.Lists.{lists}
+use Rattle.bits.specs.Bits.{pick}
+use lib.ListN.{length}
+use lib.Dec.{ltb}
+use mathlib.Core.Option.{some}
+use mathlib.Core.Path.{_∙_, ap}
+use Rattle.capi.proofs.Handing.{ran-by}
 use borrow.Author.Needs.{needs}
 use Rattle.capi.proofs.reamerpoppy_run.Statement.{statement}
 use Rattle.capi.proofs.reamerpoppy_run.Tie as tie
@@ -51,7 +59,7 @@ same-length-5 c = search needs
 
 -- src/lib.rt:56:1
 returns : tie.Need-returns
-returns c = ?
+returns c = ran-by (lists (c .before .before .before .before .before .before .before .before .before .before .before .before .before .before .before .before .before .before .before .before .before .before .before .before .before .before .before .before .before .args .signals .now) (c .before .before .before .before .before .before .before .before .before .before .before .before .before .before .before .before .before .before .before .before .before .before .before .before .before .before .before .before .before .args .exprs .now) (c .before .before .before .before .before .before .before .before .before .before .before .before .before .before .before .before .before .before .before .before .before .before .before .before .before .before .before .before .before .args .stmts .now)) (c .before .before .before .before .before .before .before .before .before .before .before .before .before .before .before .before .before .before .before .before .before .before .before .before .before .before .before .before .before .args .bytes .now) (c .before .before .before .before .before .before .before .before .before .before .before .before .before .before .before .before .before .before .before .before .before .before .before .before .before .before .before .before .before .args .ticks .now) (c .before .before .before .before .before .before .before .before .before .before .before .before .before .before .before .before .before .before .before .before .before .before .before .before .before .before .before .before .before .args .work-bits .now) (c .before .before .before .before .before .before .before .before .before .before .before .before .before .before .before .before .before .before .before .before .before .before .before .before .before .before .before .before .before .args .work-exprs .now) (c .before .before .before .before .before .before .before .before .before .before .before .before .before .before .before .before .before .before .before .before .before .before .before .before .before .before .before .before .before .args .work-signals .now) (firedBy (c .before .before .before .before .before .before .before .before .before .before .before .before .before .before .before .before .before .before .before .before .before .before .before .before .before .before .before .before .before .args .fires) (c .before .before .before .before .before .before .before .before .before .before .before .before .before .before .before .before .before .before .before .before .before .before .before .before .before .before .before .before .before .args .signal)) (c .before .before .before .before .before .before .before .before .before .before .before .before .before .before .before .before .before .before .before .before .before .before .before .before .before .before .before .before .before .args .answer .now) (c .before .before .before .before .before .before .before .before .before .before .before .before .before .before .before .before .before .before .fired-for .ensures ∙ ap (pick (ltb (length (c .before .before .before .before .before .before .before .before .before .before .before .before .before .before .before .before .before .before .before .before .before .before .before .before .before .before .before .before .before .args .answer .now)) 8) (some (0, 2))) (c .before .before .before .before .before .before .before .before .before .before .before .before .before .before .before .before .before .before .before .fired-by .ensures)) (c .before .before .before .before .before .before .before .before .before .before .before .before .before .run .ensures) (c .before .before .before .ran-for .ensures) (c .before .before .hand-ran .ensures)
 
 pub reamerpoppy-run-spec : {M : Type 1} → statement M
 reamerpoppy-run-spec =
