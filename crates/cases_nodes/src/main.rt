@@ -5,7 +5,7 @@
 // Rust's balanced_address_mux (lib.rs), not by this program.
 use address_mux::AddressMuxNode;
 use address_mux::balanced_address_mux;
-use nodes::balanced_address_mux_of_array;
+use nodes::balanced_address_mux_of_64;
 use recorder::Emitted;
 use recorder::ExprId;
 use recorder::Tape;
@@ -72,12 +72,12 @@ fn by_nodes(
     out: &mut [u8],
     at: usize,
     exprs: &mut [u32],
-    nodes: [AddressMuxNode; 16384],
+    nodes: [AddressMuxNode; 64],
     n: usize,
 ) -> usize {
     let mut matched = [0u32; 8];
     let mut value = [0u32; 8];
-    let r = balanced_address_mux_of_array(
+    let r = balanced_address_mux_of_64(
         exprs,
         nodes,
         n,
@@ -97,8 +97,8 @@ fn by_numbers(out: &mut [u8], at: usize, exprs: &mut [u32], n: usize) -> usize {
     line(out, at, exprs, r)
 }
 
-fn five() -> [AddressMuxNode; 16384] {
-    let mut nodes = [node(0, 0); 16384];
+fn five() -> [AddressMuxNode; 64] {
+    let mut nodes = [node(0, 0); 64];
     nodes[0] = node(10, 20);
     nodes[1] = node(11, 21);
     nodes[2] = node(12, 22);
@@ -111,7 +111,7 @@ fn both(
     out: &mut [u8],
     at: usize,
     exprs: &mut [u32],
-    nodes: [AddressMuxNode; 16384],
+    nodes: [AddressMuxNode; 64],
     n: usize,
 ) -> usize {
     let a = by_nodes(out, at, exprs, nodes, n);

@@ -32,6 +32,7 @@ use Rattle.wires.proofs.Laws.{roomy-yes}
 use Rattle.cells.specs.Cells.{emitLut4, emitPfumx, emitL6mux21, emitCcu2c, emitMultiplier, emitIo, emitIdleJtagg, emitCyclePll}
 use Rattle.cells.specs.Answers.{ccuOf, pllOf}
 use Rattle.cells.proofs.Laws.{bits-ahead}
+use Rattle.address_mux.proofs.Addresses.{at-most-yes}
 use Rattle.memories.specs.Memories.{emitDistributedRam}
 use Rattle.memories.specs.Rams.{dramAt, dramAddressed, addressed, workOf, blockRamIn}
 use Rattle.memories.proofs.PortLaws.{addressed-same}
@@ -85,7 +86,7 @@ module _ (m : Wires) (z : Constants) (owner : ℕ) (words : List ℕ) (at : ℕ)
       let few : need ≤ 16384 = omega (arith, d, w) in
       let fp : need ≤ length (take p parts) = omega (arith, length-take-le p parts (omega (arith, ip)), is, ip, few, a) in
       let fv : need ≤ length (take v values) = omega (arith, length-take-le v values (omega (arith, iv)), is, iv, few, b) in
-      sym (ap (blockRamIn (take p parts) (take v values) m z owner) same ∙ roomy-yes need (take p parts) _ fp ∙ roomy-yes need (take v values) _ fv)
+      sym (ap (blockRamIn (take p parts) (take v values) m z owner) same ∙ roomy-yes need (take p parts) _ fp ∙ roomy-yes need (take v values) _ fv ∙ at-most-yes 16384 (wordAt words (at + 1)) _ d)
 
   distributed-one : {written read : List Bit} → written ≡ bitsAt words (at + 1) 4 → read ≡ bitsAt words (at + 11) 4 → (wordAt words (at + 21) ≡ 1 → ⊥)
       → emitCell m z owner (distributedRamAt words at) ≡ emitDistributedRam m z owner (dramAddressed (dramAt words at) written read)

@@ -1,12 +1,12 @@
 -- Laws of a RAM's words.
 use mathlib.Core.Path.{_≡_, refl, ap, ap₂, sym, _∙_, subst}
-use mathlib.Core.List.{List, [], _∷_, _++_}
+use mathlib.Core.List.{List, [], _∷_, _++_, map}
 use mathlib.Core.Option.{Option, none, some}
 use Prim.Native.Nat.{ℕ, zero, suc, _+_, _-_, _≤_, _<_}
-use native.Mathlib.Nat.{add-zero, zero-add}
+use native.Mathlib.Nat.{add-zero, zero-add, not-suc-le-zero, le-of-suc-le-suc}
 use native.Mathlib.Numerals.{add-one}
 use native.Mathlib.Omega.{arith}
-use lib.ListN.{length, getD, set, length-set}
+use lib.ListN.{length, take, set}
 use Rattle.refusal.specs.declared.Refusal.{Refusal}
 use Rattle.recorder.specs.declared.Tapes.{Tapes}
 use Rattle.recorder.specs.declared.Stated.{Stated}
@@ -21,12 +21,12 @@ use Rattle.memories.specs.declared.Second.{Second}
 use Rattle.memories.specs.declared.Second.the-variants as B
 use Rattle.memories.specs.declared.Words.{Words}
 use Rattle.address_mux.specs.AddressMux.{Node}
-use Rattle.address_mux.specs.Candidates.{nodesFrom}
+use Rattle.address_mux.specs.declared.AddressMuxNode.{AddressMuxNode}
+use Rattle.address_mux.specs.Candidates.{nodeOf}
 use Rattle.memories.specs.Memories.{Word, PortExprs, writeWord, writeSecond, ramWord, ramWords, candidatesFrom, updateWords}
 use Rattle.address_mux.specs.Address.{matchAddress}
 use Rattle.memories.specs.Rams.{WroteWords, secondWriting, lastOf, wordsFrom, reach, wordsOf, Small, Spaced, filled}
 use Rattle.memories.proofs.Ended.{ended-value, ended-played, ended-count, small-word}
-use Rattle.address_mux.proofs.Levels.{nodes-put}
 
 -- ONE WORD
 
@@ -212,23 +212,31 @@ module _ (address aw : ℕ) where
   unfolding candidatesFrom
   cand-none i s q last left nodes e = ap (λ (l : List Word). candidatesFrom address aw i l nodes) (words-none s q last left e)
 
--- i candidates stand in the slices; the next word's read is q
-pub record Gathering (address aw s last depth : ℕ) (whole : Writer (List Node)) (e₀ : List ℕ) (t₀ : Tapes) (e : List ℕ) (t : Tapes) (ms vs : List ℕ) (q i : ℕ) : Type 0 where
-  pub does : (x k : List ℕ) → Going (lists x e₀ k) t₀ whole (lists x e k) t (candidatesFrom address aw i (wordsFrom (s + i) q last (depth - i)) (nodesFrom ms vs 0 i))
+-- a node is stored behind the first i
+node-put : (ns : List AddressMuxNode) (i : ℕ) (d : AddressMuxNode) → i < length ns → map nodeOf (take (i + 1) (set ns i d)) ≡ map nodeOf (take i ns) ++ (nodeOf d ∷ [])
+node-put ns i d h = ap (λ (k : ℕ). map nodeOf (take k (set ns i d))) (add-one i) ∙ go ns i h
+  where
+    go : (ns : List AddressMuxNode) (i : ℕ) → i < length ns → map nodeOf (take (suc i) (set ns i d)) ≡ map nodeOf (take i ns) ++ (nodeOf d ∷ [])
+    go [] i h = absurd (not-suc-le-zero h)
+    go (x ∷ ns) zero h = refl
+    go (x ∷ ns) (suc i) h = ap (λ (l : List Node). nodeOf x ∷ l) (go ns i (le-of-suc-le-suc h))
+
+-- i nodes stand in the array; the next word's read is q
+pub record Gathering (address aw s last depth : ℕ) (whole : Writer (List Node)) (e₀ : List ℕ) (t₀ : Tapes) (e : List ℕ) (t : Tapes) (ns : List AddressMuxNode) (q i : ℕ) : Type 0 where
+  pub does : (x k : List ℕ) → Going (lists x e₀ k) t₀ whole (lists x e k) t (candidatesFrom address aw i (wordsFrom (s + i) q last (depth - i)) (map nodeOf (take i ns)))
   pub room : 1 ≤ depth → reach q last (depth - i) ≤ 2147483648
 
 module _ {address aw s last depth : ℕ} {whole : Writer (List Node)} {e₀ : List ℕ} {t₀ : Tapes} where
-  pub gathering-start : (ms vs : List ℕ) (q : ℕ) → whole ≡ candidatesFrom address aw 0 (wordsFrom s q last depth) [] → (1 ≤ depth → reach q last depth ≤ 2147483648)
-      → Gathering address aw s last depth whole e₀ t₀ e₀ t₀ ms vs q 0
-  unfolding nodesFrom
-  gathering-start ms vs q w h =
+  pub gathering-start : (ns : List AddressMuxNode) (q : ℕ) → whole ≡ candidatesFrom address aw 0 (wordsFrom s q last depth) [] → (1 ≤ depth → reach q last depth ≤ 2147483648)
+      → Gathering address aw s last depth whole e₀ t₀ e₀ t₀ ns q 0
+  gathering-start ns q w h =
       let z : depth ≡ depth - 0 = omega arith in
       record {
         does = λ x k. going-start (w ∙ ap₂ (λ (i j : ℕ). candidatesFrom address aw 0 (wordsFrom i q last j) []) (sym (add-zero s)) z);
         room = λ g. subst (λ (k : ℕ). reach q last k ≤ 2147483648) z (h g);
       }
 
-  module _ {e : List ℕ} {t : Tapes} {ms vs : List ℕ} {q i : ℕ} (doing : Gathering address aw s last depth whole e₀ t₀ e t ms vs q i) where
+  module _ {e : List ℕ} {t : Tapes} {ns : List AddressMuxNode} {q i : ℕ} (doing : Gathering address aw s last depth whole e₀ t₀ e t ns q i) where
     -- the next word's read is a number that records have
     pub gathering-room : i < depth → q + (last + 1) ≤ 2147483648
     gathering-room h =
@@ -238,28 +246,29 @@ module _ {address aw s last depth : ℕ} {whole : Writer (List Node)} {e₀ : Li
         omega arith
 
     module _ (more : i < depth) {r : Answer ℕ} {e₁ : List ℕ} (h : WroteExprs e t (matchAddress address aw i) r e₁) where
-      gathered : i < length ms → i < length vs → {y : ℕ} {u : Tapes} → r ≡ Done y u → Gathering address aw s last depth whole e₀ t₀ e₁ u (set ms i y) (set vs i q) (q + (last + 1)) (i + 1)
-      gathered lm lv {y} {u} d =
+      gathered : i < length ns → {d : AddressMuxNode} {u : Tapes} → r ≡ Done (d .matched .0) u → d .value .0 ≡ q → Gathering address aw s last depth whole e₀ t₀ e₁ u (set ns i d) (q + (last + 1)) (i + 1)
+      gathered ln {d} {u} done here =
           let j : depth - i - 1 ≡ depth - (i + 1) = omega arith in
           let p : s + i + 1 ≡ s + (i + 1) = omega arith in
           record {
             does = λ x k. subst (λ (w : Writer (List Node)). Going (lists x e₀ k) t₀ whole (lists x e₁ k) u w)
-                (ap₂ (λ (l : List Word) (n : List Node). candidatesFrom address aw (i + 1) l n) (ap₂ (λ (m n : ℕ). wordsFrom m (q + (last + 1)) last n) p j) (sym (nodes-put ms vs i y q lm lv)))
-                (going-step _ (doing .does x k) (cand-more address aw i (s + i) q last (depth - i) (nodesFrom ms vs 0 i) (omega arith)) (h x k) d);
+                (ap₂ (λ (l : List Word) (n : List Node). candidatesFrom address aw (i + 1) l n) (ap₂ (λ (m n : ℕ). wordsFrom m (q + (last + 1)) last n) p j)
+                (ap (λ (v : ℕ). map nodeOf (take i ns) ++ (record { matched = d .matched .0; value = v } ∷ [])) (sym here) ∙ sym (node-put ns i d ln)))
+                (going-step _ (doing .does x k) (cand-more address aw i (s + i) q last (depth - i) (map nodeOf (take i ns)) (omega arith)) (h x k) done);
             room = λ g. subst (λ (n : ℕ). reach (q + (last + 1)) last n ≤ 2147483648) j (subst (λ (n : ℕ). n ≤ 2147483648) (reach-first q last (depth - i) (omega arith)) (doing .room g));
           }
 
-      pub gathering-step : {k : ℕ} → k ≡ i → i < length ms → i < length vs → {y : ℕ} {u : Tapes} → r ≡ Done y u
-          → Gathering address aw s last depth whole e₀ t₀ e₁ u (set ms k y) (set vs k q) (q + (last + 1)) (i + 1)
-      gathering-step {k} here lm lv {y} {u} d = subst (λ (n : ℕ). Gathering address aw s last depth whole e₀ t₀ e₁ u (set ms n y) (set vs n q) (q + (last + 1)) (i + 1)) (sym here) (gathered lm lv d)
+      pub gathering-step : {k : ℕ} → k ≡ i → i < length ns → {d : AddressMuxNode} {u : Tapes} → r ≡ Done (d .matched .0) u → d .value .0 ≡ q
+          → Gathering address aw s last depth whole e₀ t₀ e₁ u (set ns k d) (q + (last + 1)) (i + 1)
+      gathering-step {k} is ln {d} {u} done here = subst (λ (n : ℕ). Gathering address aw s last depth whole e₀ t₀ e₁ u (set ns n d) (q + (last + 1)) (i + 1)) (sym is) (gathered ln done here)
 
       pub gathering-stop : {number place : ℕ} → r ≡ Failed number place → WroteExprs e₀ t₀ whole (Failed number place) e₁
-      gathering-stop d x k = going-stop _ (doing .does x k) (cand-more address aw i (s + i) q last (depth - i) (nodesFrom ms vs 0 i) (omega arith)) (h x k) d
+      gathering-stop done x k = going-stop _ (doing .does x k) (cand-more address aw i (s + i) q last (depth - i) (map nodeOf (take i ns)) (omega arith)) (h x k) done
 
-    pub gathering-end : i ≡ depth → WroteExprs e₀ t₀ whole (Done (nodesFrom ms vs 0 depth) t) e
+    pub gathering-end : i ≡ depth → WroteExprs e₀ t₀ whole (Done (map nodeOf (take depth ns)) t) e
     gathering-end z x k =
         let j : depth - i ≡ 0 = omega arith in
-        going-end (doing .does x k) (cand-none address aw i (s + i) q last (depth - i) (nodesFrom ms vs 0 i) j ∙ ap (λ (n : ℕ). pure (nodesFrom ms vs 0 n)) z) wrote-pure
+        going-end (doing .does x k) (cand-none address aw i (s + i) q last (depth - i) (map nodeOf (take i ns)) j ∙ ap (λ (n : ℕ). pure (map nodeOf (take n ns))) z) wrote-pure
 
 -- REGISTERS
 

@@ -1,11 +1,11 @@
 -- Laws of a read port.
 use mathlib.Core.Path.{_≡_, refl, ap, ap₂, sym, _∙_, fun-ext}
-use mathlib.Core.List.{List, [], _∷_}
+use mathlib.Core.List.{List, [], _∷_, map}
 use mathlib.Core.Option.{Option, none, some}
 use Prim.Native.Nat.{ℕ, _+_, _≤_, _<_}
 use native.Mathlib.Nat.{add-zero}
 use native.Mathlib.Omega.{arith}
-use lib.ListN.{length, getD}
+use lib.ListN.{length, take, getD}
 use Rattle.refusal.specs.Refusal.{numberOf, placeOf}
 use Rattle.netlist.specs.declared.Control.{Control}
 use Rattle.netlist.specs.declared.fields.OptionalControl as oc
@@ -15,8 +15,8 @@ use Rattle.netlist.proofs.RecordLaws.{wires-get}
 use Rattle.recorder.specs.declared.Tapes.{Tapes}
 use Rattle.recorder.specs.Record.{RegEnable, Stmt.reg}
 use Rattle.recorder.specs.Writer.{Count, Out, Writer, pure, refuse, state, _>>=_}
-use Rattle.recorder.specs.Lists.{WroteExprs, Answer}
-use Rattle.recorder.proofs.Wrote.{wrote-as}
+use Rattle.recorder.specs.Lists.{WroteExprs, Answer, Answer.Done, Answer.Failed}
+use Rattle.recorder.proofs.Wrote.{wrote-as, then-done, then-stop}
 use Rattle.recorder.proofs.Events.{bind-pure, bind-refuse, bind-assoc}
 use Rattle.wires.specs.declared.Constants.{Constants}
 use Rattle.wires.specs.declared.Controlled.{Controlled}
@@ -28,21 +28,43 @@ use Rattle.memories.specs.declared.Port.{Port}
 use Rattle.memories.specs.declared.Second.{Second}
 use Rattle.memories.specs.declared.Second.the-variants as B
 use Rattle.address_mux.specs.AddressMux.{Node, balancedAddressMux}
-use Rattle.address_mux.specs.Candidates.{nodesFrom}
+use Rattle.address_mux.specs.declared.AddressMuxNode.{AddressMuxNode}
+use Rattle.address_mux.specs.Address.{atMost}
+use Rattle.address_mux.specs.Candidates.{nodeOf}
+use Rattle.address_mux.proofs.Addresses.{at-most-yes}
+use Rattle.nodes.specs.Nodes.{muxOfNodes}
+use Rattle.nodes.proofs.Laws.{length-first}
 use Rattle.memories.specs.Memories.{Word, PortExprs, candidatesFrom, enableOf, emitBlockRamReadPort, emitSecondReadPort}
-use Rattle.memories.specs.Rams.{portOf, secondOf, reading, selectWord, readRegister}
-use Rattle.memories.specs.Steps.{enabledRegister}
+use Rattle.memories.specs.Rams.{portOf, secondOf, reading, wordsFrom, selectWord, readRegister}
+use Rattle.memories.specs.Steps.{pickWord, enabledRegister}
 use Rattle.address_mux.proofs.Binds.{bind-cong, bind-one}
 
 -- THE WORD
 
--- both work slices have room
-pub mux-as : {e : List ℕ} {t : Tapes} {r : Answer ℕ} {e′ : List ℕ} (ms vs : List ℕ) {n depth : ℕ} (width z : ℕ) → n ≡ depth → depth ≤ length ms → depth ≤ length vs
-    → WroteExprs e t (roomy n ms (roomy n vs (balancedAddressMux width (nodesFrom ms vs 0 n) z))) r e′ → WroteExprs e t (balancedAddressMux width (nodesFrom ms vs 0 depth) z) r e′
-mux-as ms vs {n} {depth} width z here p q h x y = wrote-as
-    (ap (λ (k : ℕ). balancedAddressMux width (nodesFrom ms vs 0 k) z) (sym here)
-    ∙ sym (roomy-yes n ms (roomy n vs (balancedAddressMux width (nodesFrom ms vs 0 n) z)) (omega arith) ∙ roomy-yes n vs (balancedAddressMux width (nodesFrom ms vs 0 n) z) (omega arith)))
+-- the mux of the first nodes of an array, in two works with room
+mux-as : {e : List ℕ} {t : Tapes} {r : Answer ℕ} {e′ : List ℕ} (most : ℕ) (ms vs : List ℕ) (ns : List AddressMuxNode) {n depth : ℕ} (width z : ℕ)
+    → n ≡ depth → depth ≤ most → depth ≤ length ns → depth ≤ length ms → depth ≤ length vs
+    → WroteExprs e t (atMost most n (muxOfNodes ms vs width (take n ns) z)) r e′ → WroteExprs e t (balancedAddressMux width (map nodeOf (take depth ns)) z) r e′
+mux-as most ms vs ns {n} {depth} width z here fits long p q h x y =
+    let len : length (take n ns) ≡ n = length-first n ns (omega arith) in
+    let mux = balancedAddressMux width (map nodeOf (take n ns)) z in
+    wrote-as
+    (ap (λ (k : ℕ). balancedAddressMux width (map nodeOf (take k ns)) z) (sym here)
+    ∙ sym (at-most-yes most n _ (omega arith) ∙ roomy-yes (length (take n ns)) ms (roomy (length (take n ns)) vs mux) (omega arith) ∙ roomy-yes (length (take n ns)) vs mux (omega arith)))
     (h x y)
+
+-- all nodes stand in the array, and the mux of them was made; or a node was refused
+module _ (address aw : ℕ) (words : List Word) (width z : ℕ) {e₀ e₁ : List ℕ} {t₀ : Tapes} where
+  pub picked : {depth : ℕ} {t₁ : Tapes} {r : Answer ℕ} {e₂ : List ℕ} (most : ℕ) (ms vs : List ℕ) (ns : List AddressMuxNode) {n : ℕ} → n ≡ depth → depth ≤ most → depth ≤ length ns → depth ≤ length ms → depth ≤ length vs
+      → WroteExprs e₀ t₀ (candidatesFrom address aw 0 words []) (Done (map nodeOf (take depth ns)) t₁) e₁
+      → WroteExprs e₁ t₁ (atMost most n (muxOfNodes ms vs width (take n ns) z)) r e₂
+      → WroteExprs e₀ t₀ (pickWord address words width aw z) r e₂
+  unfolding pickWord
+  picked most ms vs ns here fits long p k g h x y = then-done (g x y) _ refl (mux-as most ms vs ns width z here fits long p k h x y)
+
+  pub not-picked : {number place : ℕ} → WroteExprs e₀ t₀ (candidatesFrom address aw 0 words []) (Failed number place) e₁ → WroteExprs e₀ t₀ (pickWord address words width aw z) (Failed number place) e₁
+  unfolding pickWord
+  not-picked g x y = then-stop (g x y) _ refl
 
 -- A CONTROL'S SIGNAL
 

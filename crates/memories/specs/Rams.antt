@@ -29,6 +29,7 @@ use Rattle.memories.specs.declared.RamWord.{RamWord}
 use Rattle.memories.specs.declared.Worded.{Worded}
 use Rattle.memories.specs.declared.Worded.the-variants as W
 use Rattle.memories.specs.declared.Words.{Words}
+use Rattle.address_mux.specs.Address.{atMost}
 use Rattle.address_mux.specs.AddressMux.{Node, balancedAddressMux}
 use Rattle.memories.specs.Memories.{Word, PortExprs, writeSecond, ramWord, ramWords, candidatesFrom, enableOf, emitBlockRam}
 
@@ -115,10 +116,11 @@ pub record Small (t : Tapes) : Type 0 where
   pub signals : t .signals .count ≤ 2147483648
   pub exprs : t .exprs .count ≤ 2147483648
 
--- all of them are numbers that records have
+-- all of them are numbers that records have, and an array holds their nodes
 pub record Spaced (w : Words) : Type 0 where
   pub signals : 1 ≤ w .depth → w .signal .0 + w .depth ≤ 2147483648
   pub exprs : 1 ≤ w .depth → reach (w .current .0) (w .last) (w .depth) ≤ 2147483648
+  pub few : w .depth ≤ 16384
 
 abbrev pub filled : Tapes → ℕ → ℕ → Stated → Answer (List Word)
 filled t last depth (S.Done u) = Done (wordsFrom (t .signals .count) (t .exprs .count) last depth) u
@@ -204,6 +206,6 @@ dramAddressed r written read = record {
 abbrev pub workOf : BlockRam → ℕ
 workOf r = max (r .depth) (r .width)
 
--- both works are checked first
+-- both works are checked first, then that an array holds a node for each word
 abbrev pub blockRamIn : List ℕ → List ℕ → Wires → Constants → ℕ → BlockRam → Writer (Unit {0})
-blockRamIn parts values m z owner r = roomy (workOf r) parts (roomy (workOf r) values (emitBlockRam m z owner r))
+blockRamIn parts values m z owner r = roomy (workOf r) parts (roomy (workOf r) values (atMost 16384 (r .depth) (emitBlockRam m z owner r)))

@@ -15,13 +15,20 @@ use Rattle.recorder.specs.Lists.{Lists, Wrote}
 use Rattle.wires.specs.declared.Constants.{Constants}
 use Rattle.wires.specs.Wires.{Wires}
 use Rattle.wires.specs.Expressions.{bitSignal, assignWire}
-use Rattle.memories.specs.Memories.{Word, PortExprs, ramWord, ramWords, emitBlockRamReadPort, emitSecondReadPort, updateWords, dramWords, dramSelect}
+use Rattle.memories.specs.Memories.{Word, PortExprs, ramWord, ramWords, candidatesFrom, emitBlockRamReadPort, emitSecondReadPort, updateWords, dramWords, dramSelect}
 use Rattle.address_mux.specs.Address.{matchAddress}
+use Rattle.address_mux.specs.AddressMux.{balancedAddressMux}
 use Rattle.memories.specs.Rams.{filled, reach}
 
 -- the second port of the block RAM at an index
 abbrev pub secondAt : List ℕ → ℕ → SecondPort
 secondAt words i = secondPortAt words (i + firstSize words (wordAt words (i + 2))) (wordAt words (i + 2))
+
+-- address, words, their width, the address's width, the expression of zero
+unfoldable pub pickWord : ℕ → List Word → ℕ → ℕ → ℕ → Writer ℕ
+pickWord address words width aw e = do
+  nodes ← candidatesFrom address aw 0 words []
+  balancedAddressMux width nodes e
 
 -- a register that loads while a control is asserted
 unfoldable pub enabledRegister : Wires → Constants → ℕ → Control → ℕ → ℕ → ℕ → Writer (Unit {0})

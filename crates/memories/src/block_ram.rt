@@ -126,7 +126,7 @@ fn ram_body(
     words: &[u32],
     at: usize,
 ) -> Stated
-    requires { ⌜ (wordAt (now words) (at + 1) ≤ length (now parts)) × (wordAt (now words) (at + 1) ≤ length (now values)) ⌝ }
+    requires { ⌜ (wordAt (now words) (at + 1) ≤ length (now parts)) × (wordAt (now words) (at + 1) ≤ length (now values)) × (wordAt (now words) (at + 1) ≤ 16384) ⌝ }
     ensures { λ r. ⌜ Wrote (lists (now (signals .entry)) (now (exprs .entry)) (now (stmts .entry))) t (ramBody (wiresOf (now (wires .entry)) (now (places .entry))) constants owner (portOf (ramAt (now (words .entry)) at .output) (ramAt (now (words .entry)) at .readEnable) first) (secondOf (secondAt (now (words .entry)) at .output) (secondAt (now (words .entry)) at .readEnable) second) (shape .width) (shape .address) (wordAt (now (words .entry)) (at + 1)) (shape .clock .0) (shape .edge)) (stated r) (lists (now (signals .exit)) (now (exprs .exit)) (now (stmts .exit))) ⌝ }
 {
     let depth = field(words, at, 1);
@@ -202,7 +202,7 @@ fn with_work(
     read_address: [Bit; 14],
     second_address: [Bit; 14],
 ) -> Stated
-    requires { ⌜ (workOf (ramAt (now words) at) ≤ length (now parts)) × (workOf (ramAt (now words) at) ≤ length (now values)) ⌝ }
+    requires { ⌜ (workOf (ramAt (now words) at) ≤ length (now parts)) × (workOf (ramAt (now words) at) ≤ length (now values)) × (wordAt (now words) (at + 1) ≤ 16384) ⌝ }
     ensures { λ r. ⌜ Wrote (lists (now (signals .entry)) (now (exprs .entry)) (now (stmts .entry))) t (emitBlockRam (wiresOf (now (wires .entry)) (now (places .entry))) constants owner (addressed (ramAt (now (words .entry)) at) «write_address» «read_address» «second_address»)) (stated r) (lists (now (signals .exit)) (now (exprs .exit)) (now (stmts .exit))) ⌝ }
 {
     let address = address_width(field(words, at, 1));
@@ -273,7 +273,7 @@ fn with_work(
     }
 }
 
-// Both works are checked first.
+// Both works are checked first, then that the arrays of nodes hold the words.
 fn in_work(
     signals: &mut [u32],
     exprs: &mut [u32],
@@ -299,6 +299,10 @@ fn in_work(
     }
     if values.len() < work {
         return Stated::Refused(Refusal::BufferTooShort(work));
+    }
+    let depth = field(words, at, 1);
+    if depth > 16384 {
+        return Stated::Refused(Refusal::BufferTooShort(wide(depth)));
     }
     with_work(
         signals,

@@ -4,6 +4,7 @@ pub mod distributed_ram;
 mod ports;
 mod ram_words;
 mod read_port;
+mod select;
 
 use recorder::ExprId;
 use recorder::SignalId;

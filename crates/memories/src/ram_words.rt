@@ -1,11 +1,10 @@
-// The words of a RAM: their registers' next values, and their candidates for a read.
+// The words of a RAM, and their registers.
 use crate::Port;
 use crate::RamWord;
 use crate::Second;
 use crate::Worded;
 use crate::Words;
 use address_mux::address::match_address;
-use netlist::fields::wide;
 use recorder::AsyncReset;
 use recorder::Declared;
 use recorder::Emitted;
@@ -17,11 +16,8 @@ use recorder::Tapes;
 use recorder::builder;
 ghost use mathlib.Core.Path.{_≡_};
 ghost use mathlib.Core.List.{[]};
-ghost use Prim.Native.Nat.{_≤_};
-ghost use lib.ListN.{length};
 ghost use Rattle.recorder.specs.Lists.{WroteExprs, WroteStmts, emitted, stated};
-ghost use Rattle.address_mux.specs.Candidates.{noded};
-ghost use Rattle.memories.specs.Memories.{writeWord, writeSecond, ramWord, ramWords, candidatesFrom, updateWords};
+ghost use Rattle.memories.specs.Memories.{writeWord, writeSecond, ramWord, ramWords, updateWords};
 ghost use Rattle.memories.specs.Rams.{WroteWords, writing, secondWriting, lastOf, worded, Filled, Spaced, wordsOf};
 
 // What a port makes of a word.
@@ -128,38 +124,6 @@ pub fn ram_words(
             }
             Worded::Refused(x) => return Stated::Refused(x),
         }
-        i += 1;
-    }
-    Stated::Done(now)
-}
-
-// The candidates of a read address, in two work slices.
-pub fn candidates(
-    exprs: &mut [u32],
-    parts: &mut [u32],
-    values: &mut [u32],
-    t: Tapes,
-    words: Words,
-    reads: ExprId,
-    address: u32,
-) -> Stated
-    requires { ⌜ (words .depth ≤ length (now parts)) × (words .depth ≤ length (now values)) × Spaced words ⌝ }
-    ensures { λ r. ⌜ WroteExprs (now (exprs .entry)) t (candidatesFrom (reads .0) address 0 (wordsOf words) []) (noded (words .depth) (now (parts .exit)) (now (values .exit)) r) (now (exprs .exit)) ⌝ }
-{
-    let mut current = words.current.0;
-    let mut now = t;
-    let mut i = 0;
-    while i < words.depth {
-        match match_address(exprs, now, reads, address, i) {
-            Emitted::Done(found, next) => {
-                let at = wide(i);
-                parts[at] = found.0;
-                values[at] = current;
-                now = next;
-            }
-            Emitted::Refused(x) => return Stated::Refused(x),
-        }
-        current += words.last + 1;
         i += 1;
     }
     Stated::Done(now)

@@ -3,8 +3,8 @@ use crate::RamShape;
 use crate::Second;
 use crate::Words;
 use crate::ports::first_size;
-use crate::ram_words::candidates;
-use address_mux::balanced_address_mux;
+use crate::select::select_deep;
+use crate::select::select_word;
 use netlist::Control;
 use netlist::fields::OptionalControl;
 use netlist::fields::field;
@@ -29,38 +29,11 @@ ghost use Prim.Native.Nat.{_+_, _≤_};
 ghost use lib.ListN.{length, getD};
 ghost use Rattle.netlist.specs.Fields.{wiresAt, ramAt};
 ghost use Rattle.netlist.specs.FieldForms.{presence};
-ghost use Rattle.recorder.specs.Lists.{WroteExprs, WroteStmts, emitted, stated, WroteBoth};
+ghost use Rattle.recorder.specs.Lists.{WroteStmts, stated, WroteBoth};
 ghost use Rattle.wires.specs.Wires.{wiresOf};
 ghost use Rattle.memories.specs.Memories.{emitBlockRamReadPort, emitSecondReadPort};
-ghost use Rattle.memories.specs.Rams.{reading, secondOf, wordsOf, Spaced, selectWord, readRegister};
+ghost use Rattle.memories.specs.Rams.{reading, secondOf, wordsOf, Spaced, readRegister};
 ghost use Rattle.memories.specs.Steps.{secondAt, enabledRegister};
-
-// The word at an address, or zero.
-fn select_word(
-    exprs: &mut [u32],
-    parts: &mut [u32],
-    values: &mut [u32],
-    t: Tapes,
-    made: Words,
-    reads: ExprId,
-    width: u32,
-    address: u32,
-) -> Emitted
-    requires { ⌜ (made .depth ≤ length (now parts)) × (made .depth ≤ length (now values)) × Spaced made ⌝ }
-    ensures { λ r. ⌜ WroteExprs (now (exprs .entry)) t (selectWord (reads .0) (wordsOf made) width address) (emitted r) (now (exprs .exit)) ⌝ }
-{
-    let a = builder::constant(exprs, t, width, 0);
-    let Emitted::Done(zero, t2) = a else {
-        return a;
-    };
-    match candidates(exprs, parts, values, t2, made, reads, address) {
-        Stated::Done(t3) => {
-            let n = wide(made.depth);
-            balanced_address_mux(exprs, parts, values, t3, n, width, zero)
-        }
-        Stated::Refused(x) => Emitted::Refused(x),
-    }
-}
 
 // A register that loads while a control is asserted.
 fn enabled_register(
@@ -140,7 +113,54 @@ fn read_register(
     }
 }
 
-pub fn emit_block_ram_read_port(
+// A read port of a RAM of up to 1,024 words.
+fn emit_block_ram_read_port(
+    exprs: &mut [u32],
+    stmts: &mut [u32],
+    parts: &mut [u32],
+    values: &mut [u32],
+    wires: &[u32],
+    places: &[u32],
+    t: Tapes,
+    constants: Constants,
+    made: Words,
+    shape: RamShape,
+    reads: ExprId,
+    output: u32,
+    enable: OptionalControl,
+) -> Stated
+    requires { ⌜ (made .depth ≤ length (now parts)) × (made .depth ≤ length (now values)) × Spaced made × (made .depth ≤ 1024) ⌝ }
+    ensures { λ r. ⌜ WroteBoth (now (exprs .entry)) (now (stmts .entry)) t (emitBlockRamReadPort (wiresOf (now (wires .entry)) (now (places .entry))) constants (reading (reads .0) output (presence enable)) (wordsOf made) (shape .width) (shape .address) (shape .clock .0) (shape .edge)) (stated r) (now (exprs .exit)) (now (stmts .exit)) ⌝ }
+{
+    let clock = shape.clock;
+    match select_word(
+        exprs,
+        parts,
+        values,
+        t,
+        made,
+        reads,
+        shape.width,
+        shape.address,
+    ) {
+        Emitted::Done(v, t2) => read_register(
+            stmts,
+            wires,
+            places,
+            t2,
+            constants,
+            output,
+            enable,
+            v,
+            clock,
+            shape.edge,
+        ),
+        Emitted::Refused(x) => Stated::Refused(x),
+    }
+}
+
+// The same of more words, apart so that only a deep RAM pays for the room of so many nodes.
+fn emit_deep_ram_read_port(
     exprs: &mut [u32],
     stmts: &mut [u32],
     parts: &mut [u32],
@@ -159,7 +179,7 @@ pub fn emit_block_ram_read_port(
     ensures { λ r. ⌜ WroteBoth (now (exprs .entry)) (now (stmts .entry)) t (emitBlockRamReadPort (wiresOf (now (wires .entry)) (now (places .entry))) constants (reading (reads .0) output (presence enable)) (wordsOf made) (shape .width) (shape .address) (shape .clock .0) (shape .edge)) (stated r) (now (exprs .exit)) (now (stmts .exit)) ⌝ }
 {
     let clock = shape.clock;
-    match select_word(
+    match select_deep(
         exprs,
         parts,
         values,
@@ -218,6 +238,23 @@ pub fn first_read_port(
     let offset = 43 + wide(width);
     let output = first_wire(words, at, offset, width);
     let enable = optional_control(words, at, 34);
+    if made.depth > 1024 {
+        return emit_deep_ram_read_port(
+            exprs,
+            stmts,
+            parts,
+            values,
+            wires,
+            places,
+            t,
+            constants,
+            made,
+            shape,
+            reads,
+            output,
+            enable,
+        );
+    }
     emit_block_ram_read_port(
         exprs,
         stmts,
@@ -263,6 +300,23 @@ pub fn second_read_port(
             let offset = start + (24 + wide(width));
             let output = first_wire(words, at, offset, width);
             let enable = optional_control(words, at, start + 16);
+            if made.depth > 1024 {
+                return emit_deep_ram_read_port(
+                    exprs,
+                    stmts,
+                    parts,
+                    values,
+                    wires,
+                    places,
+                    t,
+                    constants,
+                    made,
+                    shape,
+                    reads,
+                    output,
+                    enable,
+                );
+            }
             emit_block_ram_read_port(
                 exprs,
                 stmts,

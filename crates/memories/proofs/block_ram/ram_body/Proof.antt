@@ -53,7 +53,7 @@ last-of-requires c κs = search needs
 
 -- src/block_ram.rt:151:5
 reads-and-updates-requires : tie.Need-reads-and-updates-requires
-reads-and-updates-requires c κs = (omega (arith, c .before .before .before .before .before .before .before .before .before .before .before .before .before .before .before .field .ensures, c .before .before .before .before .before .before .before .before .before .before .before .before .before .before .before .before .before .before .before .before .before .before .before .before .pre .0), omega (arith, c .before .before .before .before .before .before .before .before .before .before .before .before .before .before .before .field .ensures, c .before .before .before .before .before .before .before .before .before .before .before .before .before .before .before .before .before .before .before .before .before .before .before .before .pre .1), record { signals = λ g. (c .before .before .before .before .before .before .before .before .before .before .before .before .ram-words .ensures .spaced _ (c .before .before .before .before .before .before .r .given .1) g) .0; exprs = λ g. subst (λ (k : ℕ). reach (c .before .before .before .before .before .before .before .before .before .before .before .before .before .before .before .before .before .before .before .before .before .before .before .before .args .t .exprs .count) k (c .before .before .before .before .before .before .before .before .before .before .before .before .before .before .before .field .result) ≤ 2147483648) (sym (c .before .before .before .before .last-of .ensures)) ((c .before .before .before .before .before .before .before .before .before .before .before .before .ram-words .ensures .spaced _ (c .before .before .before .before .before .before .r .given .1) g) .1) })
+reads-and-updates-requires c κs = (omega (arith, c .before .before .before .before .before .before .before .before .before .before .before .before .before .before .before .field .ensures, c .before .before .before .before .before .before .before .before .before .before .before .before .before .before .before .before .before .before .before .before .before .before .before .before .pre .0), omega (arith, c .before .before .before .before .before .before .before .before .before .before .before .before .before .before .before .field .ensures, c .before .before .before .before .before .before .before .before .before .before .before .before .before .before .before .before .before .before .before .before .before .before .before .before .pre .1), record { signals = λ g. (c .before .before .before .before .before .before .before .before .before .before .before .before .ram-words .ensures .spaced _ (c .before .before .before .before .before .before .r .given .1) g) .0; exprs = λ g. subst (λ (k : ℕ). reach (c .before .before .before .before .before .before .before .before .before .before .before .before .before .before .before .before .before .before .before .before .before .before .before .before .args .t .exprs .count) k (c .before .before .before .before .before .before .before .before .before .before .before .before .before .before .before .field .result) ≤ 2147483648) (sym (c .before .before .before .before .last-of .ensures)) ((c .before .before .before .before .before .before .before .before .before .before .before .before .ram-words .ensures .spaced _ (c .before .before .before .before .before .before .r .given .1) g) .1); few = omega (arith, c .before .before .before .before .before .before .before .before .before .before .before .before .before .before .before .field .ensures, c .before .before .before .before .before .before .before .before .before .before .before .before .before .before .before .before .before .before .before .before .before .before .before .before .pre .2) })
 
 -- src/block_ram.rt:109:1
 same-length-3 : tie.Need-same-length-3
