@@ -5,17 +5,15 @@ use crate::input::wide;
 use lines::records::put_refused;
 use text::Place;
 use text::flush;
-ghost use mathlib.Core.Path.{_≡_};
-ghost use Prim.Native.Nat.{_≤_};
 
 // Where the next byte goes, and which byte of what is shown comes next.
-pub struct Spot {
-    pub at: usize,
-    pub next: usize,
+struct Spot {
+    at: usize,
+    next: usize,
 }
 
 // A sum that stops at the largest number.
-pub fn plus(a: usize, b: usize) -> usize {
+fn plus(a: usize, b: usize) -> usize {
     if a <= 18446744073709551615 - b {
         a + b
     } else {
@@ -24,7 +22,7 @@ pub fn plus(a: usize, b: usize) -> usize {
 }
 
 // One byte more; a full buffer is written out first.
-pub fn put(out: &mut [u8], at: usize, byte: u8) -> usize {
+fn put(out: &mut [u8], at: usize, byte: u8) -> usize {
     if at < out.len() {
         out[at] = byte;
         return at + 1;
@@ -38,7 +36,7 @@ pub fn put(out: &mut [u8], at: usize, byte: u8) -> usize {
 }
 
 // A refusal as a line of its own.
-pub fn put_refusal(out: &mut [u8], at: usize, number: usize, place: usize) -> usize {
+fn put_refusal(out: &mut [u8], at: usize, number: usize, place: usize) -> usize {
     flush(out, at);
     let r = put_refused(out, 0, number, place);
     let Place::At(end) = r else {
@@ -48,7 +46,7 @@ pub fn put_refusal(out: &mut [u8], at: usize, number: usize, place: usize) -> us
 }
 
 // The digit of a byte of what is shown; none that is missing is one.
-pub fn digit(shown: &[u8], i: usize) -> u8 {
+fn digit(shown: &[u8], i: usize) -> u8 {
     if i < shown.len() {
         if shown[i] == 1 {
             return b'1';
@@ -70,7 +68,7 @@ fn put_port(out: &mut [u8], spot: Spot, shown: &[u8], width: usize) -> Spot {
 }
 
 // A word of a list, 0 behind its end.
-pub fn word(list: &[u32], i: usize) -> u32 {
+fn word(list: &[u32], i: usize) -> u32 {
     if i < list.len() { list[i] } else { 0 }
 }
 
@@ -133,7 +131,7 @@ pub fn output_total(signals: &[u32]) -> usize {
     sum
 }
 
-pub fn answer(answers: &[u64], i: usize) -> usize {
+fn answer(answers: &[u64], i: usize) -> usize {
     if i < answers.len() {
         answers[i] as usize
     } else {
