@@ -17,7 +17,7 @@ done
 python3 address_mux.py | cmp - ../crates/cases_nodes/stdout
 ./simulate-vectors.sh "$new/cases" > /dev/null
 for file in stdin stdout; do
-    cmp "$new/cases/$file" "../crates/cases_simulate/$file"
+    cmp "$new/cases/$file" "../crates/simulate/$file"
 done
 echo "answers as stored"
 cargo test --release --offline -j1 --quiet > "$new/tests" 2>&1 || { cat "$new/tests"; exit 1; }

@@ -1,17 +1,17 @@
 #!/bin/sh
-# compare-simulate.sh [BATCHES [CASES [TICKS [WORDS]]]]: the proved lowering and run (target/bin/cases_simulate) against the independent simulators,
+# compare-simulate.sh [BATCHES [CASES [TICKS [WORDS]]]]: the proved lowering and run (target/bin/simulate --batch) against the independent simulators,
 # on batches of random netlists of at most WORDS words and random ticks, seeds from 1 on; every line. Needs oracle/build.sh and rt check.
 # PROGRAM, if set, is run instead of it.
 set -e
 cd "$(dirname "$0")"
 batches=${1:-20} cases=${2:-5000} ticks=${3:-40} words=${4:-16384}
-program=${PROGRAM:-../target/bin/cases_simulate}
+program=${PROGRAM:-../target/bin/simulate}
 work=$(mktemp -d)
 trap 'rm -rf "$work"' EXIT
 seed=1
 while [ "$seed" -le "$batches" ]; do
     target/release/simulate-cases "$seed" "$cases" "$ticks" "$words" "$work/batch" "$work/expected" >> "$work/tally"
-    $program < "$work/batch" > "$work/got"
+    $program --batch < "$work/batch" > "$work/got"
     cmp "$work/expected" "$work/got"
     seed=$((seed + 1))
 done

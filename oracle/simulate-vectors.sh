@@ -1,11 +1,11 @@
 #!/bin/sh
-# simulate-vectors.sh [DIRECTORY]: the runs that the gate replays (crates/cases_simulate/stdin, stdout), made again without the proved program.
-# Cases with answers by hand, random ones by the independent simulators, one-cell netlists by Yosys' cell models (answers/yosys.txt), designs by
+# simulate-vectors.sh [DIRECTORY]: the runs that the gate replays (crates/simulate/stdin, stdout), made again without the proved program.
+# An example, cases with answers by hand, random ones by the independent simulators, one-cell netlists by Yosys' cell models (answers/yosys.txt), designs by
 # Icarus Verilog (answers/design.*, made by yosys/design.sh). Needs build.sh. In the end the oracle's `simulate` must say the same of them all.
 set -eu
 cd "$(dirname "$0")"
 bin=target/release
-to=${1:-../crates/cases_simulate}
+to=${1:-../crates/simulate}
 mkdir -p "$to"
 work=$(mktemp -d)
 trap 'rm -rf "$work"' EXIT
@@ -51,10 +51,13 @@ hand "1 1, 1 0 0, 1" "refused 3 0"
 # the netlist is refused whatever the ticks are
 hand "1 1, 9 9 9, 5, 0 0 1, 0 0 0 0" "refused 4 0"
 
+python3 ../tools/words.py asm-ticks ../examples/counter.txt ../examples/counter.ticks > "$work/one.bin"
+$bin/words $(($(wc -c < "$work/one.bin") / 4)) | cat - "$work/one.bin" > "$work/example.bin"
+
 $bin/simulate-cases 1 700 20 3000 "$work/random.bin" "$work/random.txt" > "$work/tally"
 yosys/cases.py answers/yosys.txt "$work/yosys.bin" "$work/yosys.txt"
-cat "$work/hand.bin" "$work/random.bin" "$work/yosys.bin" answers/design.bin > "$to/stdin"
-cat "$work/hand.txt" "$work/random.txt" "$work/yosys.txt" answers/design.txt > "$to/stdout"
+cat "$work/example.bin" "$work/hand.bin" "$work/random.bin" "$work/yosys.bin" answers/design.bin > "$to/stdin"
+cat ../examples/counter.shown "$work/hand.txt" "$work/random.txt" "$work/yosys.txt" answers/design.txt > "$to/stdout"
 $bin/simulate --batch < "$to/stdin" | cmp "$to/stdout" -
 cat "$work/tally"
 echo "$(wc -c < "$to/stdin") bytes of cases, $(wc -l < "$to/stdout") lines"

@@ -1,10 +1,12 @@
 #!/bin/sh
-# What the programs answer to input that is too long, or not in whole words. Needs `rt check`.
+# What the programs answer to input that is too long, too short, or not in whole words. Needs `rt check`.
 set -eu
 cd "$(dirname "$0")/.."
-try() { # EXPECTED PROGRAM, bytes on standard input
-    got=$("target/bin/$2" | head -c 100)
-    [ "$got" = "$1" ] || { echo "$2: $got, not $1"; exit 1; }
+try() { # EXPECTED PROGRAM [ARGUMENT], bytes on standard input
+    expected=$1
+    shift
+    got=$("target/bin/$@" | head -c 100)
+    [ "$got" = "$expected" ] || { echo "$*: $got, not $expected"; exit 1; }
 }
 zeros() { head -c "$1" /dev/zero; }
 zeros 0 | try 'refused 3 0' lower
@@ -20,4 +22,11 @@ zeros 24 | try '' simulate
 zeros 25 | try 'refused 3 0' simulate
 zeros 262156 | try 'refused 3 0' simulate
 printf '\001\000\000\000\000\000\000\000\000\000\000\000' | try 'refused 3 0' simulate
+zeros 3 | try '' simulate --batch
+zeros 4 | try 'refused 3 0' simulate --batch
+{ printf '\006\000\000\000'; zeros 20; } | try 'refused 3 0' simulate --batch
+{ printf '\006\000\000\000'; zeros 24; } | try '' simulate --batch
+{ printf '\002\000\001\000'; zeros 262152; } | try 'refused 4 0' simulate --batch
+# a case that is too long is passed over, and the next follows
+{ printf '\003\000\001\000'; zeros 262156; printf '\002\000\001\000'; zeros 262152; } | try "$(printf 'refused 3 0\nrefused 4 0')" simulate --batch
 echo "programs: ok"

@@ -8,6 +8,7 @@ use listing::put_signals;
 use listing::put_statements;
 use recorder::Tape;
 use recorder::Tapes;
+use recorder::words::zero_words;
 use refusal::Refusal;
 use text::Place;
 use text::flush;
@@ -15,7 +16,7 @@ use text::put_byte;
 use words::words_of;
 ghost use Rattle.io.specs.Counts.{Counts};
 ghost use Rattle.recorder.specs.Lists.{lists};
-ghost use Rattle.lower.specs.Entry.{LowersWords, LowersBytes};
+ghost use Rattle.lower.specs.Entry.{LowersWords, Unread, LowersBytes};
 
 // The model's lists, or the refusal. Works are this program's own.
 fn lower_words(words: &[u32], signals: &mut [u32], exprs: &mut [u32], stmts: &mut [u32]) -> Lowered
@@ -39,15 +40,25 @@ fn lower_words(words: &[u32], signals: &mut [u32], exprs: &mut [u32], stmts: &mu
     )
 }
 
+// Bytes that are no words: the lists are left zeros, as with any refusal.
+fn refuse_bytes(signals: &mut [u32], exprs: &mut [u32], stmts: &mut [u32]) -> Lowered
+    ensures { λ r. ⌜ Unread (lists (now (signals .entry)) (now (exprs .entry)) (now (stmts .entry))) r (lists (now (signals .exit)) (now (exprs .exit)) (now (stmts .exit))) ⌝ }
+{
+    zero_words(signals);
+    zero_words(exprs);
+    zero_words(stmts);
+    Lowered::Refused(Refusal::BadTrailer)
+}
+
 // A netlist has 65,536 bytes at most, in whole words.
 fn lower_bytes(bytes: &[u8], signals: &mut [u32], exprs: &mut [u32], stmts: &mut [u32]) -> Lowered
     ensures { λ r. ⌜ LowersBytes (now (bytes .entry)) (lists (now (signals .entry)) (now (exprs .entry)) (now (stmts .entry))) r (lists (now (signals .exit)) (now (exprs .exit)) (now (stmts .exit))) ⌝ }
 {
     if 65536 < bytes.len() {
-        return Lowered::Refused(Refusal::BadTrailer);
+        return refuse_bytes(signals, exprs, stmts);
     }
     if bytes.len() % 4 != 0 {
-        return Lowered::Refused(Refusal::BadTrailer);
+        return refuse_bytes(signals, exprs, stmts);
     }
     let mut words = [0u32; 16384];
     let n = words_of(bytes, &mut words);

@@ -1,50 +1,43 @@
 // Reads a list of ticks and a netlist from standard input, and prints what the output ports show after each tick, or the refusal.
-// docs/SIMULATE.md says how both are laid out.
+// docs/SIMULATE.md says how both are laid out, and what the arguments --vcd and --batch ask for.
+mod batch; // several lists of ticks, each with its netlist
+mod input; // what both ways of reading share
+mod session; // a netlist and ticks, lowered, run and printed
+mod tick_text; // what a list of ticks shows, printed
+
+use batch::replay_all;
+use input::most;
+use input::read_bits;
+use input::refuse;
+use input::wide;
 use session::run;
-use tick_text::print_refusal;
-use tick_text::print_ticks;
-use tick_text::read_bits;
 use words::read_words;
 use words::words_of;
-ghost use mathlib.Core.Path.{_≡_};
-ghost use Rattle.io.specs.Counts.{Counts};
 
-fn wide(x: u32) -> usize
-    ensures { λ r. ⌜ r ≡ x ⌝ }
-{
-    x as usize
-}
-
-fn most(list: &[u8], n: usize) -> usize
-    ensures { λ r. ⌜ Counts r (now (list .entry)) ⌝ }
-{
-    if n <= list.len() { n } else { 0 }
-}
-
-// The program was started with the one argument --vcd.
-fn wants_vcd() -> bool {
-    let mut word = [0u8; 6];
-    let n = os::arg(1, &mut word);
-    if n != 5 {
+fn same(a: &[u8], b: &[u8]) -> bool {
+    let n = a.len();
+    if b.len() != n {
         return false;
     }
-    if word[2] != b'v' {
-        return false;
+    let mut i = 0;
+    while i < n {
+        if a[i] != b[i] {
+            return false;
+        }
+        i += 1;
     }
-    if word[3] != b'c' {
-        return false;
-    }
-    word[4] == b'd'
+    true
 }
 
-fn refuse() -> bool {
-    let mut out = [0u8; 64];
-    print_refusal(&mut out, 3, 0)
+// The program's first argument is this one, of at most seven letters.
+fn asked(argument: &[u8]) -> bool {
+    let mut first = [0u8; 8];
+    let n = os::arg(1, &mut first);
+    same(&first[..n], argument)
 }
 
 // The netlist: what is left of the input, at most 65,536 words, in whole words.
-fn run_netlist(input: &mut [u8], heads: &[u32], bits: &[u8]) -> bool {
-    let mut words = [0u32; 65536];
+fn run_netlist(input: &mut [u8], words: &mut [u32], heads: &[u32], bits: &[u8]) -> bool {
     let n = io::read_full(0, input);
     if 262144 < n {
         return refuse();
@@ -52,41 +45,62 @@ fn run_netlist(input: &mut [u8], heads: &[u32], bits: &[u8]) -> bool {
     if n % 4 != 0 {
         return refuse();
     }
-    let k = words_of(&input[..n], &mut words);
-    run(&words[..k], heads, bits, wants_vcd())
+    let k = words_of(&input[..n], words);
+    run(&words[..k], heads, bits, asked(b"--vcd"))
 }
 
 // The bits of all ticks.
-fn run_bits(input: &mut [u8], heads: &[u32], count: usize) -> bool {
-    let mut bits = [0u8; 262144];
-    if !read_bits(&mut bits, count) {
+fn run_bits(
+    input: &mut [u8],
+    words: &mut [u32],
+    heads: &[u32],
+    bits: &mut [u8],
+    count: usize,
+) -> bool {
+    if !read_bits(bits, count) {
         return refuse();
     }
-    let n = most(&bits, count);
-    run_netlist(input, heads, &bits[..n])
+    let n = most(bits, count);
+    run_netlist(input, words, heads, &bits[..n])
 }
 
 // Three words for each tick.
-fn run_heads(input: &mut [u8], ticks: usize, count: usize) -> bool {
-    let mut heads = [0u32; 12288];
+fn run_heads(
+    input: &mut [u8],
+    words: &mut [u32],
+    heads: &mut [u32],
+    bits: &mut [u8],
+    ticks: usize,
+    count: usize,
+) -> bool {
     if 4096 < ticks {
         return refuse();
     }
-    let n = read_words(input, &mut heads, 3 * ticks);
+    let n = read_words(input, heads, 3 * ticks);
     if n != 3 * ticks {
         return refuse();
     }
-    run_bits(input, &heads[..n], count)
+    run_bits(input, words, &heads[..n], bits, count)
 }
 
 // Two leading words: the number of ticks, and of all their bits.
+fn run_one(input: &mut [u8], words: &mut [u32], heads: &mut [u32], bits: &mut [u8]) -> bool {
+    let mut lead = [0u32; 2];
+    if read_words(input, &mut lead, 2) != 2 {
+        return refuse();
+    }
+    run_heads(input, words, heads, bits, wide(lead[0]), wide(lead[1]))
+}
+
+// Both ways of reading are lent the same buffers: the stack has no room for two of each.
 fn main() {
     let mut input = [0u8; 262148];
-    let mut lead = [0u32; 2];
-    let k = read_words(&mut input, &mut lead, 2);
-    if k != 2 {
-        refuse();
+    let mut words = [0u32; 65536];
+    let mut heads = [0u32; 12288];
+    let mut bits = [0u8; 262144];
+    if asked(b"--batch") {
+        replay_all(&mut input, &mut words, &mut heads, &mut bits, 4294967295);
         return;
     }
-    run_heads(&mut input, wide(lead[0]), wide(lead[1]));
+    run_one(&mut input, &mut words, &mut heads, &mut bits);
 }

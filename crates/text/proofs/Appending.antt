@@ -1,8 +1,9 @@
--- Laws of text put into a buffer: one text after another, and a loop that puts bytes.
+-- Laws of text put into a buffer: one text after another, a loop that puts bytes, and bytes sent outside.
 -- Assumes nothing.
 use mathlib.Core.Path.{_≡_, refl, ap, ap₂, sym, _∙_, subst}
 use mathlib.Core.Bool.{Bool, true, false, cond}
 use mathlib.Core.List.{List, [], _∷_, _++_}
+use mathlib.Core.Option.{none, some}
 use Prim.Native.Nat.{ℕ, zero, suc, _+_, _≤_, _<_}
 use native.Mathlib.Nat.{add-zero, add-suc, suc-add}
 use native.Mathlib.Numerals.{add-one}
@@ -13,33 +14,33 @@ use lib.Seq.{sets, length-sets, drop-cons, set-out}
 use borrow.Author.Tests.{le-leb, lt-leb, leb-true, leb-false}
 use Rattle.text.specs.declared.Place.{Place}
 use Rattle.text.specs.declared.Place.the-variants.{At, Full}
-use Rattle.text.specs.Text.{placeOf, textIn, Appended}
+use Rattle.text.specs.Text.{endOf, endIn, textIn, Appended, Flushed}
 
-pub place-at : (len at n : ℕ) → at + n ≤ len → At (at + n) ≡ placeOf len at n
-unfolding placeOf
-place-at len at n h = sym (ap (λ (b : Bool). cond b (At (at + n)) Full) (le-leb (at + n) len h))
+pub end-at : (len at n : ℕ) → at + n ≤ len → some (at + n) ≡ endIn len at n
+unfolding endIn
+end-at len at n h = sym (ap (λ (b : Bool). cond b (some (at + n)) none) (le-leb (at + n) len h))
 
-pub place-full : (len at n : ℕ) → len < at + n → Full ≡ placeOf len at n
-unfolding placeOf
-place-full len at n h = sym (ap (λ (b : Bool). cond b (At (at + n)) Full) (lt-leb (at + n) len h))
+pub end-none : (len at n : ℕ) → len < at + n → none ≡ endIn len at n
+unfolding endIn
+end-none len at n h = sym (ap (λ (b : Bool). cond b (some (at + n)) none) (lt-leb (at + n) len h))
 
-place-same : (len a m b n : ℕ) → a + m ≡ b + n → placeOf len a m ≡ placeOf len b n
-unfolding placeOf
-place-same len a m b n e = ap (λ (k : ℕ). cond (leb k len) (At k) Full) e
+end-same : (len a m b n : ℕ) → a + m ≡ b + n → endIn len a m ≡ endIn len b n
+unfolding endIn
+end-same len a m b n e = ap (λ (k : ℕ). cond (leb k len) (some k) none) e
 
-pub at-place : (len at n : ℕ) {m : ℕ} → At m ≡ placeOf len at n → (m ≡ at + n) × (at + n ≤ len)
-unfolding placeOf
-at-place len at n {m} q = go (leb (at + n) len) refl q
+pub at-end : (len at n : ℕ) {m : ℕ} → some m ≡ endIn len at n → (m ≡ at + n) × (at + n ≤ len)
+unfolding endIn
+at-end len at n {m} q = go (leb (at + n) len) refl q
   where
-    go : (b : Bool) → leb (at + n) len ≡ b → At m ≡ cond b (At (at + n)) Full → (m ≡ at + n) × (at + n ≤ len)
+    go : (b : Bool) → leb (at + n) len ≡ b → some m ≡ cond b (some (at + n)) none → (m ≡ at + n) × (at + n ≤ len)
     go true e q = (cc, leb-true (at + n) len e)
     go false e q = let z : _≡_ {A = ℕ} 0 1 = cc in absurd (omega arith)
 
-pub full-place : (len at n : ℕ) → Full ≡ placeOf len at n → len < at + n
-unfolding placeOf
-full-place len at n q = go (leb (at + n) len) refl q
+pub at-none : (len at n : ℕ) → none ≡ endIn len at n → len < at + n
+unfolding endIn
+at-none len at n q = go (leb (at + n) len) refl q
   where
-    go : (b : Bool) → leb (at + n) len ≡ b → Full ≡ cond b (At (at + n)) Full → len < at + n
+    go : (b : Bool) → leb (at + n) len ≡ b → none ≡ cond b (some (at + n)) none → len < at + n
     go true e q = let z : _≡_ {A = ℕ} 0 1 = cc in absurd (omega arith)
     go false e q = leb-false (at + n) len e
 
@@ -65,26 +66,26 @@ pub appended-none : {out : List ℕ} {at : ℕ} → at ≤ length out → Append
 unfolding textIn
 appended-none {out} {at} h =
     let z : at ≡ at + 0 = omega arith in
-    record { said = ap At z ∙ place-at (length out) at 0 (omega arith); held = refl }
+    record { said = ap some z ∙ end-at (length out) at 0 (omega arith); held = refl }
 
 module _ {out : List ℕ} {at : ℕ} {bs : List ℕ} {r : Place} {out₁ : List ℕ} (first : Appended out at bs r out₁) where
   -- all of the first fitted: the second goes behind it
   pub then-text : {m : ℕ} {cs : List ℕ} {r₂ : Place} {out₂ : List ℕ} → r ≡ At m → Appended out₁ m cs r₂ out₂ → Appended out at (bs ++ cs) r₂ out₂
   then-text {m} {cs} {r₂} {out₂} q second =
-      let p = at-place (length out) at (length bs) (sym q ∙ first .said) in
+      let p = at-end (length out) at (length bs) (sym (ap endOf q) ∙ first .said) in
       let l : length out₁ ≡ length out = ap length (first .held) ∙ length-text bs out at in
       let n : m + length cs ≡ at + length (bs ++ cs) = omega (arith, p .0, length-append bs cs) in
       record {
-        said = second .said ∙ ap (λ (k : ℕ). placeOf k m (length cs)) l ∙ place-same (length out) m (length cs) at (length (bs ++ cs)) n;
+        said = second .said ∙ ap (λ (k : ℕ). endIn k m (length cs)) l ∙ end-same (length out) m (length cs) at (length (bs ++ cs)) n;
         held = second .held ∙ ap₂ (λ (x : List ℕ) (k : ℕ). textIn x k cs) (first .held) (p .0) ∙ text-append bs cs out at;
       }
 
   -- not all of it fitted: nothing of what follows does
   pub then-none : (cs : List ℕ) → r ≡ Full → Appended out at (bs ++ cs) Full out₁
   then-none cs q =
-      let p : length out < at + length bs = full-place (length out) at (length bs) (sym q ∙ first .said) in
+      let p : length out < at + length bs = at-none (length out) at (length bs) (sym (ap endOf q) ∙ first .said) in
       record {
-        said = place-full (length out) at (length (bs ++ cs)) (omega (arith, length-append bs cs));
+        said = end-none (length out) at (length (bs ++ cs)) (omega (arith, length-append bs cs));
         held = first .held ∙ sym (text-past cs (textIn out at bs) (at + length bs) (omega (arith, length-text bs out at))) ∙ text-append bs cs out at;
       }
 
@@ -98,7 +99,7 @@ appended-as {out} {at} {r = r} {out′ = out′} e h = subst (λ (x : List ℕ).
 -- one byte
 pub appended-byte : {out : List ℕ} {at : ℕ} (b : ℕ) → at < length out → Appended out at (b ∷ []) (At (at + 1)) (set out at b)
 unfolding textIn
-appended-byte {out} {at} b h = record { said = place-at (length out) at 1 (omega arith); held = refl }
+appended-byte {out} {at} b h = record { said = end-at (length out) at 1 (omega arith); held = refl }
 
 -- A LOOP THAT PUTS BYTES: what is left to put
 
@@ -115,11 +116,19 @@ copy-end out at bs i h = ap (λ (r : List ℕ). sets out (at + i) r) (drop-of-le
 
 module _ {out₀ : List ℕ} {at : ℕ} {bs out : List ℕ} where
   pub appended-all : (i : ℕ) → textIn out (at + i) (drop i bs) ≡ textIn out₀ at bs → length bs ≤ i → at + length bs ≤ length out₀ → Appended out₀ at bs (At (at + length bs)) out
-  appended-all i h g f = record { said = place-at (length out₀) at (length bs) f; held = sym (copy-end out at bs i g) ∙ h }
+  appended-all i h g f = record { said = end-at (length out₀) at (length bs) f; held = sym (copy-end out at bs i g) ∙ h }
 
   pub appended-cut : (i : ℕ) → textIn out (at + i) (drop i bs) ≡ textIn out₀ at bs → length out ≤ at + i → length out₀ < at + length bs → Appended out₀ at bs Full out
-  appended-cut i h g f = record { said = place-full (length out₀) at (length bs) f; held = sym (text-past (drop i bs) out (at + i) g) ∙ h }
+  appended-cut i h g f = record { said = end-none (length out₀) at (length bs) f; held = sym (text-past (drop i bs) out (at + i) g) ∙ h }
 
 -- nothing fits at this place
 pub appended-past : {out : List ℕ} {at : ℕ} (bs : List ℕ) → length out ≤ at → length out < at + length bs → Appended out at bs Full out
-appended-past {out} {at} bs h g = record { said = place-full (length out) at (length bs) g; held = sym (text-past bs out at h) }
+appended-past {out} {at} bs h g = record { said = end-none (length out) at (length bs) g; held = sym (text-past bs out at h) }
+
+-- BYTES SENT OUTSIDE
+
+pub flushed : {out : List ℕ} {at : ℕ} {b : Bool} → at ≤ length out → Flushed out at b
+flushed {out} {at} {b} h = record { taken = b; said = sym (ap (λ (c : Bool). cond c b false) (le-leb at (length out) h)) }
+
+pub flushed-none : {out : List ℕ} {at : ℕ} → length out < at → Flushed out at false
+flushed-none {out} {at} h = record { taken = false; said = sym (ap (λ (c : Bool). cond c false false) (lt-leb at (length out) h)) }

@@ -7,8 +7,8 @@ use native.Mathlib.Omega.{arith}
 use lib.ListN.{length}
 use Rattle.text.specs.declared.Place.{Place}
 use Rattle.text.specs.declared.Place.the-variants.{At, Full}
-use Rattle.text.specs.Text.{Appended}
-use Rattle.text.proofs.Appending.{at-place, length-text, then-text, then-full, appended-none}
+use Rattle.text.specs.Text.{endOf, Appended}
+use Rattle.text.proofs.Appending.{at-end, length-text, then-text, then-full, appended-none}
 
 -- whoever puts the rest at this place has put the whole
 pub record Going (out₀ : List ℕ) (at₀ : ℕ) (whole : List ℕ) (out : List ℕ) (at : ℕ) (rest : List ℕ) : Type 0 where
@@ -27,7 +27,7 @@ module _ {out₀ : List ℕ} {at₀ : ℕ} {whole : List ℕ} {out : List ℕ} {
   -- a part was put
   pub going-step : {bs rest : List ℕ} {r : Place} {out′ : List ℕ} {m : ℕ} → Going out₀ at₀ whole out at (bs ++ rest) → Appended out at bs r out′ → r ≡ At m → Going out₀ at₀ whole out′ m rest
   going-step {bs} {rest} {r} {out′} {m} g a q =
-      let p = at-place (length out) at (length bs) (sym q ∙ a .said) in
+      let p = at-end (length out) at (length bs) (sym (ap endOf q) ∙ a .said) in
       let l : length out′ ≡ length out = ap length (a .held) ∙ length-text bs out at in
       record {
         within = omega (arith, p .0, p .1);

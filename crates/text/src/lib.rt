@@ -1,7 +1,7 @@
 // Text into a lent buffer. What does not fit is cut off at the buffer's end, and the answer says so.
 use libc::STDOUT_FILENO;
 ghost use mathlib.Core.List.{[], _∷_};
-ghost use Rattle.text.specs.Text.{Appended};
+ghost use Rattle.text.specs.Text.{Appended, Flushed};
 ghost use Rattle.text.specs.Decimal.{decimal};
 
 // The place behind what was put, or that not all of it fitted.
@@ -51,7 +51,9 @@ pub fn put_decimal(out: &mut [u8], at: usize, n: u64) -> Place
 }
 
 // Writes the bytes before a place to standard output, and answers whether all were written.
-pub fn flush(out: &[u8], at: usize) -> bool {
+pub fn flush(out: &[u8], at: usize) -> bool
+    ensures { λ r. ⌜ Flushed (now (out .entry)) at r ⌝ }
+{
     if at <= out.len() {
         io::write_all(STDOUT_FILENO, &out[..at])
     } else {

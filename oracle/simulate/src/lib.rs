@@ -12,7 +12,7 @@ use netlist::{Direction, Limits, Netlist};
 /// at least these.
 pub const LISTS: [usize; 3] = [16_384, 262_144, 65_536];
 /// The most words of a netlist, ticks, and bits of all ticks together.
-pub const NETLIST: usize = 16_384;
+pub const NETLIST: usize = 65_536;
 pub const TICKS: usize = 4_096;
 pub const BITS: usize = 262_144;
 /// The most bits of all signals, of all expressions, and of all outputs over all
