@@ -27,6 +27,8 @@ def check_line(where, line):
     for m in re.finditer(r'(?<![\w./])([a-z_]+)/(?:(specs|proofs)/)?([A-Z]\w*)((?:,? (?:\(?and )?`[^`]+`)*)', line):
         crate, part, name, rest = m.groups()
         if crate not in crates:
+            if rest:
+                say(where, f'no crate {crate}')
             continue
         file = root / 'crates' / crate / (part or 'specs') / f'{name}.antt'
         if not file.exists():
@@ -40,16 +42,21 @@ def check_line(where, line):
     for m in re.finditer(r'(?<![\w:])([a-z_]+)::((?:\w+::)*)(?:\{([^}]*)\}|(\w+))', line):
         crate, _, several, one = m.groups()
         if crate not in crates:
+            if crate not in ('std', 'io', 'os', 'libc', 'check', 'u32'):
+                say(where, f'no crate {crate}')
             continue
         text = '\n'.join(f.read_text() for f in (root / 'crates' / crate / 'src').rglob('*.rt'))
         for wanted in [w.strip() for w in (several or one).split(',')]:
             if not re.search(rf'\b(?:fn|struct|enum|const|mod) {re.escape(wanted)}\b', text):
                 say(where, f'{crate} has no {wanted}')
-    for m in re.finditer(r'(must-fail|edits/(\w+):) ((?:\w+(?:, )?)+)', line):
+    for m in re.finditer(r'(must-fail|edits/(\w+):) ((?:\w+(?: \([^)]*\))?(?:, )?)+)', line):
         folder = f'edits/{m[2]}' if m[2] else 'crates/*/must-fail'
-        for wanted in re.findall(r'\w*_\w*', m[3]):
+        for wanted, of in re.findall(r'(\w*_\w*)(?: \(([^)]*)\))?', m[3]):
             if not list(root.glob(f'{folder}/{wanted}.edit')) and not list(root.glob(f'edits/*/{wanted}.edit')):
                 say(where, f'no edit {wanted}')
+            for crate in re.findall(r'\w+', of.replace('edits/', '')):
+                if crate != 'edits' and not list(root.glob(f'crates/{crate}/must-fail/{wanted}.edit')) and not list(root.glob(f'edits/{crate}/{wanted}.edit')):
+                    say(where, f'no edit {wanted} of {crate}')
 
 
 for document in ('REQUIREMENTS', 'ARCHITECTURE', 'DECISIONS'):
