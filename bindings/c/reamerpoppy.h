@@ -52,7 +52,8 @@ size_t reamerpoppy_run(
     uint64_t *answer, size_t answer_len);
 
 /* A netlist and a list of ticks from signals of zeros. `heads` has three words a tick: how many bits, `fires`, `signal`; `bits` has the bits of all.
- * `answers` gets two numbers a tick, number and place of its refusal or zeros; `shown` the output ports' bits after each tick.
+ * `answers` gets two numbers a tick, number and place of its refusal (14, 13) or zeros; `shown` the output ports' bits after each tick, as they stood
+ * where it was refused. The whole is refused for the netlist or a short buffer. A head that asks for more bits than are left is a tick with a wrong count.
  * It is fast where wires and places have a word more than there are expressions, parts and values one more than signals, banks nine
  * for each expression and three for each signal, and work_bits a byte for each bit of all expressions and signals. */
 size_t reamerpoppy_simulate(

@@ -1,6 +1,6 @@
 //! Small netlists by hand. bindings/compare has random ones.
 
-use reamerpoppy::{Fired, List, Model, Refusal, Tick, calls, lower, lower_within, simulate};
+use reamerpoppy::{Buffers, Fired, List, Model, Refusal, Tick, calls, lower, lower_within, simulate};
 
 /// Two input bits, one output bit, a LUT4 between them: and.
 const AND: [u32; 18] = [0, 2, 2, 3, 1, 1, 4, 0, 2, 3, 0, 0, 2, 8, 0, 2, 7, 1];
@@ -99,6 +99,16 @@ fn refusals() {
     let around = [1, 1, 2, 0, 2, 2, 2, 2, 0, 21_845, 0, 1, 3, 1];
     let looped = lower(&around).unwrap();
     assert_eq!(looped.run(&mut looped.start(), &[], Fired::Nothing), Err(refusal(13, 1)));
+    // In a list too each tick has its own answer: its faults first, then the loop.
+    let faulty = Tick { bits: vec![1], ..Tick::default() };
+    let shown = simulate(&around, &[Tick::default(), faulty, Tick::default()]).unwrap();
+    let answers = shown.ticks().map(|tick| tick.map(|_| ())).collect::<Vec<_>>();
+    assert_eq!(answers, [Err(refusal(13, 1)), Err(refusal(14, 0)), Err(refusal(13, 1))]);
+    // A head that asks for two bits where one is left, though the netlist has one input.
+    let copy = [0, 1, 2, 1, 1, 2, 0, 2, 6, 0];
+    let mut buffers = Buffers::new(&lower(&copy).unwrap(), 1);
+    buffers.simulate(&copy, &[2, 0, 0], &[1]).unwrap();
+    assert_eq!(buffers.answers, [14, 1]);
 
     // What the library is not lent, and a state that is none.
     let mut answer = [1; 8];
