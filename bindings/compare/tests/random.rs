@@ -47,7 +47,11 @@ fn models_of_lowering() {
 fn lists_of_ticks_and_single_ticks() {
     let (mut tally, mut ticked) = (Tally::default(), Tally::default());
     for index in 0..2_500 {
-        let case = Case::draw(9, index, 12);
+        let mut case = Case::draw(9, index, 12);
+        // The safe Rust writes the heads: none asks for bits that are not there.
+        for tick in &mut case.ticks {
+            tick.asked = tick.bits.len() as u32;
+        }
         if !case.fits() {
             continue;
         }
@@ -64,7 +68,7 @@ fn lists_of_ticks_and_single_ticks() {
             }
         }
     }
-    tally.has([0, 3, 4, 5, 7, 8, 9, 11, 13]);
+    tally.has([0, 3, 4, 5, 7, 8, 9, 11]);
     ticked.has([0, 13, 14]);
 }
 
