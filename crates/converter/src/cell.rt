@@ -7,10 +7,60 @@ use netlist::fields::field;
 use recorder::Stated;
 use recorder::Tapes;
 use wires::Constants;
-ghost use Rattle.netlist.specs.Fields.{cellAt};
+ghost use mathlib.Core.Path.{_≡_};
+ghost use mathlib.Core.Logic.{_⊎_};
+ghost use Rattle.netlist.specs.Fields.{wordAt, cellAt};
 ghost use Rattle.wires.specs.Wires.{wiresOf};
 ghost use Rattle.recorder.specs.Lists.{lists};
 ghost use Rattle.converter.specs.Emits.{EmitsCell, EmitsCells};
+
+// A RAM. It is called from two places, so that the compiler keeps its code out of the loop over all cells.
+fn emit_ram(
+    signals: &mut [u32],
+    exprs: &mut [u32],
+    stmts: &mut [u32],
+    parts: &mut [u32],
+    values: &mut [u32],
+    wires: &[u32],
+    places: &[u32],
+    t: Tapes,
+    constants: Constants,
+    owner: u32,
+    words: &[u32],
+    at: usize,
+) -> Stated
+    requires { ⌜ (wordAt (now words) at ≡ 6) ⊎ (wordAt (now words) at ≡ 7) ⌝ }
+    ensures { λ r. ⌜ EmitsCell (lists (now (signals .entry)) (now (exprs .entry)) (now (stmts .entry))) (now (parts .entry)) (now (values .entry)) t (wiresOf (now (wires .entry)) (now (places .entry))) constants owner (cellAt (now (words .entry)) at) r (lists (now (signals .exit)) (now (exprs .exit)) (now (stmts .exit))) ⌝ }
+{
+    if field(words, at, 0) == 6 {
+        return block_ram_cell(
+            signals,
+            exprs,
+            stmts,
+            parts,
+            values,
+            wires,
+            places,
+            t,
+            constants,
+            owner,
+            words,
+            at,
+        );
+    }
+    distributed_ram_cell(
+        signals,
+        exprs,
+        stmts,
+        wires,
+        places,
+        t,
+        constants,
+        owner,
+        words,
+        at,
+    )
+}
 
 // The cell at an index; `owner` is its number. Both works, `parts` and `values`, have 16,384 words or more.
 fn emit_cell(
@@ -30,8 +80,8 @@ fn emit_cell(
     ensures { λ r. ⌜ EmitsCell (lists (now (signals .entry)) (now (exprs .entry)) (now (stmts .entry))) (now (parts .entry)) (now (values .entry)) t (wiresOf (now (wires .entry)) (now (places .entry))) constants owner (cellAt (now (words .entry)) at) r (lists (now (signals .exit)) (now (exprs .exit)) (now (stmts .exit))) ⌝ }
 {
     let kind = field(words, at, 0);
-    match kind {
-        6 => block_ram_cell(
+    if kind == 6 {
+        return emit_ram(
             signals,
             exprs,
             stmts,
@@ -44,11 +94,15 @@ fn emit_cell(
             owner,
             words,
             at,
-        ),
-        7 => distributed_ram_cell(
+        );
+    }
+    if kind == 7 {
+        return emit_ram(
             signals,
             exprs,
             stmts,
+            parts,
+            values,
             wires,
             places,
             t,
@@ -56,9 +110,9 @@ fn emit_cell(
             owner,
             words,
             at,
-        ),
-        _ => emit_small(exprs, stmts, wires, places, t, words, at, kind),
+        );
     }
+    emit_small(exprs, stmts, wires, places, t, words, at, kind)
 }
 
 // The n cells from an index on, numbered from 0.
