@@ -1,6 +1,6 @@
 -- Laws of the ports' expressions.
 use mathlib.Core.Path.{_≡_, refl, ap, ap₂, sym, _∙_}
-use mathlib.Core.List.{List, [], _∷_}
+use mathlib.Core.List.{List, _∷_}
 use mathlib.Core.Option.{Option, none, some}
 use Prim.Native.Nat.{ℕ, zero, suc, _+_, _≤_, min}
 use native.Mathlib.Nat.{add-zero}
@@ -14,14 +14,14 @@ use Rattle.netlist.specs.Fields.{recordsAt, after, whenSet, wordAt, bitAt, bits
 use Rattle.netlist.proofs.WordLaws.{bit-ahead, set-absent, set-present}
 use Rattle.netlist.proofs.RecordLaws.{bits-length}
 use Rattle.recorder.specs.declared.Tapes.{Tapes}
-use Rattle.recorder.specs.Writer.{Count, Out, Writer, pure}
+use Rattle.recorder.specs.Writer.{pure}
 use Rattle.recorder.specs.Lists.{WroteExprs, Answer}
 use Rattle.recorder.proofs.Wrote.{wrote-as}
 use Rattle.wires.specs.Wires.{Wires}
 use Rattle.wires.specs.Expressions.{assertedExpression, vectorExpression, bitsExpression, roomy}
 use Rattle.wires.proofs.Laws.{roomy-yes}
-use Rattle.memories.specs.Memories.{PortExprs, secondExprs}
-use Rattle.memories.specs.Rams.{secondAddressed, addressed, dramAddressed, dramAt}
+use Rattle.memories.specs.Memories.{secondExprs}
+use Rattle.memories.specs.Rams.{secondAddressed, addressed}
 use Rattle.memories.specs.Steps.{secondAt}
 
 -- bits from an index on that was cut to the number of words
@@ -101,6 +101,3 @@ addressed-same words at = λ i. record {
   input = ramAt words at .input;
   output = ramAt words at .output;
 }
-
-pub dram-addressed-same : (words : List ℕ) (at : ℕ) → dramAddressed (dramAt words at) (bitsAt words (at + 1) 4) (bitsAt words (at + 11) 4) ≡ dramAt words at
-dram-addressed-same words at = refl

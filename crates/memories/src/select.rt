@@ -17,6 +17,7 @@ ghost use Rattle.recorder.specs.Lists.{WroteExprs, emitted};
 ghost use Rattle.memories.specs.Rams.{wordsOf, Spaced, selectWord};
 ghost use Rattle.memories.specs.Steps.{pickWord};
 
+// Of up to 64 words. The next two differ in the array's size only: a size is part of a type here.
 fn select_64(
     exprs: &mut [u32],
     parts: &mut [u32],
@@ -57,6 +58,7 @@ fn select_64(
     balanced_address_mux_of_64(exprs, nodes, n, parts, values, now, width, zero)
 }
 
+// Of up to 1,024.
 fn select_1024(
     exprs: &mut [u32],
     parts: &mut [u32],
@@ -97,6 +99,7 @@ fn select_1024(
     balanced_address_mux_of_1024(exprs, nodes, n, parts, values, now, width, zero)
 }
 
+// Of up to 16,384, as many as a RAM can have.
 fn select_16384(
     exprs: &mut [u32],
     parts: &mut [u32],

@@ -12,7 +12,7 @@ use Rattle.recorder.specs.Lists.{Lists, over}
 use Rattle.recorder.specs.Words.{zeroed}
 use Rattle.recorder.proofs.Room.{over-over}
 use Rattle.simulation.specs.Wellformed.{malformed}
-use Rattle.simulation.specs.Run.{total, signalBytes, exprBits, tickBits, short, firstOf, flat, run}
+use Rattle.simulation.specs.Run.{total, signalBytes, tickBits, firstOf, flat, run}
 use Rattle.simulation.specs.Shown.{Entry, ByModel, entryCall, shownBytes, shownByModel, bytesAfterAll}
 use Rattle.simulation.proofs.Kept.{AllNone, all-none, short-none, length-kept}
 use Rattle.runner.specs.Calls.{ListCall, listModel, handed, firedBy, entries, entriesOf, outputWidth, outputBytes, listCauses, listVerdict, listAnswer, answerWords, answersOf, outputsOf, ListOutcome, filled, listOutcome, runList}

@@ -1,12 +1,10 @@
 -- A list of ticks of which none is made. Assumes nothing.
 use Prim.Native.Nat.{ℕ, _+_, _-_, _*_, _/_, _≤_, _<_, min}
 use mathlib.Core.Path.{_≡_, refl, sym, _∙_, ap, ap₂}
-use mathlib.Core.List.{List, [], _∷_}
+use mathlib.Core.List.{List, []}
 use mathlib.Core.Option.{Option, none}
 use native.Mathlib.Omega.{arith}
-use native.Mathlib.Nat.{le-trans, le-of-eq}
 use lib.ListN.{length, getD, take, drop}
-use Rattle.recorder.specs.Record.{Signal}
 use Rattle.recorder.specs.Lists.{Lists, over}
 use Rattle.recorder.specs.Read.{modelOf}
 use Rattle.recorder.specs.Words.{rawOf}
@@ -25,7 +23,7 @@ use Rattle.runner.specs.Parts.{tickCauses, isMade, Enough}
 use Rattle.runner.specs.Whole.{among, Stopped}
 use Rattle.runner.proofs.Ticking.{entry-among, entry-kept}
 use Rattle.runner.proofs.Call.{total-offset}
-use Rattle.runner.proofs.Running.{Running, running-next, entryAt, bits-taken, signals-in}
+use Rattle.runner.proofs.Running.{Running, running-next, entryAt, inputs-asked, bytes-held, ticks-handed}
 
 -- ALL TICKS
 
@@ -41,17 +39,8 @@ module _ (l : Lists) (h : malformed largest l ≡ none) (bytes : List ℕ) (b : 
       {count inputs : ℕ} (hc : count ≡ length (recordsIn (l .signals))) (hi : inputs ≡ total inputWidth (signalsIn (l .signals)))
       {end : ℕ} (he : end ≡ min (pos + getD heads at 0) (length bits)) {ticks : List ℕ} (ht : ticks ≡ handed inputs (getD heads at 0) (take (end - pos) (drop pos bits))) {fired : Option (ℕ × ℕ)} (hf : fired ≡ firedBy (getD heads (at + 1) 0) (getD heads (at + 2) 0))
       {a : Option (ℕ × ℕ)} (ha : a ≡ among ahead (tickCauses count inputs ticks fired) behind) where
-    long : total (λ (s : Signal). s .width) (signalsIn (l .signals)) ≤ length bytes
-    long = le-trans (le-of-eq (ap (total (λ (s : Signal). s .width)) (sym (signals-in l)))) b
-
-    inputs-so : inputs ≡ tickBits (modelOf (rawOf l))
-    inputs-so = hi ∙ ap (total inputWidth) (sym (signals-in l))
-
-    ticks-so : ticks ≡ handed (tickBits (modelOf (rawOf l))) (getD heads at 0) (take (getD heads at 0) (drop pos bits))
-    ticks-so = ht ∙ ap₂ (λ (k : ℕ) (t : List ℕ). handed k (getD heads at 0) t) inputs-so (bits-taken bits pos (getD heads at 0) end (g .pos-inside) he)
-
     own-so : tickCauses count inputs ticks fired ≡ tickCauses (length (modelOf (rawOf l) .signals)) (tickBits (modelOf (rawOf l))) (handed (tickBits (modelOf (rawOf l))) (getD heads at 0) (take (getD heads at 0) (drop pos bits))) (firedBy (getD heads (at + 1) 0) (getD heads (at + 2) 0))
-    own-so = ap₂ (λ (n k : ℕ). tickCauses n k ticks fired) (hc ∙ sym (signals-count largest l (faultless largest l h))) inputs-so ∙ ap₂ (tickCauses (length (modelOf (rawOf l) .signals)) (tickBits (modelOf (rawOf l)))) ticks-so hf
+    own-so = ap₂ (λ (n k : ℕ). tickCauses n k ticks fired) (hc ∙ sym (signals-count largest l (faultless largest l h))) (inputs-asked l hi) ∙ ap₂ (tickCauses (length (modelOf (rawOf l) .signals)) (tickBits (modelOf (rawOf l)))) (ticks-handed g hi he ht) hf
 
     module _ (wb we wt : List ℕ) (w : Enough (modelOf (rawOf l)) wb we wt) where
       as-called : a ≡ answer largest (entryCall l bytes (entryAt (tickBits (modelOf (rawOf l))) wb we wt heads bits at pos))
@@ -65,4 +54,4 @@ module _ (l : Lists) (h : malformed largest l ≡ none) (bytes : List ℕ) (b : 
       as-left = entry-kept l h bytes b (entryAt (tickBits (modelOf (rawOf l))) wb we wt heads bits at pos) w (ap isMade (sym as-called ∙ ha) ∙ st .refuses (tickCauses count inputs ticks fired))
 
     pub refused-next : {answers′ shown′ : List ℕ} → answers′ ≡ over answers (2 * i) (answerWords a) → shown′ ≡ over shown to (flat (shownBytes (signalsIn (l .signals)) bytes)) → length answers′ ≡ length answers → length shown′ ≡ length shown → Running l heads bits bytes bytes answers₀ answers′ shown₀ shown′ (at + 3) end (to + total outputWidth (signalsIn (l .signals))) (i + 1)
-    refused-next wa hs la ls = running-next g q he long wa hs as-called as-left refl la ls
+    refused-next wa hs la ls = running-next g q he (bytes-held l b) wa hs as-called as-left refl la ls

@@ -19,7 +19,7 @@ use Rattle.recorder.specs.Words.{rawOf}
 use Rattle.recorder.proofs.Room.{over-over}
 use Rattle.simulation.specs.Wellformed.{largest, malformed}
 use Rattle.simulation.specs.Tick.{looped}
-use Rattle.simulation.specs.Run.{Call, inputWidth, total, tickBits, flat, answer, run}
+use Rattle.simulation.specs.Run.{Call, inputWidth, total, signalBytes, tickBits, flat, answer, run}
 use Rattle.simulation.specs.Shown.{Entry, entryCall, shownBytes, ByModel, bytesAfterAll}
 use Rattle.simulation.specs.Index.{recordsIn, widthsIn}
 use Rattle.simulation.proofs.Found.{faultless}
@@ -145,7 +145,18 @@ running-start {l} heads bits bytes₀ answers₀ shown₀ = record {
   shown-left = λ wb we ws q. refl;
 }
 
+-- the model's inputs and its signals' bytes, by the words
+pub inputs-asked : (l : Lists) {inputs : ℕ} → inputs ≡ total inputWidth (signalsIn (l .signals)) → inputs ≡ tickBits (modelOf (rawOf l))
+inputs-asked l e = e ∙ ap (total inputWidth) (sym (signals-in l))
+
+pub bytes-held : (l : Lists) {n : ℕ} → signalBytes (modelOf (rawOf l)) ≤ n → total (λ (s : Signal). s .width) (signalsIn (l .signals)) ≤ n
+bytes-held l h = le-trans (le-of-eq (ap (total (λ (s : Signal). s .width)) (sym (signals-in l)))) h
+
 module _ {l : Lists} {heads bits bytes₀ bytes answers₀ answers shown₀ shown : List ℕ} {at pos to i : ℕ} (g : Running l heads bits bytes₀ bytes answers₀ answers shown₀ shown at pos to i) where
+  -- the bits that the next head hands over
+  pub ticks-handed : {inputs end : ℕ} {ticks : List ℕ} → inputs ≡ total inputWidth (signalsIn (l .signals)) → end ≡ min (pos + getD heads at 0) (length bits) → ticks ≡ handed inputs (getD heads at 0) (take (end - pos) (drop pos bits)) → ticks ≡ handed (tickBits (modelOf (rawOf l))) (getD heads at 0) (take (getD heads at 0) (drop pos bits))
+  ticks-handed {inputs} {end} hi he ht = ht ∙ ap₂ (λ (k : ℕ) (b : List ℕ). handed k (getD heads at 0) b) (inputs-asked l hi) (bits-taken bits pos (getD heads at 0) end (g .pos-inside) he)
+
   pub running-end : length heads / 3 ≤ i → RunsTicks l heads bits bytes₀ bytes answers₀ answers shown₀ shown
   running-end q = record {
     bytes-are = λ wb we ws e. ap (bytesAfterAll largest l bytes) (sym (gone wb we ws)) ∙ g .bytes-left wb we ws e;
@@ -232,10 +243,10 @@ module _ {l : Lists} {heads bits bytes₀ bytes answers₀ answers shown₀ show
         {a : Option (ℕ × ℕ)} {bytes′ answers′ shown′ : List ℕ} (ha : a ≡ tickCauses count inputs ticks fired) (hr : RunsTick (l .signals) (l .exprs) (l .stmts) ticks fired a bytes bytes′)
         (wa : answers′ ≡ over answers (2 * i) (answerWords a)) (hs : shown′ ≡ over shown to (flat (shownBytes (signalsIn (l .signals)) bytes′))) where
       long : total (λ (s : Signal). s .width) (signalsIn (l .signals)) ≤ length bytes′
-      long = le-trans (le-of-eq (ap (total (λ (s : Signal). s .width)) (sym (signals-in l)))) (holds-enough largest l (faultless largest l h) (tick-filled hr f .holds))
+      long = bytes-held l (holds-enough largest l (faultless largest l h) (tick-filled hr f .holds))
 
       ticks-are : ticks ≡ handed (tickBits (modelOf (rawOf l))) (getD heads at 0) (take (getD heads at 0) (drop pos bits))
-      ticks-are = ht ∙ ap₂ (λ (k : ℕ) (b : List ℕ). handed k (getD heads at 0) b) (hi ∙ ap (total inputWidth) (sym (signals-in l))) (bits-taken bits pos (getD heads at 0) end (g .pos-inside) he)
+      ticks-are = ticks-handed hi he ht
 
       module _ (wb we wt : List ℕ) (w : Enough (modelOf (rawOf l)) wb we wt) where
         cause : a ≡ tickCauses count inputs (handed (tickBits (modelOf (rawOf l))) (getD heads at 0) (take (getD heads at 0) (drop pos bits))) (firedBy (getD heads (at + 1) 0) (getD heads (at + 2) 0))

@@ -32,11 +32,7 @@ use Rattle.runner.specs.Whole.{among}
 pub short-so : (n : ℕ) (l : List ℕ) → n ≤ length l → short n l ≡ none
 short-so n l h = sym (only-false (some (1, min n 18446744073709551615)) (le-ltb (length l) n h))
 
--- of a call's causes those of the tick are left
-causes-left : {a b c d e f : Option (ℕ × ℕ)} (x y z : Option (ℕ × ℕ)) → a ≡ none → b ≡ none → c ≡ none → d ≡ none → e ≡ none → f ≡ none → firstOf (a ∷ b ∷ c ∷ d ∷ e ∷ x ∷ y ∷ z ∷ f ∷ []) ≡ firstOf (x ∷ y ∷ z ∷ [])
-causes-left x y z qa qb qc qd qe qf = rw (qa, qb, qc, qd, qe, qf)
-
--- the signal bytes' come before them, and a loop behind
+-- of a call's causes the signal bytes', the tick's own and a loop are left
 causes-among : {a b c d : Option (ℕ × ℕ)} (p x y z q : Option (ℕ × ℕ)) → a ≡ none → b ≡ none → c ≡ none → d ≡ none → firstOf (a ∷ b ∷ c ∷ d ∷ p ∷ x ∷ y ∷ z ∷ q ∷ []) ≡ among p (firstOf (x ∷ y ∷ z ∷ [])) q
 causes-among {a} {b} {c} {d} p x y z q qa qb qc qd =
     let left : firstOf (a ∷ b ∷ c ∷ d ∷ p ∷ x ∷ y ∷ z ∷ q ∷ []) ≡ firstOf (p ∷ x ∷ y ∷ z ∷ q ∷ []) = rw (qa, qb, qc, qd) in
@@ -81,6 +77,28 @@ module _ (inputs asked : ℕ) (ticks : List ℕ) where
     pub handed-causes : none ≡ tickCauses count inputs (handed inputs asked ticks) fired → tickCauses count inputs ticks fired ≡ none
     handed-causes h = ap (λ (t : List ℕ). tickCauses count inputs t fired) (sym (handed-made h)) ∙ sym h
 
+-- A CALL, whatever the bytes and the loops
+
+module _ (l : Lists) (h : malformed largest l ≡ none) (bytes : List ℕ) (b : signalBytes (modelOf (rawOf l)) ≤ length bytes) (e : Entry) (q : Enough (modelOf (rawOf l)) (e .workBits) (e .workExprs) (e .workSignals)) where
+  pub entry-among : answer largest (entryCall l bytes e) ≡ among (noBit 0 (take (signalBytes (modelOf (rawOf l))) bytes)) (tickCauses (length (modelOf (rawOf l) .signals)) (tickBits (modelOf (rawOf l))) (e .ticks) (e .fired)) (onLoop (looped (modelOf (rawOf l))))
+  unfolding answer refusal
+  entry-among =
+      ap (verdict (modelOf (rawOf l)) (entryCall l bytes e)) h
+      ∙ causes-among (noBit 0 (take (signalBytes (modelOf (rawOf l))) bytes)) (wrongCount (tickBits (modelOf (rawOf l))) (e .ticks)) (noBit 0 (e .ticks)) (wrongFired (length (modelOf (rawOf l) .signals)) (e .fired)) (onLoop (looped (modelOf (rawOf l))))
+      (short-so (signalBytes (modelOf (rawOf l))) bytes b)
+      (short-so _ (e .workBits) (q .0))
+      (short-so _ (e .workExprs) (q .1))
+      (short-so _ (e .workSignals) (q .2))
+
+  -- a refused call leaves the bytes
+  pub entry-kept : isMade (answer largest (entryCall l bytes e)) ≡ false → bytes ≡ run largest (entryCall l bytes e) .bytes
+  unfolding run
+  entry-kept = go (answer largest (entryCall l bytes e))
+    where
+      go : (o : Option (ℕ × ℕ)) → isMade o ≡ false → bytes ≡ bytesAfter (entryCall l bytes e) o
+      go (some r) z = refl
+      go none z = absurd (false≢true (sym z))
+
 -- THE SAME AS A CALL
 
 module _ (l : Lists) (h : malformed largest l ≡ none) (u : looped (modelOf (rawOf l)) ≡ none) where
@@ -95,16 +113,10 @@ module _ (l : Lists) (h : malformed largest l ≡ none) (u : looped (modelOf (ra
     c = entryCall l bytes e
 
     pub entry-answer : answer largest (entryCall l bytes e) ≡ tickCauses (length (modelOf (rawOf l) .signals)) (tickBits (modelOf (rawOf l))) (e .ticks) (e .fired)
-    unfolding answer refusal
     entry-answer =
-        ap (verdict m c) h
-        ∙ causes-left (wrongCount (tickBits m) (e .ticks)) (noBit 0 (e .ticks)) (wrongFired (length (m .signals)) (e .fired))
-        (short-so (signalBytes m) bytes (holds-enough largest l fine ho))
-        (short-so _ (e .workBits) (q .0))
-        (short-so _ (e .workExprs) (q .1))
-        (short-so _ (e .workSignals) (q .2))
-        (holds-bits largest l fine ho)
-        (ap onLoop u)
+        entry-among l h bytes (holds-enough largest l fine ho) e q
+        ∙ ap₂ (λ (p o : Option (ℕ × ℕ)). among p (tickCauses (length (m .signals)) (tickBits m) (e .ticks) (e .fired)) o) (holds-bits largest l fine ho) (ap onLoop u)
+        ∙ orElse-none (tickCauses (length (m .signals)) (tickBits m) (e .ticks) (e .fired))
 
     pub entry-holds : Holds (widthsIn (l .signals)) (afterTick (modelOf (rawOf l)) (e .ticks) (e .fired) (answer largest (entryCall l bytes e)) old) behind (run largest (entryCall l bytes e) .bytes)
     unfolding run ticked
@@ -126,24 +138,3 @@ module _ (l : Lists) (h : malformed largest l ≡ none) (u : looped (modelOf (ra
       -- and leaves the same
       pub same-bytes : {bytes′ : List ℕ} → RunsTick (l .signals) (l .exprs) (l .stmts) (e .ticks) (e .fired) a bytes bytes′ → bytes′ ≡ run largest (entryCall l bytes e) .bytes
       same-bytes {bytes′} r = holds-same (subst (λ (o : Option (ℕ × ℕ)). Holds (widthsIn (l .signals)) (afterTick m (e .ticks) (e .fired) o old) behind bytes′) same-answer (r .runs old behind ho)) entry-holds
-
--- whatever the bytes and the loops
-module _ (l : Lists) (h : malformed largest l ≡ none) (bytes : List ℕ) (b : signalBytes (modelOf (rawOf l)) ≤ length bytes) (e : Entry) (q : Enough (modelOf (rawOf l)) (e .workBits) (e .workExprs) (e .workSignals)) where
-  pub entry-among : answer largest (entryCall l bytes e) ≡ among (noBit 0 (take (signalBytes (modelOf (rawOf l))) bytes)) (tickCauses (length (modelOf (rawOf l) .signals)) (tickBits (modelOf (rawOf l))) (e .ticks) (e .fired)) (onLoop (looped (modelOf (rawOf l))))
-  unfolding answer refusal
-  entry-among =
-      ap (verdict (modelOf (rawOf l)) (entryCall l bytes e)) h
-      ∙ causes-among (noBit 0 (take (signalBytes (modelOf (rawOf l))) bytes)) (wrongCount (tickBits (modelOf (rawOf l))) (e .ticks)) (noBit 0 (e .ticks)) (wrongFired (length (modelOf (rawOf l) .signals)) (e .fired)) (onLoop (looped (modelOf (rawOf l))))
-      (short-so (signalBytes (modelOf (rawOf l))) bytes b)
-      (short-so _ (e .workBits) (q .0))
-      (short-so _ (e .workExprs) (q .1))
-      (short-so _ (e .workSignals) (q .2))
-
-  -- a refused call leaves the bytes
-  pub entry-kept : isMade (answer largest (entryCall l bytes e)) ≡ false → bytes ≡ run largest (entryCall l bytes e) .bytes
-  unfolding run
-  entry-kept = go (answer largest (entryCall l bytes e))
-    where
-      go : (o : Option (ℕ × ℕ)) → isMade o ≡ false → bytes ≡ bytesAfter (entryCall l bytes e) o
-      go (some r) z = refl
-      go none z = absurd (false≢true (sym z))

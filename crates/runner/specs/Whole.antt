@@ -6,17 +6,16 @@ use mathlib.Core.List.{List, [], _∷_}
 use mathlib.Core.Option.{Option, none, some}
 use lib.ListN.{length, take}
 use Rattle.recorder.specs.Lists.{Lists, over}
-use Rattle.recorder.specs.Record.{Model}
 use Rattle.recorder.specs.Read.{modelOf}
 use Rattle.recorder.specs.Words.{rawOf}
 use Rattle.simulation.specs.declared.Ran.{Ran}
 use Rattle.simulation.specs.Wellformed.{largest, malformed, orElse}
 use Rattle.simulation.specs.Tick.{looped}
 use Rattle.simulation.specs.Run.{answerOf, total, signalBytes, short, noBit, onLoop, firstOf}
-use Rattle.simulation.specs.Fault.{widthTotal, lengthCauses}
+use Rattle.simulation.specs.Fault.{lengthCauses}
 use Rattle.simulation.specs.Shown.{bytesAfterAll}
 use Rattle.evaluation.specs.Ticks.{signalsIn}
-use Rattle.runner.specs.Calls.{ListCall, listModel, entriesOf, outputWidth, outputBytes, listCauses, answersOf, outputsOf, ListOutcome}
+use Rattle.runner.specs.Calls.{ListCall, entriesOf, outputWidth, outputBytes, answersOf, outputsOf, ListOutcome}
 use Rattle.runner.specs.Parts.{isMade, Enough, made}
 
 abbrev pub listCall : Lists → List ℕ → List ℕ → List ℕ → List ℕ → List ℕ → List ℕ → List ℕ → List ℕ → ListCall
@@ -32,7 +31,7 @@ shownCauses signals heads answers shown =
     ∷ short (total outputWidth (signalsIn signals) * (length heads / 3)) shown
     ∷ []
 
--- 1
+-- 1 for every buffer, by the words
 abbrev pub faultCauses : ListCall → Option (ℕ × ℕ)
 faultCauses c =
     orElse (firstOf (lengthCauses (c .lists .signals) (c .lists .exprs) (c .bytes) (c .workBits) (c .workExprs) (c .workSignals)))

@@ -1,35 +1,34 @@
 -- What an accepted call shows is what the netlist's own cells show, and what each tick answers: demand 3 on the call's buffers. Assumes nothing.
 use mathlib.Core.Path.{_≡_, refl, sym, _∙_, ap, subst}
 use mathlib.Core.Bool.{Bool, true, false}
-use mathlib.Core.List.{List, [], _∷_, map}
+use mathlib.Core.List.{List, map}
 use mathlib.Core.Option.{Option, none, some}
 use Prim.Native.Nat.{ℕ, _≤_}
 use native.Mathlib.Omega.{arith}
-use lib.ListN.{length, replicate, length-replicate}
+use lib.ListN.{length, length-replicate}
 use Rattle.bits.specs.Bits.{pick}
-use Rattle.netlist.specs.declared.Limits.{Limits}
 use Rattle.netlist.specs.Netlist.{Netlist}
 use Rattle.netlist.specs.Reader.{base, netlist, readWords, Read}
 use Rattle.recorder.specs.declared.Tapes.{Tapes}
-use Rattle.recorder.specs.Record.{Signal, Model}
+use Rattle.recorder.specs.Record.{Model}
 use Rattle.recorder.specs.Lists.{Lists}
 use Rattle.recorder.specs.Read.{modelOf}
-use Rattle.recorder.specs.Words.{rawOf, wordsOf, blank}
+use Rattle.recorder.specs.Words.{rawOf, blank}
 use Rattle.recorder.proofs.Roundtrip.{model-read}
 use Rattle.lowering.specs.Lower.{Lowered, Accepted, Refused, Lowering, lowered, loweredRead, lowerWords}
-use Rattle.behaviour.specs.Behaviour.{start, NoWireLoop}
+use Rattle.behaviour.specs.Behaviour.{NoWireLoop}
 use Rattle.simulation.specs.Wellformed.{largest, malformed}
-use Rattle.simulation.specs.Run.{zeroed, signalBytes, tickBits, firstOf}
-use Rattle.simulation.specs.Shown.{Entry, ByModel, shownByModel}
-use Rattle.simulation.proofs.Kept.{AllNone, all-none, short-none}
+use Rattle.simulation.specs.Run.{zeroed, signalBytes, tickBits}
+use Rattle.simulation.specs.Shown.{ByModel, shownByModel}
+use Rattle.simulation.proofs.Kept.{all-none, short-none}
 use Rattle.forms.specs.Lowered.{loweredModel, Roomy}
-use Rattle.equivalence.specs.Demand.{usedLists, shownByCells, AllAgree, Answered, Fresh}
+use Rattle.equivalence.specs.Demand.{usedLists, Fresh}
 use Rattle.equivalence.proofs.Acceptance.{accepted-kept, used-words}
 use Rattle.equivalence.proofs.Shows.{zeros-fresh}
 use Rattle.equivalence.proofs.Demanded.{demand3, all-answered}
-use Rattle.converter.specs.Entry.{short, anyShort, lowerCall, callOf}
+use Rattle.converter.specs.Entry.{anyShort}
 use Rattle.runner.specs.Calls.{ListCall, entries, listModel, listCauses, listVerdict, listAnswer, answersOf, outputsOf, filled, listOutcome, runList}
-use Rattle.simulator.specs.Entry.{Simulation, Simulated, ShowsCells, entriesOf, refusedBy, ticksOn, ran, simulateCall}
+use Rattle.simulator.specs.Entry.{Simulation, Simulated, ShowsCells, entriesOf, ticksOn, ran, simulateCall}
 use Rattle.simulator.specs.Entry.{lowered as loweredTo}
 
 abbrev pub IsAccepted : Lowered → Type 0

@@ -1,7 +1,7 @@
 -- A netlist that lowering accepts is refused only for a short buffer. Assumes nothing.
 use mathlib.Core.Path.{_≡_, sym, _∙_, ap, subst}
 use mathlib.Core.Bool.{Bool, true, false}
-use mathlib.Core.List.{List, [], _∷_, map}
+use mathlib.Core.List.{List, map}
 use mathlib.Core.Option.{Option, none, some}
 use Prim.Native.Nat.{ℕ}
 use native.Mathlib.Omega.{arith}
@@ -11,21 +11,20 @@ use Rattle.bits.specs.Bits.{pick}
 use Rattle.netlist.specs.Netlist.{Netlist}
 use Rattle.netlist.specs.Reader.{base, netlist, readWords, Read}
 use Rattle.recorder.specs.declared.Tapes.{Tapes}
-use Rattle.recorder.specs.Record.{Model}
 use Rattle.recorder.specs.Lists.{Lists}
 use Rattle.recorder.specs.Read.{only}
 use Rattle.recorder.specs.Words.{wordsOf, blank}
-use Rattle.lowering.specs.Lower.{Lowered, Accepted, Refused, Lowering, lowered, loweredRead, lowerWords}
+use Rattle.lowering.specs.Lower.{Accepted, Refused, Lowering, lowered, loweredRead, lowerWords}
 use Rattle.simulation.specs.Wellformed.{largest, malformed, orElse}
 use Rattle.simulation.specs.Run.{short, firstOf}
 use Rattle.simulation.proofs.Sound.{sound-words}
-use Rattle.forms.specs.Lowered.{loweredModel, Roomy}
+use Rattle.forms.specs.Lowered.{loweredModel}
 use Rattle.forms.proofs.Sounds.{lowered-sound}
 use Rattle.equivalence.specs.Demand.{usedLists}
 use Rattle.equivalence.proofs.Acceptance.{read-fits, accepted-kept, used-words, is-lowered}
 use Rattle.converter.specs.Entry.{anyShort, callOf}
-use Rattle.runner.specs.Calls.{ListCall, listModel, listCauses, listVerdict, listAnswer, ListOutcome, listOutcome, runList}
-use Rattle.simulator.specs.Entry.{Simulation, Simulated, ticksOn, ran, simulateCall}
+use Rattle.runner.specs.Calls.{ListCall, listModel, listCauses, listVerdict, listAnswer, listOutcome, runList}
+use Rattle.simulator.specs.Entry.{Simulation, ticksOn, ran, simulateCall}
 use Rattle.simulator.specs.Entry.{lowered as loweredTo}
 use Rattle.simulator.proofs.Cells.{room}
 
