@@ -171,21 +171,23 @@ abbrev pub loaded : Bool → ℕ → BlockRam → List Bits → Bits → Bits
 loaded true at r words old = getD words at (zeros (r .width))
 loaded false at r words old = old
 
+-- a port goes only while its clock enable, if it has one, is asserted: each by its own, in its write and in its read
+
 abbrev pub writtenA : Valuation → BlockRam → List Bits → List Bits
-writtenA v r words = written (enabled v (some (r .write))) (address v r (r .writeAddress)) (values v (r .input)) words
+writtenA v r words = written (enabled v (some (r .write)) && enabled v (r .clockEnable)) (address v r (r .writeAddress)) (values v (r .input)) words
 
 abbrev pub writtenB : Valuation → BlockRam → Option SecondPort → List Bits → List Bits
 writtenB v r none words = words
-writtenB v r (some p) words = written (enabled v (some (p .write))) (address v r (p .address)) (values v (p .input)) words
+writtenB v r (some p) words = written (enabled v (some (p .write)) && enabled v (p .clockEnable)) (address v r (p .address)) (values v (p .input)) words
 
 abbrev pub loadedA : Valuation → BlockRam → List Bits → Bits → Bits
-loadedA v r words old = loaded (enabled v (r .readEnable)) (address v r (r .readAddress)) r words old
+loadedA v r words old = loaded (enabled v (r .readEnable) && enabled v (r .clockEnable)) (address v r (r .readAddress)) r words old
 
 abbrev pub loadedB : Valuation → BlockRam → Option SecondPort → List Bits → Bits → Bits
 loadedB v r none words old = old
-loadedB v r (some p) words old = loaded (enabled v (p .readEnable)) (address v r (p .address)) r words old
+loadedB v r (some p) words old = loaded (enabled v (p .readEnable) && enabled v (p .clockEnable)) (address v r (p .address)) r words old
 
--- both ports are on one clock and edge (6). B writes last and so wins. Clock enables are not looked at
+-- both ports are on one clock and edge (6). B writes last and so wins
 abbrev pub nextRam : Bool → Valuation → BlockRam → Registers → Registers
 nextRam false v r old = old
 nextRam true v r old = record {

@@ -3,7 +3,7 @@ use mathlib.Core.Path.{_≡_, refl}
 use mathlib.Core.List.{List, [], _∷_, map}
 use Rattle.behaviour.specs.Banks.{collectFlipFlopBanks, banksFrom, leadersFrom, flipFlopsFrom, bankIn, membersOf}
 use Rattle.behaviour.specs.Checking.{Row, shownBy, still, fire}
-use Rattle.behaviour.specs.Netlists.{and2, lutTable, lutChain, pfumxRow, l6muxRow, ccuAdd, ccuInject, product, ffPlain, ffFalling, ffEnable, ffSync, ffAsync, ffResetsItself, ffClockMoves, ffSwap, ffConstantClock, ffDivider, ramDepth3, ramPhysical18, ramReadEnable, ramClockEnable, ramBothWrite, dramRows, ioRow, jtaggRow, pllRow, pllShared, pllOwnLocked, constantsShown, refusedTicks, banksRow, ffFiredOutput}
+use Rattle.behaviour.specs.Netlists.{and2, lutTable, lutChain, pfumxRow, l6muxRow, ccuAdd, ccuInject, product, ffPlain, ffFalling, ffEnable, ffSync, ffAsync, ffResetsItself, ffClockMoves, ffSwap, ffConstantClock, ffDivider, ramDepth3, ramPhysical18, ramReadEnable, ramClockEnable, ramGated, ramBothWrite, dramRows, ioRow, jtaggRow, pllRow, pllShared, pllOwnLocked, constantsShown, refusedTicks, banksRow, ffFiredOutput}
 
 abbrev pub tickRows : List Row
 tickRows =
@@ -49,8 +49,18 @@ tickRows =
     record { words = ramPhysical18; ticks = fire (0 ∷ 1 ∷ 1 ∷ 0 ∷ 1 ∷ 0 ∷ 1 ∷ 1 ∷ 0 ∷ 0 ∷ []) 0 0 ∷ fire (0 ∷ 0 ∷ 0 ∷ 0 ∷ 1 ∷ 0 ∷ 0 ∷ 0 ∷ 0 ∷ 0 ∷ []) 0 0 ∷ fire (0 ∷ 1 ∷ 1 ∷ 0 ∷ 1 ∷ 0 ∷ 0 ∷ 1 ∷ 0 ∷ 0 ∷ []) 0 0 ∷ fire (0 ∷ 0 ∷ 0 ∷ 0 ∷ 1 ∷ 0 ∷ 0 ∷ 0 ∷ 0 ∷ 0 ∷ []) 0 0 ∷ fire (0 ∷ 1 ∷ 1 ∷ 1 ∷ 1 ∷ 1 ∷ 1 ∷ 1 ∷ 0 ∷ 0 ∷ []) 0 0 ∷ fire (0 ∷ 0 ∷ 0 ∷ 0 ∷ 1 ∷ 1 ∷ 0 ∷ 0 ∷ 0 ∷ 0 ∷ []) 0 0 ∷ still (0 ∷ 0 ∷ 0 ∷ 0 ∷ 1 ∷ 0 ∷ 0 ∷ 0 ∷ 0 ∷ 0 ∷ []) ∷ fire (0 ∷ 0 ∷ 0 ∷ 0 ∷ 1 ∷ 0 ∷ 0 ∷ 0 ∷ 0 ∷ 0 ∷ []) 0 1 ∷ fire (0 ∷ 0 ∷ 0 ∷ 0 ∷ 1 ∷ 0 ∷ 0 ∷ 0 ∷ 0 ∷ 0 ∷ []) 0 0 ∷ []; shown = 0 ∷ 3 ∷ 3 ∷ 2 ∷ 0 ∷ 0 ∷ 0 ∷ 0 ∷ 2 ∷ [] } ∷
     -- the old word stays while the read enable is off
     record { words = ramReadEnable; ticks = fire (0 ∷ 1 ∷ 1 ∷ 0 ∷ 1 ∷ 0 ∷ 1 ∷ 1 ∷ 1 ∷ 0 ∷ []) 0 0 ∷ fire (0 ∷ 0 ∷ 0 ∷ 0 ∷ 1 ∷ 0 ∷ 0 ∷ 0 ∷ 0 ∷ 0 ∷ []) 0 0 ∷ fire (0 ∷ 0 ∷ 0 ∷ 0 ∷ 1 ∷ 0 ∷ 0 ∷ 0 ∷ 1 ∷ 0 ∷ []) 0 0 ∷ fire (0 ∷ 0 ∷ 0 ∷ 0 ∷ 0 ∷ 0 ∷ 0 ∷ 0 ∷ 0 ∷ 0 ∷ []) 0 0 ∷ fire (0 ∷ 0 ∷ 0 ∷ 0 ∷ 0 ∷ 0 ∷ 0 ∷ 0 ∷ 1 ∷ 0 ∷ []) 0 0 ∷ []; shown = 0 ∷ 0 ∷ 3 ∷ 3 ∷ 0 ∷ [] } ∷
-    -- a clock enable has no effect
-    record { words = ramClockEnable; ticks = fire (0 ∷ 1 ∷ 1 ∷ 0 ∷ 1 ∷ 0 ∷ 1 ∷ 1 ∷ 1 ∷ 0 ∷ []) 0 0 ∷ fire (0 ∷ 0 ∷ 0 ∷ 0 ∷ 1 ∷ 0 ∷ 0 ∷ 0 ∷ 0 ∷ 0 ∷ []) 0 0 ∷ []; shown = 0 ∷ 3 ∷ [] } ∷
+    -- while its clock enable is off a port neither writes nor reads
+    record { words = ramClockEnable; ticks = fire (0 ∷ 1 ∷ 1 ∷ 0 ∷ 1 ∷ 0 ∷ 1 ∷ 1 ∷ 1 ∷ 0 ∷ []) 0 0 ∷ fire (0 ∷ 0 ∷ 0 ∷ 0 ∷ 1 ∷ 0 ∷ 0 ∷ 0 ∷ 0 ∷ 1 ∷ []) 0 0 ∷ fire (0 ∷ 1 ∷ 1 ∷ 0 ∷ 1 ∷ 0 ∷ 1 ∷ 1 ∷ 1 ∷ 1 ∷ []) 0 0 ∷ fire (0 ∷ 0 ∷ 0 ∷ 0 ∷ 1 ∷ 0 ∷ 0 ∷ 0 ∷ 0 ∷ 0 ∷ []) 0 0 ∷ fire (0 ∷ 0 ∷ 0 ∷ 0 ∷ 1 ∷ 0 ∷ 0 ∷ 0 ∷ 0 ∷ 1 ∷ []) 0 0 ∷ []; shown = 0 ∷ 0 ∷ 0 ∷ 0 ∷ 3 ∷ [] } ∷
+    -- each port by its own: A is off and B writes and reads, then A reads what B wrote, and A's word was never written
+    record { words = ramGated (0 ∷ 0 ∷ 0 ∷ []) (1 ∷ 11 ∷ 1 ∷ []) (1 ∷ 12 ∷ 1 ∷ []); ticks = fire (0 ∷ 1 ∷ 0 ∷ 1 ∷ 1 ∷ 1 ∷ 1 ∷ 0 ∷ 1 ∷ []) 0 0 ∷ fire (0 ∷ 0 ∷ 1 ∷ 0 ∷ 0 ∷ 1 ∷ 0 ∷ 0 ∷ 1 ∷ []) 0 0 ∷ fire (0 ∷ 0 ∷ 1 ∷ 0 ∷ 0 ∷ 0 ∷ 0 ∷ 1 ∷ 0 ∷ []) 0 0 ∷ fire (0 ∷ 0 ∷ 0 ∷ 0 ∷ 0 ∷ 0 ∷ 0 ∷ 0 ∷ 1 ∷ []) 0 0 ∷ []; shown = 0 ∷ 2 ∷ 3 ∷ 1 ∷ [] } ∷
+    -- the same, active low
+    record { words = ramGated (0 ∷ 0 ∷ 0 ∷ []) (1 ∷ 11 ∷ 0 ∷ []) (1 ∷ 12 ∷ 0 ∷ []); ticks = fire (0 ∷ 1 ∷ 0 ∷ 1 ∷ 1 ∷ 1 ∷ 1 ∷ 1 ∷ 0 ∷ []) 0 0 ∷ fire (0 ∷ 0 ∷ 1 ∷ 0 ∷ 0 ∷ 1 ∷ 0 ∷ 1 ∷ 0 ∷ []) 0 0 ∷ fire (0 ∷ 0 ∷ 1 ∷ 0 ∷ 0 ∷ 0 ∷ 0 ∷ 0 ∷ 1 ∷ []) 0 0 ∷ fire (0 ∷ 0 ∷ 0 ∷ 0 ∷ 0 ∷ 0 ∷ 0 ∷ 1 ∷ 0 ∷ []) 0 0 ∷ []; shown = 0 ∷ 2 ∷ 3 ∷ 1 ∷ [] } ∷
+    -- both ports write one word: while B is off A's word stays; with both on B wins
+    record { words = ramGated (0 ∷ 0 ∷ 0 ∷ []) (1 ∷ 11 ∷ 1 ∷ []) (1 ∷ 12 ∷ 1 ∷ []); ticks = fire (0 ∷ 1 ∷ 0 ∷ 1 ∷ 1 ∷ 0 ∷ 0 ∷ 1 ∷ 0 ∷ []) 0 0 ∷ fire (0 ∷ 0 ∷ 0 ∷ 0 ∷ 0 ∷ 0 ∷ 0 ∷ 1 ∷ 1 ∷ []) 0 0 ∷ fire (0 ∷ 1 ∷ 0 ∷ 1 ∷ 1 ∷ 0 ∷ 0 ∷ 1 ∷ 1 ∷ []) 0 0 ∷ fire (0 ∷ 0 ∷ 0 ∷ 0 ∷ 0 ∷ 0 ∷ 0 ∷ 1 ∷ 1 ∷ []) 0 0 ∷ []; shown = 0 ∷ 3 ∷ 3 ∷ 0 ∷ [] } ∷
+    -- a read register loads only if read enable and clock enable let it: neither alone does (the read enable is the clock's own wire)
+    record { words = ramGated (1 ∷ 2 ∷ 1 ∷ []) (1 ∷ 11 ∷ 1 ∷ []) (1 ∷ 12 ∷ 1 ∷ []); ticks = fire (1 ∷ 1 ∷ 0 ∷ 1 ∷ 0 ∷ 0 ∷ 0 ∷ 1 ∷ 0 ∷ []) 0 0 ∷ fire (1 ∷ 0 ∷ 0 ∷ 0 ∷ 0 ∷ 0 ∷ 0 ∷ 0 ∷ 0 ∷ []) 0 0 ∷ fire (0 ∷ 0 ∷ 0 ∷ 0 ∷ 0 ∷ 0 ∷ 0 ∷ 1 ∷ 0 ∷ []) 0 0 ∷ fire (1 ∷ 0 ∷ 0 ∷ 0 ∷ 0 ∷ 0 ∷ 0 ∷ 1 ∷ 0 ∷ []) 0 0 ∷ fire (1 ∷ 0 ∷ 1 ∷ 0 ∷ 0 ∷ 0 ∷ 0 ∷ 0 ∷ 0 ∷ []) 0 0 ∷ fire (1 ∷ 0 ∷ 1 ∷ 0 ∷ 0 ∷ 0 ∷ 0 ∷ 1 ∷ 0 ∷ []) 0 0 ∷ []; shown = 0 ∷ 0 ∷ 0 ∷ 1 ∷ 1 ∷ 0 ∷ [] } ∷
+    -- constants: A's clock enable never lets it, B's always does
+    record { words = ramGated (0 ∷ 0 ∷ 0 ∷ []) (1 ∷ 0 ∷ 1 ∷ []) (1 ∷ 0 ∷ 0 ∷ []); ticks = fire (0 ∷ 1 ∷ 0 ∷ 1 ∷ 1 ∷ 1 ∷ 1 ∷ 1 ∷ 0 ∷ []) 0 0 ∷ fire (0 ∷ 0 ∷ 1 ∷ 0 ∷ 0 ∷ 1 ∷ 0 ∷ 1 ∷ 0 ∷ []) 0 0 ∷ fire (0 ∷ 0 ∷ 1 ∷ 0 ∷ 0 ∷ 0 ∷ 0 ∷ 1 ∷ 0 ∷ []) 0 0 ∷ []; shown = 0 ∷ 2 ∷ 0 ∷ [] } ∷
     -- both ports write the same word: the second port's value is kept, and both reads are older
     record { words = ramBothWrite; ticks = fire (0 ∷ 1 ∷ 1 ∷ 1 ∷ 1 ∷ 1 ∷ 0 ∷ []) 0 0 ∷ fire (0 ∷ 0 ∷ 1 ∷ 0 ∷ 0 ∷ 1 ∷ 0 ∷ []) 0 0 ∷ fire (0 ∷ 1 ∷ 1 ∷ 1 ∷ 1 ∷ 1 ∷ 1 ∷ []) 0 0 ∷ fire (0 ∷ 0 ∷ 1 ∷ 0 ∷ 0 ∷ 1 ∷ 0 ∷ []) 0 0 ∷ fire (0 ∷ 1 ∷ 0 ∷ 1 ∷ 1 ∷ 0 ∷ 1 ∷ []) 0 0 ∷ fire (0 ∷ 0 ∷ 0 ∷ 0 ∷ 0 ∷ 0 ∷ 0 ∷ []) 0 0 ∷ []; shown = 0 ∷ 0 ∷ 0 ∷ 3 ∷ 0 ∷ 3 ∷ [] } ∷
     -- distributed RAM: written on the clock, read at once

@@ -119,7 +119,7 @@ module _ (κ : Tick) (m : Wires) (z : Constants) (zero-is : κ .before (z .zero 
 
     second-written : (o : Option SecondPort) (l : List Bits) → FitsOption (FitsSecond limits (r .width)) o → writtenSecond (secondValue v (shiftFor r) (addressWidth (r .depth)) o) l ≡ writtenB v r o l
     second-written none l q = refl
-    second-written (some p) l q = ap₂ (λ (x y : Bits). written (asserted v (p .write .signal) (p .write .active)) (number x) y l) (address-is limits r (p .address) f (q .address .0)) (values-all v (p .input))
+    second-written (some p) l q = ap₂ (λ (x y : Bits). written (enabled v (some (p .write)) && enabled v (p .clockEnable)) (number x) y l) (address-is limits r (p .address) f (q .address .0)) (values-all v (p .input))
 
     words-next : map (bitsOf σ′ (r .width)) ws ≡ pick F (writtenB v r (r .second) (writtenA v r old)) old
     words-next =
@@ -127,9 +127,9 @@ module _ (κ : Tick) (m : Wires) (z : Constants) (zero-is : κ .before (z .zero 
         ∙ ap (λ (l : List Bits). pick F l old) (ap (writtenSecond B) first-written ∙ second-written (r .second) (writtenA v r old) (f .second))
 
     -- what a port reads
-    read-next : (outputs : List ℕ) (o : Option Control) (bits : List Bit) → length bits ≡ 14 → ReadPort κ m z (r .width) (addressWidth (r .depth)) A B outputs o (valuesAt v bits (shiftFor r) (addressWidth (r .depth))) ws (d .clock) (r .edge)
-        → readOf σ′ m (r .width) (getD outputs 0 0) ≡ pick F (loaded (enabled v o) (address v r bits) r old (readOf σ m (r .width) (getD outputs 0 0))) (readOf σ m (r .width) (getD outputs 0 0))
-    read-next outputs o bits h p =
+    read-next : (outputs : List ℕ) (o c : Option Control) (bits : List Bit) → length bits ≡ 14 → ReadPort κ m z (r .width) (addressWidth (r .depth)) A B outputs o c (valuesAt v bits (shiftFor r) (addressWidth (r .depth))) ws (d .clock) (r .edge)
+        → readOf σ′ m (r .width) (getD outputs 0 0) ≡ pick F (loaded (enabled v o && enabled v c) (address v r bits) r old (readOf σ m (r .width) (getD outputs 0 0))) (readOf σ m (r .width) (getD outputs 0 0))
+    read-next outputs o c bits h p =
         let at : Bits = valuesAt v bits (shiftFor r) (addressWidth (r .depth)) in
         let s : aim (m (getD outputs 0 0)) ≡ p .target .signal = ap aim (p .target-is) in
         let X : Bits = lastChoice (choices σ (r .width) (addressWidth (r .depth)) A B (valuesAt v bits (shiftFor r) (addressWidth (r .depth))) 0 ws) (binary (r .width) 0) in
@@ -138,10 +138,13 @@ module _ (κ : Tick) (m : Wires) (z : Constants) (zero-is : κ .before (z .zero 
         ∙ ap₂ (λ (x y : Bits). getD old (number x) y) (address-is limits r bits f h) (binary-zeros (r .width)) in
         ap (λ (t : ℕ). window (σ′ t) 0 (r .width)) s
         ∙ ap (λ (x : Bits). window x 0 (r .width)) (p .taken)
-        ∙ pick-map (λ (x : Bits). window x 0 (r .width)) (F && enableNow σ (p .enable)) X (σ (p .target .signal))
-        ∙ ap₂ (λ (t : Bool) (x : Bits). pick (F && t) x (window (σ (p .target .signal)) 0 (r .width))) (enable-holds o (p .enable) (p .enable-is)) (ap (λ (x : Bits). window x 0 (r .width)) chosen ∙ window-all (getD old (address v r bits) (zeros (r .width))) (r .width) (old-wide (address v r bits)))
-        ∙ ap (λ (t : ℕ). pick (F && enabled v o) (getD old (address v r bits) (zeros (r .width))) (window (σ t) 0 (r .width))) (sym s)
-        ∙ both F (enabled v o)
+        ∙ pick-map (λ (x : Bits). window x 0 (r .width)) (F && enableNow σ (p .enable)) (pick (enabled v c) X (bitsOf σ (r .width) (p .target .signal))) (σ (p .target .signal))
+        ∙ ap₂ (λ (t : Bool) (x : Bits). pick (F && t) x (window (σ (p .target .signal)) 0 (r .width))) (enable-holds o (p .enable) (p .enable-is))
+        (pick-map (λ (x : Bits). window x 0 (r .width)) (enabled v c) X (bitsOf σ (r .width) (p .target .signal))
+        ∙ ap₂ (λ (x y : Bits). pick (enabled v c) x y) (ap (λ (x : Bits). window x 0 (r .width)) chosen ∙ window-all (getD old (address v r bits) (zeros (r .width))) (r .width) (old-wide (address v r bits)))
+        (window-all (bitsOf σ (r .width) (p .target .signal)) (r .width) (length-window (σ (p .target .signal)) 0 (r .width))))
+        ∙ ap (λ (t : ℕ). pick (F && enabled v o) (pick (enabled v c) (getD old (address v r bits) (zeros (r .width))) (window (σ t) 0 (r .width))) (window (σ t) 0 (r .width))) (sym s)
+        ∙ both F (enabled v o) (enabled v c)
       where
         old-wide : (i : ℕ) → length (getD (map (bitsOf σ (r .width)) ws) i (zeros (r .width))) ≡ r .width
         old-wide i = go ws i
@@ -151,10 +154,11 @@ module _ (κ : Tick) (m : Wires) (z : Constants) (zero-is : κ .before (z .zero 
             go (x ∷ l) zero = length-window (σ x) 0 (r .width)
             go (x ∷ l) (suc i) = go l i
 
-        both : (x y : Bool) → pick (x && y) (getD old (address v r bits) (zeros (r .width))) (readOf σ m (r .width) (getD outputs 0 0)) ≡ pick x (loaded y (address v r bits) r old (readOf σ m (r .width) (getD outputs 0 0))) (readOf σ m (r .width) (getD outputs 0 0))
-        both true true = refl
-        both true false = refl
-        both false y = refl
+        both : (x y e : Bool) → pick (x && y) (pick e (getD old (address v r bits) (zeros (r .width))) (readOf σ m (r .width) (getD outputs 0 0))) (readOf σ m (r .width) (getD outputs 0 0)) ≡ pick x (loaded (y && e) (address v r bits) r old (readOf σ m (r .width) (getD outputs 0 0))) (readOf σ m (r .width) (getD outputs 0 0))
+        both true true true = refl
+        both true true false = refl
+        both true false e = refl
+        both false y e = refl
 
     second-next : (o : Option SecondPort) → FitsOption (FitsSecond limits (r .width)) o → SecondRead κ m z (r .width) (addressWidth (r .depth)) (shiftFor r) A B o ws (d .clock) (r .edge)
         → secondRead σ′ m (r .width) o ≡ pick F (loadedB v r o old (secondRead σ m (r .width) o)) (secondRead σ m (r .width) o)
@@ -163,7 +167,7 @@ module _ (κ : Tick) (m : Wires) (z : Constants) (zero-is : κ .before (z .zero 
         go : (t : Bool) → zeros (r .width) ≡ pick t (zeros (r .width)) (zeros (r .width))
         go true = refl
         go false = refl
-    second-next (some p) q h = read-next (p .output) (p .readEnable) (p .address) (q .address .0) h
+    second-next (some p) q h = read-next (p .output) (p .readEnable) (p .clockEnable) (p .address) (q .address .0) h
 
     ram-next : (t : Bool) → F ≡ t → registersOf σ′ m (blockRam r) ws ≡ nextRam t v r (registersOf σ m (blockRam r) ws)
     ram-next t e = go t (ap (λ (b : Bool). pick b (writtenB v r (r .second) (writtenA v r old)) old) e)
@@ -174,8 +178,8 @@ module _ (κ : Tick) (m : Wires) (z : Constants) (zero-is : κ .before (z .zero 
             → pick F (loadedA v r old (readOf σ m (r .width) (getD (r .output) 0 0))) (readOf σ m (r .width) (getD (r .output) 0 0)) ≡ pick t (loadedA v r old (readOf σ m (r .width) (getD (r .output) 0 0))) (readOf σ m (r .width) (getD (r .output) 0 0))
             → pick F (loadedB v r (r .second) old (secondRead σ m (r .width) (r .second))) (secondRead σ m (r .width) (r .second)) ≡ pick t (loadedB v r (r .second) old (secondRead σ m (r .width) (r .second))) (secondRead σ m (r .width) (r .second))
             → registersOf σ′ m (blockRam r) ws ≡ nextRam t v r (registersOf σ m (blockRam r) ws)
-        go true x y u = same-registers (words-next ∙ x) (read-next (r .output) (r .readEnable) (r .readAddress) (f .readAddress .0) (d .first) ∙ y) (second-next (r .second) (f .second) (d .second-port) ∙ u)
-        go false x y u = same-registers (words-next ∙ x) (read-next (r .output) (r .readEnable) (r .readAddress) (f .readAddress .0) (d .first) ∙ y) (second-next (r .second) (f .second) (d .second-port) ∙ u)
+        go true x y u = same-registers (words-next ∙ x) (read-next (r .output) (r .readEnable) (r .clockEnable) (r .readAddress) (f .readAddress .0) (d .first) ∙ y) (second-next (r .second) (f .second) (d .second-port) ∙ u)
+        go false x y u = same-registers (words-next ∙ x) (read-next (r .output) (r .readEnable) (r .clockEnable) (r .readAddress) (f .readAddress .0) (d .first) ∙ y) (second-next (r .second) (f .second) (d .second-port) ∙ u)
 
   -- DISTRIBUTED RAM
 

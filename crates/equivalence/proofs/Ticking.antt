@@ -89,15 +89,15 @@ module _ {limits : Limits} {n : Netlist} (a : Lowered limits n) {widest : ℕ} (
     words-alike width aw x y clock edge i (w ∷ ws) h =
         ap₂ (λ (b : Bits) (l : List Bits). b ∷ l) (ap (λ (v : Bits). Rattle.bits.specs.Bits.window v 0 width) (alike w (h .0 .registered))) (words-alike width aw x y clock edge (suc i) ws (h .1))
 
-    read-alike : (width aw : ℕ) (x : PortValue) (y : Option PortValue) (outputs : List ℕ) (o : Option Rattle.netlist.specs.declared.Control.Control) (bits : Bits) (ws : List ℕ) (clock edge : ℕ)
-        → ReadPort (κ k) m (runs .constants) width aw x y outputs o bits ws clock edge → readOf τ m width (getD outputs 0 0) ≡ readOf ρ m width (getD outputs 0 0)
-    read-alike width aw x y outputs o bits ws clock edge p =
+    read-alike : (width aw : ℕ) (x : PortValue) (y : Option PortValue) (outputs : List ℕ) (o c : Option Rattle.netlist.specs.declared.Control.Control) (bits : Bits) (ws : List ℕ) (clock edge : ℕ)
+        → ReadPort (κ k) m (runs .constants) width aw x y outputs o c bits ws clock edge → readOf τ m width (getD outputs 0 0) ≡ readOf ρ m width (getD outputs 0 0)
+    read-alike width aw x y outputs o c bits ws clock edge p =
         let s : aim (m (getD outputs 0 0)) ≡ p .target .signal = ap aim (p .target-is) in
         ap (λ (t : ℕ). bitsOf τ width t) s ∙ ap (λ (v : Bits). Rattle.bits.specs.Bits.window v 0 width) (alike (p .target .signal) (p .registered)) ∙ ap (λ (t : ℕ). bitsOf ρ width t) (sym s)
 
     second-alike : (width aw shift : ℕ) (x : PortValue) (y : Option PortValue) (o : Option SecondPort) (ws : List ℕ) (clock edge : ℕ) → SecondRead (κ k) m (runs .constants) width aw shift x y o ws clock edge → secondRead τ m width o ≡ secondRead ρ m width o
     second-alike width aw shift x y none ws clock edge h = refl
-    second-alike width aw shift x y (some p) ws clock edge h = read-alike width aw x y (p .output) (p .readEnable) _ ws clock edge h
+    second-alike width aw shift x y (some p) ws clock edge h = read-alike width aw x y (p .output) (p .readEnable) (p .clockEnable) _ ws clock edge h
 
     flop-alike : (c : ℕ) (f : Rattle.netlist.specs.Netlist.FlipFlop) → getD (n .cells) c absent ≡ flipFlop f → held τ m (f .output) ≡ held ρ m (f .output)
     flop-alike c f e =
@@ -121,7 +121,7 @@ module _ {limits : Limits} {n : Netlist} (a : Lowered limits n) {widest : ℕ} (
     cell-alike c (flipFlop f) ws e d = ap (λ (b : Bool). record { flop = b; words = []; readA = []; readB = [] }) (flop-alike c f e)
     cell-alike c (blockRam x) ws e d =
         let p = words-alike _ _ _ _ _ _ 0 ws (d .updated) in
-        let q = read-alike _ _ _ _ (x .output) (x .readEnable) _ ws _ _ (d .first) in
+        let q = read-alike _ _ _ _ (x .output) (x .readEnable) (x .clockEnable) _ ws _ _ (d .first) in
         let s = second-alike _ _ _ _ _ (x .second) ws _ _ (d .second-port) in
         λ i. record { flop = false; words = p i; readA = q i; readB = s i }
     cell-alike c (distributedRam x) ws e d = ap (λ (l : List Bits). record { flop = false; words = l; readA = []; readB = [] }) (words-alike _ _ _ _ _ _ 0 ws (d .updated))

@@ -35,7 +35,7 @@ use Rattle.meaning.proofs.Settling.{gets-any}
 use Rattle.meaning.proofs.BitReads.{ref-gets}
 use Rattle.meaning.proofs.Memories.{signalsIn}
 use Rattle.forms.specs.Acts.{Quiet, targets, Done, Acts, aim, range, secondAim, aims, clockAims, cellAims, cellWords, allAims, allWords, bankAims, portAims, netlistWords, netlistAims}
-use Rattle.forms.proofs.Quiets.{quiet-pure, quiet-emit, quiet-bind, quiet-ref, quiet-bit, quiet-signal, quiet-asserted, quiet-concat, quiet-vector, quiet-reads, quiet-mux, quiet-xor, quiet-lut, quiet-levels, quiet-write, quiet-second, quiet-candidates, quiet-enable, quiet-exprs, quiet-select, quiet-nexts, quiet-bank-reset}
+use Rattle.forms.proofs.Quiets.{quiet-pure, quiet-emit, quiet-bind, quiet-ref, quiet-bit, quiet-signal, quiet-asserted, quiet-concat, quiet-vector, quiet-reads, quiet-mux, quiet-xor, quiet-lut, quiet-levels, quiet-gate, quiet-write, quiet-second, quiet-candidates, quiet-enable, quiet-next-read, quiet-exprs, quiet-select, quiet-nexts, quiet-bank-reset}
 
 -- THE LOGIC
 
@@ -191,7 +191,7 @@ module _ (m : Wires) (z : Constants) where
   port-acts p ws width aw clock edge =
       quietly quiet-emit (λ e n₁ e₁. quietly (quiet-candidates (p .readAddress) aw 0 ws []) (λ ns n₂ e₂. quietly (quiet-levels (length ns) width ns e) (λ v n₃ e₃.
       acts-bind (acts-known (quiet-ref m (getD (p .readData) 0 0)) (ref-gets m (getD (p .readData) 0 0))) (λ r q n₄ e₄.
-      quietly (quiet-enable m z (p .readEnable)) (λ en n₅ e₅. acts-as refl (ap (λ (o : Option WireRef). aim o ∷ []) (sym q)) (λ a h. h) acts-state)))))
+      quietly (quiet-enable m z (p .readEnable)) (λ en n₅ e₅. quietly (quiet-next-read (p .clockEnabled) width (r .signal) v) (λ n n₆ e₆. acts-as refl (ap (λ (o : Option WireRef). aim o ∷ []) (sym q)) (λ a h. h) acts-state))))))
 
   -- the second port's expressions, where it is there
   IsPort : Option SecondPort → Option PortExprs → Type 0
@@ -220,10 +220,10 @@ module _ (m : Wires) (z : Constants) where
   ram-acts owner r {n} =
       let aw : ℕ = addressWidth (r .depth) in
       let shift : ℕ = shiftIn (shiftOf (r .physical)) in
-      quietly (quiet-vector m (r .writeAddress) shift aw) (λ wa n₁ e₁. quietly (quiet-vector m (r .readAddress) shift aw) (λ ra n₂ e₂. quietly (quiet-vector m (r .input) 0 (length (r .input))) (λ d n₃ e₃. quietly (quiet-asserted m (r .write)) (λ y n₄ e₄.
+      quietly (quiet-vector m (r .writeAddress) shift aw) (λ wa n₁ e₁. quietly (quiet-vector m (r .readAddress) shift aw) (λ ra n₂ e₂. quietly (quiet-vector m (r .input) 0 (length (r .input))) (λ d n₃ e₃. quietly (quiet-gate m (r .write) (r .clockEnable)) (λ g n₄ e₄.
       acts-bind (acts-known (quiet-exprs m shift aw (r .second)) (is-port shift aw (r .second))) (λ b hb n₅ e₅.
       quietly (quiet-signal m z (r .clock)) (λ clock n₆ e₆.
-      let a : PortExprs = record { writeAddress = wa; writeData = d; writeAsserted = y; readAddress = ra; readData = r .output; readEnable = r .readEnable } in
+      let a : PortExprs = record { writeAddress = wa; writeData = d; writeAsserted = g .writeAsserted; readAddress = ra; readData = r .output; readEnable = r .readEnable; clockEnabled = g .clockEnabled } in
       acts-as (append-nil (replicate (r .depth) (wordSignal (r .width) owner))) refl (λ u v. v)
       (acts-bind (words-acts a b owner (r .width) aw (r .depth) 0 []) (λ ws hw n₇ e₇.
       acts-bind (port-acts a ws (r .width) aw clock (r .edge)) (λ u v n₈ e₈.
@@ -259,7 +259,7 @@ module _ (m : Wires) (z : Constants) where
   dram-acts owner r {n} =
       quietly (quiet-vector m (r .writeAddress) 0 4) (λ wa n₁ e₁. quietly (quiet-vector m (r .readAddress) 0 4) (λ ra n₂ e₂. quietly (quiet-vector m (r .input) 0 4) (λ d n₃ e₃. quietly (quiet-asserted m (r .write)) (λ y n₄ e₄.
       quietly (quiet-signal m z (r .clock)) (λ clock n₅ e₅.
-      let p : PortExprs = record { writeAddress = wa; writeData = d; writeAsserted = y; readAddress = ra; readData = r .output; readEnable = none } in
+      let p : PortExprs = record { writeAddress = wa; writeData = d; writeAsserted = y; readAddress = ra; readData = r .output; readEnable = none; clockEnabled = none } in
       acts-as (append-nil (replicate 16 (wordSignal 4 owner))) (ap (λ (k : ℕ). range k 16 ++ (aim (m (getD (r .output) 0 0)) ∷ [])) (let q : n₅ .signals ≡ n .signals = omega (arith, e₁, e₂, e₃, e₄, e₅) in q)) (λ u v. v)
       (acts-bind (dram-words-acts p owner clock (r .edge) 16 0 []) (λ ws u n₆ e₆.
       quietly quiet-emit (λ e n₇ e₇. quietly (quiet-select ra 0 ws e) (λ v n₈ e₈. aim-at m (getD (r .output) 0 0) v)))))))))

@@ -23,7 +23,7 @@ use Rattle.behaviour.specs.Behaviour.{shiftIn}
 use Rattle.wires.specs.declared.Constants.{Constants}
 use Rattle.wires.specs.Wires.{WireRef, Wires}
 use Rattle.address_mux.specs.AddressMux.{Node, muxLevel, topLevel, muxLevels, balancedAddressMux}
-use Rattle.memories.specs.Memories.{Word, PortExprs, writeWord, writeSecond, ramWord, ramWords, candidatesFrom, enableOf, emitBlockRamReadPort, emitSecondReadPort, updateWords, secondExprs, emitBlockRam, dramWords, dramSelect, emitDistributedRam}
+use Rattle.memories.specs.Memories.{Word, PortExprs, gate, writeWord, writeSecond, ramWord, ramWords, candidatesFrom, enableOf, nextRead, emitBlockRamReadPort, emitSecondReadPort, updateWords, secondExprs, emitBlockRam, dramWords, dramSelect, emitDistributedRam}
 use Rattle.forms.specs.Typed.{Context, At, Sig, Exp, Grows, Wide, Fit, Any, GoodEnable}
 use Rattle.forms.specs.Suits.{From, WideAs, Suits, SecondSuits}
 use Rattle.forms.proofs.Fits.{grow-exp, exp-so, grow-sig, fit-pure, fit-declare, fit-state, fit-bind, fit-so, emit-const, emit-read, emit-and, emit-or, emit-mux, emit-eq}
@@ -99,14 +99,24 @@ module _ {widest words : ℕ} {D : ℕ → ℕ → Type 0} (width : ℕ) (wide :
 
 -- WORDS
 
+-- a clock enable asserted, where it is there
+data FitEnabled (c : Context) : Option ℕ → Type 0 where
+  no-enable : FitEnabled c none
+  enable : {e : ℕ} → Exp c e 1 Any → FitEnabled c (some e)
+
+grow-enabled : {c c′ : Context} {o : Option ℕ} → Grows c c′ → FitEnabled c o → FitEnabled c′ o
+grow-enabled g no-enable = no-enable
+grow-enabled g (enable h) = enable (grow-exp g h)
+
 record FitPort (c : Context) (width aw : ℕ) (p : PortExprs) : Type 0 where
   write-address : Exp c (p .writeAddress) aw Any
   write-data : Exp c (p .writeData) width Any
   write-asserted : Exp c (p .writeAsserted) 1 Any
   read-address : Exp c (p .readAddress) aw Any
+  clock-enabled : FitEnabled c (p .clockEnabled)
 
 grow-port : {c c′ : Context} {width aw : ℕ} {p : PortExprs} → Grows c c′ → FitPort c width aw p → FitPort c′ width aw p
-grow-port g h = record { write-address = grow-exp g (h .write-address); write-data = grow-exp g (h .write-data); write-asserted = grow-exp g (h .write-asserted); read-address = grow-exp g (h .read-address) }
+grow-port g h = record { write-address = grow-exp g (h .write-address); write-data = grow-exp g (h .write-data); write-asserted = grow-exp g (h .write-asserted); read-address = grow-exp g (h .read-address); clock-enabled = grow-enabled g (h .clock-enabled) }
 
 data FitSecond (c : Context) (width aw : ℕ) : Option PortExprs → Type 0 where
   no-second : FitSecond c width aw none
@@ -200,10 +210,18 @@ control-level : (limits : Limits) (o : Option Control) → FitsOption (FitsContr
 control-level limits none h = tt
 control-level limits (some k) h = omega (arith, h .active)
 
+grow-reg-enable : {c c′ : Context} → Grows c c′ → (e : Option RegEnable) → GoodEnable c e → GoodEnable c′ e
+grow-reg-enable g none h = tt
+grow-reg-enable g (some e) h = (grow-sig g (h .0), h .1)
+
 module _ {widest words : ℕ} {D : ℕ → ℕ → Type 0} (room : 36 ≤ widest) (m : Wires) (z : Constants) where
   fit-enable : (o : Option Control) {c : Context} → Ready words c m → Sig c (z .zero .0) 1 → Sig c (z .one .0) 1 → LevelledControl o → Fit widest words D c (enableOf m z o) (λ e c′. GoodEnable c′ e)
   fit-enable none ready hz ho l = fit-pure tt
   fit-enable (some k) ready hz ho l = fit-bind (fit-signal room m ready hz ho (k .signal)) (λ s c₁ g h. fit-pure (h, l))
+
+  fit-next-read : (width : ℕ) {o : Option ℕ} {target word : ℕ} {c : Context} → Wide widest width → FitEnabled c o → Sig c target width → Exp c word width Any → Fit widest words D c (nextRead o width target word) (λ e c′. Exp c′ e width Any)
+  fit-next-read width wide no-enable hs hv = fit-pure hv
+  fit-next-read width wide (enable h) hs hv = fit-bind (emit-read wide hs (omega arith) tt) (λ own c₁ g ho. emit-mux wide (grow-exp g h) (grow-exp g hv) ho)
 
   fit-read-port : (p : PortExprs) (ws : List Word) (width aw clock edge : ℕ) {c : Context} → Wide widest width → Wide widest aw → Ready words c m → Sig c (z .zero .0) 1 → Sig c (z .one .0) 1 → FitPort c width aw p
       → length ws ≤ 2 ^ aw → FitWords c words width ws → Sig c clock 1 → edge ≤ 1 → LevelledControl (p .readEnable) → WideAs m (getD (p .readData) 0 0) width
@@ -216,12 +234,22 @@ module _ {widest words : ℕ} {D : ℕ → ℕ → Type 0} (room : 36 ≤ widest
       let r₃ = grow-ready g₃ (grow-ready g₂ (grow-ready g₁ ready)) in
       fit-bind (fit-ref room m r₃ (getD (p .readData) 0 0)) (λ r c₄ g₄ hr.
       fit-bind (fit-enable (p .readEnable) (grow-ready g₄ r₃) (grow-sig g₄ (grow-sig g₃ (grow-sig g₂ (grow-sig g₁ hz)))) (grow-sig g₄ (grow-sig g₃ (grow-sig g₂ (grow-sig g₁ ho)))) hen) (λ en c₅ g₅ h₅.
-      fit-state (width, subst (λ (k : ℕ). Sig c₅ (r .signal) k) (hwide r (hr .0)) (grow-sig g₅ (hr .1)), grow-exp g₅ (grow-exp g₄ hv) .typed, grow-sig g₅ (grow-sig g₄ (grow-sig g₃ (grow-sig g₂ (grow-sig g₁ hk)))), he, tt, h₅))))))
+      let hs : Sig c₅ (r .signal) width = subst (λ (k : ℕ). Sig c₅ (r .signal) k) (hwide r (hr .0)) (grow-sig g₅ (hr .1)) in
+      fit-bind (fit-next-read width wide (grow-enabled g₅ (grow-enabled g₄ (grow-enabled g₃ (grow-enabled g₂ (grow-enabled g₁ (hp .clock-enabled)))))) hs (grow-exp g₅ (grow-exp g₄ hv))) (λ n c₆ g₆ hx.
+      fit-state (width, grow-sig g₆ hs, hx .typed, grow-sig g₆ (grow-sig g₅ (grow-sig g₄ (grow-sig g₃ (grow-sig g₂ (grow-sig g₁ hk))))), he, tt, grow-reg-enable g₆ en h₅)))))))
 
   fit-second-port : (o : Option PortExprs) (ws : List Word) (width aw clock edge : ℕ) {c : Context} → Wide widest width → Wide widest aw → Ready words c m → Sig c (z .zero .0) 1 → Sig c (z .one .0) 1 → FitSecond c width aw o
       → length ws ≤ 2 ^ aw → FitWords c words width ws → Sig c clock 1 → edge ≤ 1 → SecondIs m width o → Fit widest words D c (emitSecondReadPort m z o ws width aw clock edge) (λ x c′. Unit {0})
   fit-second-port none ws width aw clock edge wide aww ready hz ho hp hl hw hk he hs = fit-pure tt
   fit-second-port (some p) ws width aw clock edge wide aww ready hz ho (second hp) hl hw hk he hs = fit-read-port p ws width aw clock edge wide aww ready hz ho hp hl hw hk he (hs .0) (hs .1)
+
+  fit-gate : {c : Context} → Ready words c m → (write : Control) (o : Option Control) → Fit widest words D c (gate m write o) (λ g c′. Exp c′ (g .writeAsserted) 1 Any × FitEnabled c′ (g .clockEnabled))
+  unfolding gate
+  fit-gate ready write none = fit-bind (fit-asserted room m {S = Any} ready write (λ y q. tt)) (λ y c₁ g₁ hy. fit-pure (hy, no-enable))
+  fit-gate ready write (some k) =
+      fit-bind (fit-asserted room m {S = Any} ready write (λ y q. tt)) (λ y c₁ g₁ hy.
+      fit-bind (fit-asserted room m {S = Any} (grow-ready g₁ ready) k (λ y q. tt)) (λ e c₂ g₂ he.
+      fit-bind (emit-and (grow-exp g₂ hy) he) (λ g c₃ g₃ hg. fit-pure (hg, enable (grow-exp g₃ he)))))
 
   fit-second-exprs : (limits : Limits) (shift aw width : ℕ) (o : Option SecondPort) {c : Context} → Ready words c m → Wide widest aw → Wide widest width → FitsOption (FitsSecond limits width) o → SecondSuits D words m width o
       → Fit widest words D c (secondExprs m shift aw o) (λ p c′. FitSecond c′ width aw p × SecondIs m width p)
@@ -231,9 +259,9 @@ module _ {widest words : ℕ} {D : ℕ → ℕ → Type 0} (room : 36 ≤ widest
       fit-bind (fit-vector room m {S = Any} (p .address) shift aw ready aww (λ y q. tt)) (λ a c₁ g₁ ha.
       let r₁ = grow-ready g₁ ready in
       fit-bind (fit-vector room m {S = Any} (p .input) 0 (length (p .input)) r₁ (omega (arith, k, wide .0), omega (arith, k, wide .1)) (λ y q. tt)) (λ d c₂ g₂ hd.
-      fit-bind (fit-asserted room m {S = Any} (grow-ready g₂ r₁) (p .write) (λ y q. tt)) (λ y c₃ g₃ hy.
+      fit-bind (fit-gate (grow-ready g₂ r₁) (p .write) (p .clockEnable)) (λ g c₃ g₃ hg.
       fit-pure (
-        second (record { write-address = grow-exp g₃ (grow-exp g₂ ha); write-data = subst (λ (j : ℕ). Exp c₃ d j Any) k (grow-exp g₃ hd); write-asserted = hy; read-address = grow-exp g₃ (grow-exp g₂ ha) }),
+        second (record { write-address = grow-exp g₃ (grow-exp g₂ ha); write-data = subst (λ (j : ℕ). Exp c₃ d j Any) k (grow-exp g₃ hd); write-asserted = hg .0; read-address = grow-exp g₃ (grow-exp g₂ ha); clock-enabled = hg .1 }),
         (control-level limits (p .readEnable) (sh .readEnable), su),
       ))))
 
@@ -254,18 +282,19 @@ module _ {widest words : ℕ} {D : ℕ → ℕ → Type 0} (room : 36 ≤ widest
       let r₂ = grow-ready g₂ r₁ in
       fit-bind (fit-vector room m {S = Any} (r .input) 0 (length (r .input)) r₂ (omega (arith, k, wide .0), omega (arith, k, wide .1)) (λ y q. tt)) (λ d c₃ g₃ hd.
       let r₃ = grow-ready g₃ r₂ in
-      fit-bind (fit-asserted room m {S = Any} r₃ (r .write) (λ y q. tt)) (λ y c₄ g₄ hy.
+      fit-bind (fit-gate r₃ (r .write) (r .clockEnable)) (λ g c₄ g₄ hg.
       let r₄ = grow-ready g₄ r₃ in
       fit-bind (fit-second-exprs limits shift aw (r .width) (r .second) r₄ aww wide (sh .second) ss) (λ b c₅ g₅ hb.
       let r₅ = grow-ready g₅ r₄ in
       let z₅ = grow-sig g₅ (grow-sig g₄ (grow-sig g₃ (grow-sig g₂ (grow-sig g₁ hz)))) in
       let o₅ = grow-sig g₅ (grow-sig g₄ (grow-sig g₃ (grow-sig g₂ (grow-sig g₁ ho)))) in
-      let a : PortExprs = record { writeAddress = wa; writeData = d; writeAsserted = y; readAddress = ra; readData = r .output; readEnable = r .readEnable } in
+      let a : PortExprs = record { writeAddress = wa; writeData = d; writeAsserted = g .writeAsserted; readAddress = ra; readData = r .output; readEnable = r .readEnable; clockEnabled = g .clockEnabled } in
       let ha : FitPort c₅ (r .width) aw a = record {
         write-address = grow-exp g₅ (grow-exp g₄ (grow-exp g₃ (grow-exp g₂ hwa)));
         write-data = subst (λ (j : ℕ). Exp c₅ d j Any) k (grow-exp g₅ (grow-exp g₄ hd));
-        write-asserted = grow-exp g₅ hy;
+        write-asserted = grow-exp g₅ (hg .0);
         read-address = grow-exp g₅ (grow-exp g₄ (grow-exp g₃ hra));
+        clock-enabled = grow-enabled g₅ (hg .1);
       } in
       fit-bind (fit-signal room m r₅ z₅ o₅ (r .clock)) (λ clock c₆ g₆ hk.
       let r₆ = grow-ready g₆ r₅ in
@@ -318,8 +347,8 @@ module _ {widest words : ℕ} {D : ℕ → ℕ → Type 0} (room : 36 ≤ widest
       fit-bind (fit-signal room m r₄ (grow-sig g₄ (grow-sig g₃ (grow-sig g₂ (grow-sig g₁ hz)))) (grow-sig g₄ (grow-sig g₃ (grow-sig g₂ (grow-sig g₁ ho)))) (r .clock)) (λ clock c₅ g₅ hk.
       let r₅ = grow-ready g₅ r₄ in
       let ra₅ = grow-exp g₅ (grow-exp g₄ (grow-exp g₃ hra)) in
-      let p : PortExprs = record { writeAddress = wa; writeData = d; writeAsserted = y; readAddress = ra; readData = r .output; readEnable = none } in
-      let hp : FitPort c₅ 4 4 p = record { write-address = grow-exp g₅ (grow-exp g₄ (grow-exp g₃ (grow-exp g₂ hwa))); write-data = grow-exp g₅ (grow-exp g₄ hd); write-asserted = grow-exp g₅ hy; read-address = any ra₅ } in
+      let p : PortExprs = record { writeAddress = wa; writeData = d; writeAsserted = y; readAddress = ra; readData = r .output; readEnable = none; clockEnabled = none } in
+      let hp : FitPort c₅ 4 4 p = record { write-address = grow-exp g₅ (grow-exp g₄ (grow-exp g₃ (grow-exp g₂ hwa))); write-data = grow-exp g₅ (grow-exp g₄ hd); write-asserted = grow-exp g₅ hy; read-address = any ra₅; clock-enabled = no-enable } in
       fit-bind (fit-dram-words p owner clock (r .edge) 16 0 [] (r₅ .many) hp hk edge (omega arith) no-word) (λ ws c₆ g₆ hw.
       fit-bind (emit-const {S = λ y. From m (r .readAddress) y ⊎ (words ≤ y)} four (pow-pos 4)) (λ e c₇ g₇ he.
       fit-bind (fit-dram-select ra 0 ws e (λ y q. inr q) (grow-exp g₇ (grow-exp g₆ ra₅)) (omega (arith, hw .1)) (grow-words g₇ (hw .0)) he) (λ v c₈ g₈ hv.

@@ -27,7 +27,7 @@ use Rattle.wires.specs.declared.Constants.{Constants}
 use Rattle.wires.specs.Wires.{WireRef, Wires}
 use Rattle.wires.specs.Expressions.{refOf, wireRef, readRef, bitExpression, whole, bitSignal, assertedExpression, concatParts, vectorParts, vectorExpression, bitsExpression, readBits}
 use Rattle.address_mux.specs.AddressMux.{Node, muxLevel, topLevel, muxLevels, balancedAddressMux}
-use Rattle.memories.specs.Memories.{Word, PortExprs, writeWord, writeSecond, candidatesFrom, enableOf, secondExprs, dramSelect}
+use Rattle.memories.specs.Memories.{Word, PortExprs, gate, writeWord, writeSecond, candidatesFrom, enableOf, nextRead, secondExprs, dramSelect}
 use Rattle.lowering.specs.Emit.{withEnable, resetBit, withReset, nextBit, nextBits, resetBits, bankReset}
 use Rattle.forms.specs.Acts.{Quiet}
 
@@ -150,6 +150,11 @@ quiet-levels (suc fuel) width [] e = quiet-pure
 quiet-levels (suc fuel) width (n ∷ []) e = quiet-emit
 quiet-levels (suc fuel) width (l ∷ r ∷ ns) e = quiet-bind (quiet-level width (l ∷ r ∷ ns) []) (λ next. quiet-levels fuel width next e)
 
+pub quiet-gate : (m : Wires) (write : Control) (o : Option Control) → Quiet (gate m write o)
+unfolding gate
+quiet-gate m write none = quiet-bind (quiet-asserted m write) (λ y. quiet-pure)
+quiet-gate m write (some enable) = quiet-bind (quiet-asserted m write) (λ y. quiet-bind (quiet-asserted m enable) (λ c. quiet-bind quiet-emit (λ g. quiet-pure)))
+
 pub quiet-write : (p : PortExprs) (width aw index now : ℕ) → Quiet (writeWord p width aw index now)
 unfolding writeWord
 quiet-write p width aw index now = quiet-bind quiet-emit (λ k. quiet-bind quiet-emit (λ e. quiet-bind quiet-emit (λ y. quiet-emit)))
@@ -167,9 +172,13 @@ pub quiet-enable : (m : Wires) (z : Constants) (o : Option Control) → Quiet (e
 quiet-enable m z none = quiet-pure
 quiet-enable m z (some c) = quiet-bind (quiet-signal m z (c .signal)) (λ s. quiet-pure)
 
+pub quiet-next-read : (o : Option ℕ) (width target word : ℕ) → Quiet (nextRead o width target word)
+quiet-next-read none width target word = quiet-pure
+quiet-next-read (some c) width target word = quiet-bind quiet-emit (λ own. quiet-emit)
+
 pub quiet-exprs : (m : Wires) (shift aw : ℕ) (o : Option SecondPort) → Quiet (secondExprs m shift aw o)
 quiet-exprs m shift aw none = quiet-pure
-quiet-exprs m shift aw (some p) = quiet-bind (quiet-vector m (p .address) shift aw) (λ a. quiet-bind (quiet-vector m (p .input) 0 (length (p .input))) (λ d. quiet-bind (quiet-asserted m (p .write)) (λ y. quiet-pure)))
+quiet-exprs m shift aw (some p) = quiet-bind (quiet-vector m (p .address) shift aw) (λ a. quiet-bind (quiet-vector m (p .input) 0 (length (p .input))) (λ d. quiet-bind (quiet-gate m (p .write) (p .clockEnable)) (λ g. quiet-pure)))
 
 pub quiet-select : (address index : ℕ) (ws : List Word) (now : ℕ) → Quiet (dramSelect address index ws now)
 unfolding dramSelect

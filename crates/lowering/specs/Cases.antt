@@ -11,6 +11,8 @@ use Rattle.wires.specs.Expressions.{wireRef, bitExpression, bitSignal, asserted
 use Rattle.optimize.specs.Rewrite.{muxOf, xorOf, emitRewrite}
 use Rattle.optimize.specs.Lut.{lutCofactor, joinCofactors, evens}
 use Rattle.cells.specs.Cells.{emitLut4, emitCyclePll, pllClocks}
+use Rattle.address_mux.specs.AddressMux.{muxLevel, muxLevels}
+use Rattle.memories.specs.Memories.{gate, writeWord, ramWord, ramWords, candidatesFrom, emitBlockRamReadPort, updateWords, emitBlockRam}
 use Rattle.lowering.specs.Reserve.{insertWire, insertBits, insertWires, reserveScalar, reserveScalars, reserveVector, reserveAbsent, reserveCellOutput, reserveCells, reservePort, reservePorts, reserveFlipFlopBanks}
 use Rattle.lowering.specs.Emit.{nextBit, nextBits, resetBits, emitFlipFlopBank, emitBanks, emitCell, emitCells, emitOutputs}
 use Rattle.lowering.specs.Lower.{Lowered, Accepted, Refused, Lowering, lowered, lowerNetlist, reserveNetlist, emitNetlist, emitConstants, overdrivenFrom, statementsOn, lowerWords}
@@ -38,6 +40,15 @@ lutOf bit wire = 0 ∷ bit ∷ 0 ∷ 0 ∷ 0 ∷ wire ∷ 0 ∷ []
 abbrev pub flopOf : ℕ → ℕ → List ℕ → List ℕ
 flopOf wire clock reset = 5 ∷ 0 ∷ wire ∷ clock ∷ 0 ∷ 0 ∷ 0 ∷ 0 ∷ reset
 
+-- a block RAM of one word of one bit, with this output wire and clock enable; all else is constant
+abbrev pub ramOf : ℕ → List ℕ → List ℕ
+ramOf wire enable =
+    6 ∷ 1 ∷ 1 ∷ 1 ∷
+    0 ∷ 0 ∷ 0 ∷ 0 ∷ 0 ∷ 0 ∷ 0 ∷ 0 ∷ 0 ∷ 0 ∷ 0 ∷ 0 ∷ 0 ∷ 0 ∷
+    1 ∷ 1 ∷
+    0 ∷ 0 ∷ 0 ∷ 0 ∷ 0 ∷ 0 ∷ 0 ∷ 0 ∷ 0 ∷ 0 ∷ 0 ∷ 0 ∷ 0 ∷ 0 ∷
+    0 ∷ 0 ∷ 0 ∷ (enable ++ (0 ∷ 0 ∷ 0 ∷ 0 ∷ wire ∷ []))
+
 abbrev pub cases : List Row
 cases =
     -- no ports, no cells; the same with one word too few in each list
@@ -61,8 +72,15 @@ cases =
     -- two flip-flops on one clock, one of them with an asynchronous reset: two banks; with a synchronous one: one bank
     record { words = flopOf 0 1 (0 ∷ 0 ∷ 0 ∷ 0 ∷ 0 ∷ []) ++ flopOf 1 1 (1 ∷ 1 ∷ 1 ∷ 1 ∷ 0 ∷ []) ++ (0 ∷ 0 ∷ 0 ∷ 2 ∷ []); signals = 99; exprs = 99; stmts = 99; answer = 4 ∷ 2 ∷ 4 ∷ [] } ∷
     record { words = flopOf 0 1 (0 ∷ 0 ∷ 0 ∷ 0 ∷ 0 ∷ []) ++ flopOf 1 1 (1 ∷ 1 ∷ 1 ∷ 0 ∷ 0 ∷ []) ++ (0 ∷ 0 ∷ 0 ∷ 2 ∷ []); signals = 99; exprs = 99; stmts = 99; answer = 3 ∷ 4 ∷ 3 ∷ [] } ∷
+    -- a block RAM without a clock enable; a constant one gives its and, the own read and the mux, and active low its not
+    record { words = ramOf 0 (0 ∷ 0 ∷ 0 ∷ []) ++ (0 ∷ 0 ∷ 0 ∷ 1 ∷ []); signals = 99; exprs = 99; stmts = 99; answer = 4 ∷ 11 ∷ 4 ∷ [] } ∷
+    record { words = ramOf 0 (1 ∷ 0 ∷ 1 ∷ []) ++ (0 ∷ 0 ∷ 0 ∷ 1 ∷ []); signals = 99; exprs = 99; stmts = 99; answer = 4 ∷ 14 ∷ 4 ∷ [] } ∷
+    record { words = ramOf 0 (1 ∷ 0 ∷ 0 ∷ []) ++ (0 ∷ 0 ∷ 0 ∷ 1 ∷ []); signals = 99; exprs = 99; stmts = 99; answer = 4 ∷ 15 ∷ 4 ∷ [] } ∷
+    -- a clock enable whose wire is missing; one that is a bit of two is read as any bit
+    record { words = ramOf 0 (1 ∷ 7 ∷ 1 ∷ []) ++ (0 ∷ 0 ∷ 0 ∷ 1 ∷ []); signals = 99; exprs = 99; stmts = 99; answer = 8 ∷ 5 ∷ [] } ∷
+    record { words = 0 ∷ 2 ∷ 2 ∷ 3 ∷ (ramOf 9 (1 ∷ 3 ∷ 1 ∷ []) ++ (0 ∷ 1 ∷ 4 ∷ 1 ∷ [])); signals = 99; exprs = 99; stmts = 99; answer = 5 ∷ 15 ∷ 4 ∷ [] } ∷
     []
 
 pub cases-hold : map lowering cases ≡ map (λ (r : Row). r .answer) cases
-unfolding lowered lowerNetlist reserveNetlist emitNetlist emitConstants emitCells emitCell emitBanks emitOutputs emitFlipFlopBank nextBits nextBit resetBits reservePorts reservePort reserveCells reserveCellOutput reserveScalar reserveScalars reserveVector reserveAbsent reserveFlipFlopBanks insertBits insertWire insertWires overdrivenFrom statementsOn play fits over _>>=_ collectFlipFlopBanks banksFrom leadersFrom flipFlopsFrom bankIn membersOf emitLut4 readBits bitExpression wireRef lutCofactor joinCofactors evens muxOf xorOf emitRewrite assignWire emitCyclePll pllClocks bitSignal assertedExpression concatParts vectorExpression vectorParts
+unfolding lowered lowerNetlist reserveNetlist emitNetlist emitConstants emitCells emitCell emitBanks emitOutputs emitFlipFlopBank nextBits nextBit resetBits reservePorts reservePort reserveCells reserveCellOutput reserveScalar reserveScalars reserveVector reserveAbsent reserveFlipFlopBanks insertBits insertWire insertWires overdrivenFrom statementsOn play fits over _>>=_ collectFlipFlopBanks banksFrom leadersFrom flipFlopsFrom bankIn membersOf emitLut4 readBits bitExpression wireRef lutCofactor joinCofactors evens muxOf xorOf emitRewrite assignWire emitCyclePll pllClocks bitSignal assertedExpression concatParts vectorExpression vectorParts muxLevel muxLevels gate writeWord ramWord ramWords candidatesFrom emitBlockRamReadPort updateWords emitBlockRam
 cases-hold = refl

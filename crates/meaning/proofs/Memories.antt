@@ -18,11 +18,11 @@ use Rattle.recorder.specs.Evaluate.{Signals, Values}
 use Rattle.recorder.specs.Meaning.{Is, Keeps, Base, Makes, Means}
 use Rattle.recorder.proofs.Makes.{base-keeps, makes-pure, makes-bind, makes-so, makes-declare, means-emit}
 use Rattle.optimize.proofs.Muxes.{and-value, mux-value}
-use Rattle.behaviour.specs.Behaviour.{Valuation, asserted, shiftIn}
+use Rattle.behaviour.specs.Behaviour.{Valuation, asserted, enabled, shiftIn}
 use Rattle.wires.specs.declared.Constants.{Constants}
 use Rattle.wires.specs.Wires.{WireRef, Wires}
 use Rattle.address_mux.specs.AddressMux.{Node, balancedAddressMux}
-use Rattle.memories.specs.Memories.{Word, PortExprs, writeWord, writeSecond, ramWord, ramWords, candidatesFrom, enableOf, emitBlockRamReadPort, emitSecondReadPort, updateWords, secondExprs, emitBlockRam, dramWords, dramSelect, emitDistributedRam}
+use Rattle.memories.specs.Memories.{Word, PortExprs, gate, writeWord, writeSecond, ramWord, ramWords, candidatesFrom, enableOf, nextRead, emitBlockRamReadPort, emitSecondReadPort, updateWords, secondExprs, emitBlockRam, dramWords, dramSelect, emitDistributedRam}
 use Rattle.meaning.specs.Held.{held, valuesAt, Driven, Choice, lastChoice}
 use Rattle.meaning.specs.Settles.{Tick, enableNow, RegOn, Holds, Settles, Gets}
 use Rattle.meaning.proofs.Settling.{gets-pure, gets-bind, gets-so, gets-any, settles-both, settles-makes, settles-gets, settles-state, settles-pure, settles-bind, settles-so}
@@ -31,21 +31,32 @@ use Rattle.meaning.proofs.Tree.{Nodes, nodes-keep, nodes-snoc, tree-mea
 use Rattle.meaning.proofs.Equations.{now, some-is, Bases, bases-keep, assign-settles}
 use Rattle.meaning.proofs.Registers.{and-yes}
 
--- what a port brings to a tick
+-- what a port brings to a tick; `asserted` is of its write control and its clock enable together
 pub record PortValue : Type 0 where
   pub address : Bits
   pub word : Bits
   pub asserted : Bool
   pub readAt : Bits
+  pub enabled : Bool
+
+-- a clock enable that is not there is always asserted
+data EnabledIs (env : Values) : Option ℕ → Bool → Type 0 where
+  always : EnabledIs env none true
+  given : {c : ℕ} {b : Bool} → Is env c (b ∷ []) → EnabledIs env (some c) b
+
+keep-enabled : {env env′ : Values} {o : Option ℕ} {b : Bool} → Keeps env env′ → EnabledIs env o b → EnabledIs env′ o b
+keep-enabled k always = always
+keep-enabled k (given h) = given (k _ _ h)
 
 record PortIs (env : Values) (p : PortExprs) (v : PortValue) : Type 0 where
   address-is : Is env (p .writeAddress) (v .address)
   word-is : Is env (p .writeData) (v .word)
   asserted-is : Is env (p .writeAsserted) (v .asserted ∷ [])
   read-is : Is env (p .readAddress) (v .readAt)
+  enabled-is : EnabledIs env (p .clockEnabled) (v .enabled)
 
 keep-port : {env env′ : Values} {p : PortExprs} {v : PortValue} → Keeps env env′ → PortIs env p v → PortIs env′ p v
-keep-port k h = record { address-is = k _ _ (h .address-is); word-is = k _ _ (h .word-is); asserted-is = k _ _ (h .asserted-is); read-is = k _ _ (h .read-is) }
+keep-port k h = record { address-is = k _ _ (h .address-is); word-is = k _ _ (h .word-is); asserted-is = k _ _ (h .asserted-is); read-is = k _ _ (h .read-is); enabled-is = keep-enabled k (h .enabled-is) }
 
 abbrev SecondIs : Values → Option PortExprs → Option PortValue → Type 0
 SecondIs env none none = Unit {0}
@@ -163,15 +174,19 @@ enable-gets : (m : Wires) (z : Constants) (o : Option Control) → Gets (enableO
 enable-gets m z none = gets-pure refl
 enable-gets m z (some c) = gets-bind (signal-gets m z (c .signal)) (λ s h. gets-pure (s, h, refl))
 
--- the read register takes the word that its address names, before the commit, or 0
-pub record ReadPort (κ : Tick) (m : Wires) (z : Constants) (width aw : ℕ) (a : PortValue) (b : Option PortValue) (outputs : List ℕ) (readEnable : Option Control) (at : Bits) (words : List ℕ) (clock edge : ℕ) : Type 0 where
+next-read-means : (σ : Signals) (width target : ℕ) {o : Option ℕ} {word : ℕ} {b : Bool} {x : Bits} {env : Values} → EnabledIs env o b → Is env word x → Means σ env (nextRead o width target word) (pick b x (wordOf σ width target))
+next-read-means σ width target always i = makes-pure i
+next-read-means σ width target (given h) i = makes-bind (means-emit {x = read width target 0} refl) (λ own env₁ k₁ ho. mux-value σ (k₁ _ _ h) (k₁ _ _ i) ho)
+
+-- the read register takes the word that its address names, before the commit, or 0; its own while the clock enable is not asserted
+pub record ReadPort (κ : Tick) (m : Wires) (z : Constants) (width aw : ℕ) (a : PortValue) (b : Option PortValue) (outputs : List ℕ) (readEnable clockEnable : Option Control) (at : Bits) (words : List ℕ) (clock edge : ℕ) : Type 0 where
   pub target : WireRef
   pub target-is : m (getD outputs 0 0) ≡ some target
   pub enable : Option RegEnable
   pub enable-is : EnableIs m z readEnable enable
   pub registered : RegOn κ (target .signal)
   pub taken : κ .next (target .signal)
-      ≡ pick (κ .fires clock edge && enableNow (κ .before) enable) (lastChoice (choices (κ .before) width aw a b at 0 words) (binary width 0)) (κ .before (target .signal))
+      ≡ pick (κ .fires clock edge && enableNow (κ .before) enable) (pick (enabled (now κ m) clockEnable) (lastChoice (choices (κ .before) width aw a b at 0 words) (binary width 0)) (wordOf (κ .before) width (target .signal))) (κ .before (target .signal))
 
 -- a word that a port may write takes its next value
 pub record NewWord (κ : Tick) (width aw : ℕ) (a : PortValue) (b : Option PortValue) (clock edge index s : ℕ) : Type 0 where
@@ -184,23 +199,24 @@ Updated κ width aw a b clock edge index (s ∷ ss) =
     NewWord κ width aw a b clock edge index s × Updated κ width aw a b clock edge (suc index) ss
 
 module _ {K : Type 0} (κ : K → Tick) (Ω : K → Values) (m : Wires) (z : Constants) (width aw : ℕ) (a : K → PortValue) (b : K → Option PortValue) where
-  read-port-equation : (p : PortExprs) (at : K → Bits) (ws : List Word) (clock edge : ℕ) {env : K → Values} → ((k : K) → Is (env k) (p .readAddress) (at k)) → ((k : K) → WordsAre (κ k .before) width aw (a k) (b k) (env k) 0 ws)
-      → Settles κ Ω env (emitBlockRamReadPort m z p ws width aw clock edge) (λ u env′. (k : K) → ReadPort (κ k) m z width aw (a k) (b k) (p .readData) (p .readEnable) (at k) (signalsIn ws) clock edge)
+  read-port-equation : (p : PortExprs) (o : Option Control) (at : K → Bits) (ws : List Word) (clock edge : ℕ) {env : K → Values} → ((k : K) → EnabledIs (env k) (p .clockEnabled) (enabled (now (κ k) m) o)) → ((k : K) → Is (env k) (p .readAddress) (at k)) → ((k : K) → WordsAre (κ k .before) width aw (a k) (b k) (env k) 0 ws)
+      → Settles κ Ω env (emitBlockRamReadPort m z p ws width aw clock edge) (λ u env′. (k : K) → ReadPort (κ k) m z width aw (a k) (b k) (p .readData) (p .readEnable) o (at k) (signalsIn ws) clock edge)
   unfolding emitBlockRamReadPort
-  read-port-equation p at ws clock edge i h =
+  read-port-equation p o at ws clock edge c i h =
       settles-bind (settles-makes (λ k. means-emit {x = const width 0} refl)) (λ e env₁ k₁ he.
       settles-bind (settles-makes (λ k. candidates-make (κ k .before) width aw (a k) (b k) (p .readAddress) (at k) 0 ws [] [] (k₁ k _ _ (i k)) (keep-words (κ k .before) width aw (a k) (b k) (k₁ k) 0 ws (h k)) tt)) (λ ns env₂ k₂ hn.
       settles-bind (settles-makes (λ k. tree-means width ns (choices (κ k .before) width aw (a k) (b k) (at k) 0 (signalsIn ws)) e (binary width 0) (hn k) (k₂ k _ _ (he k)))) (λ v env₃ k₃ hv.
       settles-bind (settles-gets (ref-gets m (getD (p .readData) 0 0))) (λ r env₄ k₄ hr.
       settles-bind (settles-gets (enable-gets m z (p .readEnable))) (λ en env₅ k₅ hen.
+      settles-bind (settles-makes (λ k. next-read-means (κ k .before) width (r .signal) (keep-enabled (k₅ k) (keep-enabled (k₄ k) (keep-enabled (k₃ k) (keep-enabled (k₂ k) (keep-enabled (k₁ k) (c k)))))) (k₅ k _ _ (k₄ k _ _ (hv k))))) (λ n env₆ k₆ hn′.
       settles-state (λ kp q k. record {
         target = r;
         target-is = hr;
         enable = en;
         enable-is = hen;
         registered = q k .1;
-        taken = q k .0 ∙ ap (λ (x : Bits). pick (κ k .fires clock edge && enableNow (κ k .before) en) x (κ k .before (r .signal))) (kp k _ _ (k₅ k _ _ (k₄ k _ _ (hv k))) .value);
-      }))))))
+        taken = q k .0 ∙ ap (λ (x : Bits). pick (κ k .fires clock edge && enableNow (κ k .before) en) x (κ k .before (r .signal))) (kp k _ _ (hn′ k) .value);
+      })))))))
 
   updates-equation : (ws : List Word) (clock edge index : ℕ) {env : K → Values} → ((k : K) → WordsAre (κ k .before) width aw (a k) (b k) (env k) index ws)
       → Settles κ Ω env (updateWords ws clock edge) (λ u env′. (k : K) → Updated (κ k) width aw (a k) (b k) clock edge index (signalsIn ws))
@@ -221,16 +237,18 @@ abbrev pub firstValue : Valuation → BlockRam → PortValue
 firstValue v r = record {
   address = valuesAt v (r .writeAddress) (shiftFor r) (addressWidth (r .depth));
   word = valuesAt v (r .input) 0 (length (r .input));
-  asserted = asserted v (r .write .signal) (r .write .active);
+  asserted = enabled v (some (r .write)) && enabled v (r .clockEnable);
   readAt = valuesAt v (r .readAddress) (shiftFor r) (addressWidth (r .depth));
+  enabled = enabled v (r .clockEnable);
 }
 
 abbrev pub portValue : Valuation → ℕ → ℕ → SecondPort → PortValue
 portValue v shift aw p = record {
   address = valuesAt v (p .address) shift aw;
   word = valuesAt v (p .input) 0 (length (p .input));
-  asserted = asserted v (p .write .signal) (p .write .active);
+  asserted = enabled v (some (p .write)) && enabled v (p .clockEnable);
   readAt = valuesAt v (p .address) shift aw;
+  enabled = enabled v (p .clockEnable);
 }
 
 abbrev pub secondValue : Valuation → ℕ → ℕ → Option SecondPort → Option PortValue
@@ -245,7 +263,16 @@ IsSecond (some q) p = (x : PortExprs) × (p ≡ some x) × (x .readData ≡ q .o
 -- what the second port reads
 abbrev pub SecondRead : Tick → Wires → Constants → ℕ → ℕ → ℕ → PortValue → Option PortValue → Option SecondPort → List ℕ → ℕ → ℕ → Type 0
 SecondRead κ m z width aw shift a b none ws clock edge = Unit {0}
-SecondRead κ m z width aw shift a b (some q) ws clock edge = ReadPort κ m z width aw a b (q .output) (q .readEnable) (valuesAt (now κ m) (q .address) shift aw) ws clock edge
+SecondRead κ m z width aw shift a b (some q) ws clock edge = ReadPort κ m z width aw a b (q .output) (q .readEnable) (q .clockEnable) (valuesAt (now κ m) (q .address) shift aw) ws clock edge
+
+gate-makes : (σ : Signals) (m : Wires) {env : Values} → Base env → (write : Control) (o : Option Control)
+    → Makes σ env (gate m write o) (λ g env′. Is env′ (g .writeAsserted) ((enabled (held σ m) (some write) && enabled (held σ m) o) ∷ []) × EnabledIs env′ (g .clockEnabled) (enabled (held σ m) o))
+unfolding gate
+gate-makes σ m base write none = makes-bind (asserted-means m base write) (λ y env₁ k₁ hy. makes-pure (subst (λ (b : Bool). Is env₁ y (b ∷ [])) (sym (and-yes (enabled (held σ m) (some write)))) hy, always))
+gate-makes σ m base write (some enable) =
+    makes-bind (asserted-means m base write) (λ y env₁ k₁ hy.
+    makes-bind (asserted-means m (base-keeps k₁ base) enable) (λ c env₂ k₂ hc.
+    makes-bind (and-value σ (k₂ _ _ hy) hc) (λ g env₃ k₃ hg. makes-pure (hg, given (k₃ _ _ hc)))))
 
 module _ {K : Type 0} (κ : K → Tick) (Ω : K → Values) (m : Wires) (z : Constants) (shift aw : ℕ) where
   abbrev second : Option SecondPort → K → Option PortValue
@@ -257,8 +284,8 @@ module _ {K : Type 0} (κ : K → Tick) (Ω : K → Values) (m : Wires) (z : Con
       settles-bind (settles-makes (λ k. vector-means m (q .address) shift aw (base k))) (λ a env₁ k₁ ha.
       let b₁ = bases-keep k₁ base in
       settles-bind (settles-makes (λ k. bits-means m (b₁ k) (q .input))) (λ d env₂ k₂ hd.
-      settles-bind (settles-makes (λ k. asserted-means m (base-keeps (k₂ k) (b₁ k)) (q .write))) (λ y env₃ k₃ hy.
-      settles-pure ((_, refl, refl, refl), λ k. record { address-is = k₃ k _ _ (k₂ k _ _ (ha k)); word-is = k₃ k _ _ (hd k); asserted-is = hy k; read-is = k₃ k _ _ (k₂ k _ _ (ha k)) }))))
+      settles-bind (settles-makes (λ k. gate-makes (κ k .before) m (base-keeps (k₂ k) (b₁ k)) (q .write) (q .clockEnable))) (λ g env₃ k₃ hg.
+      settles-pure ((_, refl, refl, refl), λ k. record { address-is = k₃ k _ _ (k₂ k _ _ (ha k)); word-is = k₃ k _ _ (hd k); asserted-is = hg k .0; read-is = k₃ k _ _ (k₂ k _ _ (ha k)); enabled-is = hg k .1 }))))
 
   second-read : (width : ℕ) (a : K → PortValue) (o : Option SecondPort) (p : Option PortExprs) (ws : List Word) (clock edge : ℕ) {env : K → Values} → IsSecond o p → ((k : K) → SecondIs (env k) p (second o k))
       → ((k : K) → WordsAre (κ k .before) width aw (a k) (second o k) (env k) 0 ws)
@@ -268,15 +295,15 @@ module _ {K : Type 0} (κ : K → Tick) (Ω : K → Values) (m : Wires) (z : Con
   second-read width a (some q) none ws clock edge e h w = absurd (let y : none ≡ some (e .0) = e .1 in let x : _≡_ {A = ℕ} 0 1 = cc in omega arith)
   second-read width a (some q) (some p) ws clock edge e h w =
       let same : p ≡ e .0 = some-is p (e .0) (e .1) in
-      settles-so (read-port-equation κ Ω m z width aw a (second (some q)) p (λ k. valuesAt (now (κ k) m) (q .address) shift aw) ws clock edge (λ k. h k .read-is) w) (λ u env₁ k₁ r k.
-      subst (λ (o : List ℕ). ReadPort (κ k) m z width aw (a k) (second (some q) k) o (q .readEnable) (valuesAt (now (κ k) m) (q .address) shift aw) (signalsIn ws) clock edge) (ap (λ (x : PortExprs). x .readData) same ∙ e .2)
-      (subst (λ (o : Option Control). ReadPort (κ k) m z width aw (a k) (second (some q) k) (p .readData) o (valuesAt (now (κ k) m) (q .address) shift aw) (signalsIn ws) clock edge) (ap (λ (x : PortExprs). x .readEnable) same ∙ e .3) (r k)))
+      settles-so (read-port-equation κ Ω m z width aw a (second (some q)) p (q .clockEnable) (λ k. valuesAt (now (κ k) m) (q .address) shift aw) ws clock edge (λ k. h k .enabled-is) (λ k. h k .read-is) w) (λ u env₁ k₁ r k.
+      subst (λ (o : List ℕ). ReadPort (κ k) m z width aw (a k) (second (some q) k) o (q .readEnable) (q .clockEnable) (valuesAt (now (κ k) m) (q .address) shift aw) (signalsIn ws) clock edge) (ap (λ (x : PortExprs). x .readData) same ∙ e .2)
+      (subst (λ (o : Option Control). ReadPort (κ k) m z width aw (a k) (second (some q) k) (p .readData) o (q .clockEnable) (valuesAt (now (κ k) m) (q .address) shift aw) (signalsIn ws) clock edge) (ap (λ (x : PortExprs). x .readEnable) same ∙ e .3) (r k)))
 
 -- a block RAM in a tick, whose words have these signals
 pub record Remembered (κ : Tick) (m : Wires) (z : Constants) (r : BlockRam) (words : List ℕ) : Type 0 where
   pub clock : ℕ
   pub clock-is : IsSignal m z (r .clock) clock
-  pub first : ReadPort κ m z (r .width) (addressWidth (r .depth)) (firstValue (now κ m) r) (secondValue (now κ m) (shiftFor r) (addressWidth (r .depth)) (r .second)) (r .output) (r .readEnable) (firstValue (now κ m) r .readAt) words clock (r .edge)
+  pub first : ReadPort κ m z (r .width) (addressWidth (r .depth)) (firstValue (now κ m) r) (secondValue (now κ m) (shiftFor r) (addressWidth (r .depth)) (r .second)) (r .output) (r .readEnable) (r .clockEnable) (firstValue (now κ m) r .readAt) words clock (r .edge)
   pub second-port : SecondRead κ m z (r .width) (addressWidth (r .depth)) (shiftFor r) (firstValue (now κ m) r) (secondValue (now κ m) (shiftFor r) (addressWidth (r .depth)) (r .second)) (r .second) words clock (r .edge)
   pub updated : Updated κ (r .width) (addressWidth (r .depth)) (firstValue (now κ m) r) (secondValue (now κ m) (shiftFor r) (addressWidth (r .depth)) (r .second)) clock (r .edge) 0 words
 
@@ -300,20 +327,21 @@ module _ {K : Type 0} (κ : K → Tick) (Ω : K → Values) (m : Wires) (z : Con
       let b₂ = bases-keep k₂ b₁ in
       settles-bind (settles-makes (λ k. bits-means m (b₂ k) (r .input))) (λ d env₃ k₃ hd.
       let b₃ = bases-keep k₃ b₂ in
-      settles-bind (settles-makes (λ k. asserted-means m (b₃ k) (r .write))) (λ y env₄ k₄ hy.
+      settles-bind (settles-makes (λ k. gate-makes (κ k .before) m (b₃ k) (r .write) (r .clockEnable))) (λ g env₄ k₄ hg.
       let b₄ = bases-keep k₄ b₃ in
       settles-bind (second-exprs κ Ω m z shift aw (r .second) b₄) (λ b env₅ k₅ hb.
       settles-bind (settles-gets (signal-gets m z (r .clock))) (λ clock env₆ k₆ hc.
-      let a : PortExprs = record { writeAddress = wa; writeData = d; writeAsserted = y; readAddress = ra; readData = r .output; readEnable = r .readEnable } in
+      let a : PortExprs = record { writeAddress = wa; writeData = d; writeAsserted = g .writeAsserted; readAddress = ra; readData = r .output; readEnable = r .readEnable; clockEnabled = g .clockEnabled } in
       let ha : (k : K) → PortIs (env₆ k) a (va k) = λ k. record {
         address-is = k₆ k _ _ (k₅ k _ _ (k₄ k _ _ (k₃ k _ _ (k₂ k _ _ (hwa k)))));
         word-is = k₆ k _ _ (k₅ k _ _ (k₄ k _ _ (hd k)));
-        asserted-is = k₆ k _ _ (k₅ k _ _ (hy k));
+        asserted-is = k₆ k _ _ (k₅ k _ _ (hg k .0));
         read-is = k₆ k _ _ (k₅ k _ _ (k₄ k _ _ (k₃ k _ _ (hra k))));
+        enabled-is = keep-enabled (k₆ k) (keep-enabled (k₅ k) (hg k .1));
       } in
       let hb₆ : (k : K) → SecondIs (env₆ k) b (vb k) = λ k. keep-second (k₆ k) b (vb k) (hb .1 k) in
       settles-bind (settles-both (settles-gets (words-get a b owner (r .width) aw (r .depth) 0 [])) (settles-makes (λ k. words-make (κ k .before) (r .width) aw (va k) (vb k) a b owner (r .depth) 0 [] refl (ha k) (hb₆ k) tt))) (λ ws env₇ k₇ hw.
-      settles-bind (read-port-equation κ Ω m z (r .width) aw va vb a (λ k. va k .readAt) ws clock (r .edge) (λ k. k₇ k _ _ (ha k .read-is)) (hw .1)) (λ u env₈ k₈ first.
+      settles-bind (read-port-equation κ Ω m z (r .width) aw va vb a (r .clockEnable) (λ k. va k .readAt) ws clock (r .edge) (λ k. keep-enabled (k₇ k) (ha k .enabled-is)) (λ k. k₇ k _ _ (ha k .read-is)) (hw .1)) (λ u env₈ k₈ first.
       settles-bind (second-read κ Ω m z shift aw (r .width) va (r .second) b ws clock (r .edge) (hb .0) (λ k. keep-second (k₈ k) b (vb k) (keep-second (k₇ k) b (vb k) (hb₆ k))) (λ k. keep-words (κ k .before) (r .width) aw (va k) (vb k) (k₈ k) 0 ws (hw .1 k))) (λ u env₉ k₉ second.
       settles-so (updates-equation κ Ω m z (r .width) aw va vb ws clock (r .edge) 0 (λ k. keep-words (κ k .before) (r .width) aw (va k) (vb k) (k₉ k) 0 ws (keep-words (κ k .before) (r .width) aw (va k) (vb k) (k₈ k) 0 ws (hw .1 k)))) (λ x env₁₀ k₁₀ updated.
       record { words = signalsIn ws; count = length-map ws _ ∙ hw .0 ∙ omega arith; stored = λ k. record { clock = clock; clock-is = hc; first = first k; second-port = second k; updated = updated k } }))))))))))
@@ -359,7 +387,7 @@ dram-select σ a address at index (w ∷ ws) now v i h n =
     dram-select σ a address at (suc index) ws x _ (k₃ _ _ (k₂ _ _ (k₁ _ _ i))) (keep-words σ 4 4 a none k₃ (suc index) ws (keep-words σ 4 4 a none k₂ (suc index) ws (keep-words σ 4 4 a none k₁ (suc index) ws (h .1)))) hx)))
 
 abbrev pub dramValue : Valuation → DistributedRam → PortValue
-dramValue v r = record { address = valuesAt v (r .writeAddress) 0 4; word = valuesAt v (r .input) 0 4; asserted = asserted v (r .write .signal) (r .write .active); readAt = valuesAt v (r .readAddress) 0 4 }
+dramValue v r = record { address = valuesAt v (r .writeAddress) 0 4; word = valuesAt v (r .input) 0 4; asserted = asserted v (r .write .signal) (r .write .active); readAt = valuesAt v (r .readAddress) 0 4; enabled = true }
 
 -- its read is combinational; its words are registers
 pub record Distributed (κ : Tick) (m : Wires) (z : Constants) (r : DistributedRam) (words : List ℕ) : Type 0 where
@@ -381,8 +409,8 @@ module _ {K : Type 0} (κ : K → Tick) (Ω : K → Values) (m : Wires) (z : Con
       let b₃ = bases-keep k₃ b₂ in
       settles-bind (settles-makes (λ k. asserted-means m (b₃ k) (r .write))) (λ y env₄ k₄ hy.
       settles-bind (settles-gets (signal-gets m z (r .clock))) (λ clock env₅ k₅ hc.
-      let p : PortExprs = record { writeAddress = wa; writeData = d; writeAsserted = y; readAddress = ra; readData = r .output; readEnable = none } in
-      let hp : (k : K) → PortIs (env₅ k) p (va k) = λ k. record { address-is = k₅ k _ _ (k₄ k _ _ (k₃ k _ _ (k₂ k _ _ (hwa k)))); word-is = k₅ k _ _ (k₄ k _ _ (hd k)); asserted-is = k₅ k _ _ (hy k); read-is = k₅ k _ _ (k₄ k _ _ (k₃ k _ _ (hra k))) } in
+      let p : PortExprs = record { writeAddress = wa; writeData = d; writeAsserted = y; readAddress = ra; readData = r .output; readEnable = none; clockEnabled = none } in
+      let hp : (k : K) → PortIs (env₅ k) p (va k) = λ k. record { address-is = k₅ k _ _ (k₄ k _ _ (k₃ k _ _ (k₂ k _ _ (hwa k)))); word-is = k₅ k _ _ (k₄ k _ _ (hd k)); asserted-is = k₅ k _ _ (hy k); read-is = k₅ k _ _ (k₄ k _ _ (k₃ k _ _ (hra k))); enabled-is = always } in
       settles-bind (dram-words κ Ω p va owner clock (r .edge) 16 0 [] refl hp (λ k. tt) (λ k. tt)) (λ ws env₆ k₆ hw.
       settles-bind (settles-makes (λ k. means-emit {x = const 4 0} refl)) (λ e env₇ k₇ he.
       settles-bind (settles-makes (λ k. dram-select (κ k .before) (va k) ra (valuesAt (now (κ k) m) (r .readAddress) 0 4) 0 ws e (binary 4 0) (k₇ k _ _ (k₆ k _ _ (hp k .read-is))) (keep-words (κ k .before) 4 4 (va k) none (k₇ k) 0 ws (hw .words-are k)) (he k))) (λ v env₈ k₈ hv.

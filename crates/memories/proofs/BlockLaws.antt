@@ -14,11 +14,11 @@ use Rattle.behaviour.specs.Behaviour.{shiftIn}
 use Rattle.recorder.specs.Writer.{Count, Out, Writer, pure, _>>=_}
 use Rattle.wires.specs.declared.Constants.{Constants}
 use Rattle.wires.specs.Wires.{Wires}
-use Rattle.wires.specs.Expressions.{bitSignal, assertedExpression, vectorExpression, bitsExpression}
+use Rattle.wires.specs.Expressions.{bitSignal, vectorExpression, bitsExpression}
 use Rattle.memories.specs.declared.Port.{Port}
 use Rattle.memories.specs.declared.Second.{Second}
 use Rattle.memories.specs.declared.Second.the-variants as B
-use Rattle.memories.specs.Memories.{Word, PortExprs, writeWord, ramWord, ramWords, secondExprs, emitBlockRam}
+use Rattle.memories.specs.Memories.{Word, PortExprs, gate, writeWord, ramWord, ramWords, secondExprs, emitBlockRam}
 use Rattle.memories.specs.Rams.{portOf, writing, secondOf, secondWriting, firstExprs, secondAddressed, addressed}
 use Rattle.memories.specs.Steps.{ramReads, ramBody}
 use Rattle.address_mux.proofs.Binds.{bind-cong, bind-four}
@@ -82,8 +82,8 @@ module _ (m : Wires) (z : Constants) (owner : ℕ) (r : BlockRam) where
       (vectorExpression m (r .writeAddress) (shiftIn (shiftOf (r .physical))) (addressWidth (r .depth)))
       (λ wa. vectorExpression m (r .readAddress) (shiftIn (shiftOf (r .physical))) (addressWidth (r .depth)))
       (λ wa ra. bitsExpression m (r .input))
-      (λ wa ra d. assertedExpression m (r .write))
-      (λ wa ra d y. record { writeAddress = wa; writeData = d; writeAsserted = y; readAddress = ra; readData = r .output; readEnable = r .readEnable })
+      (λ wa ra d. gate m (r .write) (r .clockEnable))
+      (λ wa ra d g. record { writeAddress = wa; writeData = d; writeAsserted = g .writeAsserted; readAddress = ra; readData = r .output; readEnable = r .readEnable; clockEnabled = g .clockEnabled })
       (λ a. secondExprs m (shiftIn (shiftOf (r .physical))) (addressWidth (r .depth)) (r .second) >>= λ b. afterPorts (addressWidth (r .depth)) a b))
 
   block-split : {shift aw : ℕ} → shift ≡ shiftIn (shiftOf (r .physical)) → aw ≡ addressWidth (r .depth)

@@ -194,7 +194,7 @@ dram-split m z owner r = sym (bind-four
     (λ wa. vectorExpression m (r .readAddress) 0 4)
     (λ wa ra. vectorExpression m (r .input) 0 4)
     (λ wa ra d. assertedExpression m (r .write))
-    (λ wa ra d y. record { writeAddress = wa; writeData = d; writeAsserted = y; readAddress = ra; readData = r .output; readEnable = none })
+    (λ wa ra d y. record { writeAddress = wa; writeData = d; writeAsserted = y; readAddress = ra; readData = r .output; readEnable = none; clockEnabled = none })
     (λ p. bitSignal m z (r .clock) >>= λ clock. dramBody m owner p clock (r .edge) (getD (r .output) 0 0)))
 
 pub dram-body-writing : (m : Wires) (out : List ℕ) (en : Option Control) (p : Port) (owner clock : ℕ) {edge edge′ output output′ : ℕ} → edge ≡ edge′ → output ≡ output′

@@ -15,12 +15,12 @@ use Rattle.netlist.proofs.WordLaws.{bit-ahead, set-absent, set-present}
 use Rattle.netlist.proofs.RecordLaws.{bits-length}
 use Rattle.recorder.specs.declared.Tapes.{Tapes}
 use Rattle.recorder.specs.Writer.{pure}
-use Rattle.recorder.specs.Lists.{WroteExprs, Answer}
-use Rattle.recorder.proofs.Wrote.{wrote-as}
+use Rattle.recorder.specs.Lists.{WroteExprs, Answer, Answer.Failed}
+use Rattle.recorder.proofs.Wrote.{wrote-as, then-stop}
 use Rattle.wires.specs.Wires.{Wires}
 use Rattle.wires.specs.Expressions.{assertedExpression, vectorExpression, bitsExpression, roomy}
 use Rattle.wires.proofs.Laws.{roomy-yes}
-use Rattle.memories.specs.Memories.{secondExprs}
+use Rattle.memories.specs.Memories.{Gate, gate, secondExprs}
 use Rattle.memories.specs.Rams.{secondAddressed, addressed}
 use Rattle.memories.specs.Steps.{secondAt}
 
@@ -65,6 +65,16 @@ module _ {e : List ℕ} {t : Tapes} {r : Answer ℕ} {e′ : List ℕ} (m : Wire
   -- another name for where the bits stand, and how many
   pub data-same : (words : List ℕ) {i i′ n n′ : ℕ} → i ≡ i′ → n ≡ n′ → WroteExprs e t (bitsExpression m (bitsAt words i n)) r e′ → WroteExprs e t (bitsExpression m (bitsAt words i′ n′)) r e′
   data-same words p q h x y = wrote-as (ap₂ (λ (i n : ℕ). bitsExpression m (bitsAt words i n)) (sym p) (sym q)) (h x y)
+
+-- the gate: other names for its controls; the write control comes first, whatever the clock enable
+module _ {e : List ℕ} {t : Tapes} {e′ : List ℕ} (m : Wires) where
+  pub gate-as : {r : Answer Gate} {a a′ : Control} {o o′ : Option Control} → a ≡ a′ → o ≡ o′ → WroteExprs e t (gate m a o) r e′ → WroteExprs e t (gate m a′ o′) r e′
+  gate-as p q h x y = wrote-as (ap₂ (λ (a : Control) (o : Option Control). gate m a o) (sym p) (sym q)) (h x y)
+
+  pub gate-stop : {r : Answer ℕ} {number place : ℕ} (a : Control) (o : Option Control) → WroteExprs e t (assertedExpression m a) r e′ → r ≡ Failed number place → WroteExprs e t (gate m a o) (Failed number place) e′
+  unfolding gate
+  gate-stop a none h d x y = then-stop (h x y) _ d
+  gate-stop a (some c) h d x y = then-stop (h x y) _ d
 
 -- an offset of the second port
 pub second-offset : (at start size k : ℕ) → start ≡ size → at + (start + k) ≡ at + size + k

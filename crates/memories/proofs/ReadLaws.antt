@@ -8,8 +8,6 @@ use native.Mathlib.Omega.{arith}
 use lib.ListN.{length, take, getD}
 use Rattle.refusal.specs.Refusal.{numberOf, placeOf}
 use Rattle.netlist.specs.declared.Control.{Control}
-use Rattle.netlist.specs.declared.fields.OptionalControl as oc
-use Rattle.netlist.specs.FieldForms.{presence}
 use Rattle.netlist.specs.Fields.{recordsAt, wordAt, wiresAt}
 use Rattle.netlist.proofs.RecordLaws.{wires-get}
 use Rattle.recorder.specs.declared.Tapes.{Tapes}
@@ -22,8 +20,9 @@ use Rattle.wires.specs.declared.Constants.{Constants}
 use Rattle.wires.specs.declared.Controlled.{Controlled}
 use Rattle.wires.specs.declared.Controlled.the-variants.{Signal, Refused}
 use Rattle.wires.specs.Wires.{WireRef, Wires}
-use Rattle.wires.specs.Expressions.{wireRef, bitSignal, roomy, controlled, Reads}
+use Rattle.wires.specs.Expressions.{wireRef, roomy, controlled, Reads}
 use Rattle.wires.proofs.Laws.{ref-held, ref-missing, roomy-yes}
+use Rattle.memories.specs.declared.ClockEnabled.{ClockEnabled}
 use Rattle.memories.specs.declared.Port.{Port}
 use Rattle.memories.specs.declared.Second.{Second}
 use Rattle.memories.specs.declared.Second.the-variants as B
@@ -34,10 +33,10 @@ use Rattle.address_mux.specs.Candidates.{nodeOf}
 use Rattle.address_mux.proofs.Addresses.{at-most-yes}
 use Rattle.nodes.specs.Nodes.{muxOfNodes}
 use Rattle.nodes.proofs.Laws.{length-first}
-use Rattle.memories.specs.Memories.{Word, PortExprs, candidatesFrom, enableOf, emitBlockRamReadPort, emitSecondReadPort}
+use Rattle.memories.specs.Memories.{Word, PortExprs, candidatesFrom, enableOf, nextRead, emitBlockRamReadPort, emitSecondReadPort}
 use Rattle.memories.specs.Rams.{portOf, secondOf, reading, wordsFrom, selectWord, readRegister}
-use Rattle.memories.specs.Steps.{pickWord, enabledRegister}
-use Rattle.address_mux.proofs.Binds.{bind-cong, bind-one}
+use Rattle.memories.specs.Steps.{pickWord}
+use Rattle.address_mux.proofs.Binds.{bind-cong}
 
 -- THE WORD
 
@@ -83,50 +82,46 @@ module _ {B : Type 0} {w : Writer ℕ} {q : Controlled} (h : Reads w q) (k : ℕ
 
 -- THE REGISTER
 
-module _ (m : Wires) (z : Constants) (output v clock edge : ℕ) where
+module _ (m : Wires) (z : Constants) (output : ℕ) (clocked : Option ℕ) (width v clock edge : ℕ) where
   abbrev loads : ℕ → Option RegEnable → Writer (Unit {0})
-  loads s en = state (reg s v clock edge none en)
+  loads s en = nextRead clocked width s v >>= λ n. state (reg s n clock edge none en)
 
-  read-held : (enable : Option Control) {r : WireRef} → m output ≡ some r → readRegister m z output enable v clock edge ≡ (enableOf m z enable >>= loads (r .signal))
+  read-held : (enable : Option Control) {r : WireRef} → m output ≡ some r → readRegister m z output enable clocked width v clock edge ≡ (enableOf m z enable >>= loads (r .signal))
   unfolding readRegister
   read-held enable {r} h = ap (λ (x : Writer WireRef). x >>= λ r. enableOf m z enable >>= loads (r .signal)) (ref-held m h) ∙ bind-pure r (λ r. enableOf m z enable >>= loads (r .signal))
 
-  pub read-missing : (enable : Option Control) → m output ≡ none → readRegister m z output enable v clock edge ≡ refuse 8 output
+  pub read-missing : (enable : Option Control) → m output ≡ none → readRegister m z output enable clocked width v clock edge ≡ refuse 8 output
   unfolding readRegister
   read-missing enable h = ap (λ (x : Writer WireRef). x >>= λ r. enableOf m z enable >>= loads (r .signal)) (ref-missing m h) ∙ bind-refuse 8 output (λ r. enableOf m z enable >>= loads (r .signal))
 
-  pub read-always : {enable : oc.OptionalControl} {r : WireRef} → m output ≡ some r → enable ≡ oc.the-variants.Absent → readRegister m z output (presence enable) v clock edge ≡ state (reg (r .signal) v clock edge none none)
-  read-always {enable} {r} h e = read-held (presence enable) h ∙ ap (λ (o : oc.OptionalControl). enableOf m z (presence o) >>= loads (r .signal)) e ∙ bind-pure none (loads (r .signal))
+  pub read-enabled : (enable : Option Control) {en : Option RegEnable} {r : WireRef} → m output ≡ some r → enableOf m z enable ≡ pure en → readRegister m z output enable clocked width v clock edge ≡ loads (r .signal) en
+  read-enabled enable {en} {r} h e = read-held enable h ∙ ap (λ (x : Writer (Option RegEnable)). x >>= loads (r .signal)) e ∙ bind-pure en (loads (r .signal))
 
-  pub read-enabled : {enable : oc.OptionalControl} {c : Control} {r : WireRef} → m output ≡ some r → enable ≡ oc.the-variants.Present c
-      → readRegister m z output (presence enable) v clock edge ≡ enabledRegister m z (r .signal) c v clock edge
-  unfolding enabledRegister
-  read-enabled {enable} {c} {r} h e =
-      read-held (presence enable) h ∙ ap (λ (o : oc.OptionalControl). enableOf m z (presence o) >>= loads (r .signal)) e
-      ∙ bind-one (bitSignal m z (c .signal)) (λ s. some (record { signal = s; active = c .active })) (loads (r .signal))
+  pub read-refused : (enable : Option Control) {number place : ℕ} {r : WireRef} → m output ≡ some r → enableOf m z enable ≡ refuse number place → readRegister m z output enable clocked width v clock edge ≡ refuse number place
+  read-refused enable {number} {place} {r} h e = read-held enable h ∙ ap (λ (x : Writer (Option RegEnable)). x >>= loads (r .signal)) e ∙ bind-refuse number place (loads (r .signal))
 
 -- THE PORT
 
 module _ (m : Wires) (z : Constants) (words : List Word) (width aw clock edge : ℕ) where
   pub read-port : (p : PortExprs)
-      → emitBlockRamReadPort m z p words width aw clock edge ≡ (selectWord (p .readAddress) words width aw >>= λ v. readRegister m z (getD (p .readData) 0 0) (p .readEnable) v clock edge)
+      → emitBlockRamReadPort m z p words width aw clock edge ≡ (selectWord (p .readAddress) words width aw >>= λ v. readRegister m z (getD (p .readData) 0 0) (p .readEnable) (p .clockEnabled) width v clock edge)
   unfolding emitBlockRamReadPort selectWord readRegister
   read-port p = sym (bind-assoc _ _ _ ∙ bind-cong _ (λ e. bind-assoc (candidatesFrom (p .readAddress) aw 0 words []) (λ nodes. balancedAddressMux width nodes e) _))
 
   -- only its reading counts
-  pub reading-as : (out : List ℕ) (en : Option Control) (p : Port) → emitBlockRamReadPort m z (portOf out en p) words width aw clock edge ≡ emitBlockRamReadPort m z (reading (p .reads .0) (getD out 0 0) en) words width aw clock edge
+  pub reading-as : (out : List ℕ) (en : Option Control) (p : Port) → emitBlockRamReadPort m z (portOf out en p) words width aw clock edge ≡ emitBlockRamReadPort m z (reading (p .reads .0) (getD out 0 0) en (p .«clock_enabled»)) words width aw clock edge
   unfolding emitBlockRamReadPort
   reading-as out en p = refl
 
-  pub reading-same : (address : ℕ) {output output′ : ℕ} {en en′ : Option Control} → output ≡ output′ → en ≡ en′
-      → emitBlockRamReadPort m z (reading address output′ en′) words width aw clock edge ≡ emitBlockRamReadPort m z (reading address output en) words width aw clock edge
-  reading-same address p q = ap₂ (λ (o : ℕ) (x : Option Control). emitBlockRamReadPort m z (reading address o x) words width aw clock edge) (sym p) (sym q)
+  pub reading-same : (address : ℕ) (c : ClockEnabled) {output output′ : ℕ} {en en′ : Option Control} → output ≡ output′ → en ≡ en′
+      → emitBlockRamReadPort m z (reading address output′ en′ c) words width aw clock edge ≡ emitBlockRamReadPort m z (reading address output en c) words width aw clock edge
+  reading-same address c p q = ap₂ (λ (o : ℕ) (x : Option Control). emitBlockRamReadPort m z (reading address o x c) words width aw clock edge) (sym p) (sym q)
 
   pub second-absent : (out : List ℕ) (en : Option Control) {b : Second} → b ≡ B.Absent → emitSecondReadPort m z (secondOf out en b) words width aw clock edge ≡ pure tt
   second-absent out en e = ap (λ (b : Second). emitSecondReadPort m z (secondOf out en b) words width aw clock edge) e
 
   pub second-present : (out : List ℕ) (en : Option Control) {b : Second} {p : Port} → b ≡ B.Present p
-      → emitSecondReadPort m z (secondOf out en b) words width aw clock edge ≡ emitBlockRamReadPort m z (reading (p .reads .0) (getD out 0 0) en) words width aw clock edge
+      → emitSecondReadPort m z (secondOf out en b) words width aw clock edge ≡ emitBlockRamReadPort m z (reading (p .reads .0) (getD out 0 0) en (p .«clock_enabled»)) words width aw clock edge
   second-present out en {b} {p} e = ap (λ (b : Second). emitSecondReadPort m z (secondOf out en b) words width aw clock edge) e ∙ reading-as out en p
 
 -- THE WIRE

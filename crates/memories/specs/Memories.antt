@@ -31,6 +31,24 @@ pub record PortExprs : Type 0 where
   pub readAddress : ℕ
   pub readData : List ℕ
   pub readEnable : Option Control
+  -- the clock enable asserted, if there is one
+  pub clockEnabled : Option ℕ
+
+-- what a port's controls give: whether it writes, and its clock enable asserted, if it has one
+pub record Gate : Type 0 where
+  pub writeAsserted : ℕ
+  pub clockEnabled : Option ℕ
+
+-- with a clock enable (request W1) a port writes where both are asserted
+unfoldable pub gate : Wires → Control → Option Control → Writer Gate
+gate m write none = do
+  y ← assertedExpression m write
+  pure (record { writeAsserted = y; clockEnabled = none })
+gate m write (some enable) = do
+  y ← assertedExpression m write
+  c ← assertedExpression m enable
+  g ← emit (and y c)
+  pure (record { writeAsserted = g; clockEnabled = some c })
 
 -- what a port makes of a word: its width, the address's width, the index, the expression so far
 unfoldable pub writeWord : PortExprs → ℕ → ℕ → ℕ → ℕ → Writer ℕ
@@ -73,6 +91,13 @@ enableOf m z (some c) = do
   s ← bitSignal m z (c .signal)
   pure (some (record { signal = s; active = c .active }))
 
+-- what a read register takes: the selected word, and with a clock enable its own where that is not asserted
+abbrev pub nextRead : Option ℕ → ℕ → ℕ → ℕ → Writer ℕ
+nextRead none width target word = pure word
+nextRead (some c) width target word = do
+  own ← emit (read width target 0)
+  emit (mux width c word own)
+
 -- port, words, their width, the address's width, clock signal, edge
 unfoldable pub emitBlockRamReadPort : Wires → Constants → PortExprs → List Word → ℕ → ℕ → ℕ → ℕ → Writer (Unit {0})
 emitBlockRamReadPort m z p words width aw clock edge = do
@@ -81,7 +106,8 @@ emitBlockRamReadPort m z p words width aw clock edge = do
   v ← balancedAddressMux width nodes e
   r ← wireRef m (getD (p .readData) 0 0)
   en ← enableOf m z (p .readEnable)
-  state (reg (r .signal) v clock edge none en)
+  n ← nextRead (p .clockEnabled) width (r .signal) v
+  state (reg (r .signal) n clock edge none en)
 
 abbrev pub emitSecondReadPort : Wires → Constants → Option PortExprs → List Word → ℕ → ℕ → ℕ → ℕ → Writer (Unit {0})
 emitSecondReadPort m z none words width aw clock edge = pure tt
@@ -99,8 +125,8 @@ secondExprs m shift aw none = pure none
 secondExprs m shift aw (some p) = do
   a ← vectorExpression m (p .address) shift aw
   d ← bitsExpression m (p .input)
-  y ← assertedExpression m (p .write)
-  pure (some (record { writeAddress = a; writeData = d; writeAsserted = y; readAddress = a; readData = p .output; readEnable = p .readEnable }))
+  g ← gate m (p .write) (p .clockEnable)
+  pure (some (record { writeAddress = a; writeData = d; writeAsserted = g .writeAsserted; readAddress = a; readData = p .output; readEnable = p .readEnable; clockEnabled = g .clockEnabled }))
 
 -- cell number `owner`
 unfoldable pub emitBlockRam : Wires → Constants → ℕ → BlockRam → Writer (Unit {0})
@@ -110,10 +136,10 @@ emitBlockRam m z owner r = do
   wa ← vectorExpression m (r .writeAddress) shift aw
   ra ← vectorExpression m (r .readAddress) shift aw
   d ← bitsExpression m (r .input)
-  y ← assertedExpression m (r .write)
+  g ← gate m (r .write) (r .clockEnable)
   b ← secondExprs m shift aw (r .second)
   clock ← bitSignal m z (r .clock)
-  let a : PortExprs = record { writeAddress = wa; writeData = d; writeAsserted = y; readAddress = ra; readData = r .output; readEnable = r .readEnable }
+  let a : PortExprs = record { writeAddress = wa; writeData = d; writeAsserted = g .writeAsserted; readAddress = ra; readData = r .output; readEnable = r .readEnable; clockEnabled = g .clockEnabled }
   words ← ramWords a b owner (r .width) aw (r .depth) 0 []
   emitBlockRamReadPort m z a words (r .width) aw clock (r .edge)
   emitSecondReadPort m z b words (r .width) aw clock (r .edge)
@@ -142,7 +168,7 @@ emitDistributedRam m z owner r = do
   d ← vectorExpression m (r .input) 0 4
   y ← assertedExpression m (r .write)
   clock ← bitSignal m z (r .clock)
-  words ← dramWords (record { writeAddress = wa; writeData = d; writeAsserted = y; readAddress = ra; readData = r .output; readEnable = none }) owner clock (r .edge) 16 0 []
+  words ← dramWords (record { writeAddress = wa; writeData = d; writeAsserted = y; readAddress = ra; readData = r .output; readEnable = none; clockEnabled = none }) owner clock (r .edge) 16 0 []
   e ← emit (const 4 0)
   v ← dramSelect ra 0 words e
   assignWire m (getD (r .output) 0 0) v

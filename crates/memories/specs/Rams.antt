@@ -12,12 +12,16 @@ use Rattle.netlist.specs.Fields.{wordAt, bitAt, bitsAt, wiresAt, controlAt}
 use Rattle.recorder.specs.declared.Tapes.{Tapes}
 use Rattle.recorder.specs.declared.Stated.{Stated}
 use Rattle.recorder.specs.declared.Stated.the-variants as S
-use Rattle.recorder.specs.Record.{Expr.const, Expr.eq, Expr.mux, Stmt.reg}
-use Rattle.recorder.specs.Writer.{Count, Out, Writer, pure, emit, state, _>>=_}
-use Rattle.recorder.specs.Lists.{lists, Wrote, WroteExprs, Answer, Answer.Done, Answer.Failed, stated}
+use Rattle.recorder.specs.Record.{RegEnable, Expr.const, Expr.eq, Expr.mux, Stmt.reg}
+use Rattle.recorder.specs.Writer.{Count, Out, Writer, pure, refuse, emit, state, _>>=_}
+use Rattle.recorder.specs.Lists.{lists, Wrote, WroteExprs, Answer, Answer.Done, Answer.Failed, stated, enableOf as recorded}
 use Rattle.wires.specs.declared.Constants.{Constants}
 use Rattle.wires.specs.Wires.{Wires}
 use Rattle.wires.specs.Expressions.{wireRef, assertedExpression, vectorExpression, bitsExpression, roomy}
+use Rattle.memories.specs.declared.ClockEnabled.{ClockEnabled}
+use Rattle.memories.specs.declared.ClockEnabled.the-variants as E
+use Rattle.memories.specs.declared.Gated.{Gated}
+use Rattle.memories.specs.declared.Gated.the-variants as G
 use Rattle.memories.specs.declared.Port.{Port}
 use Rattle.memories.specs.declared.Ported.{Ported}
 use Rattle.memories.specs.declared.Ported.the-variants as P
@@ -25,13 +29,15 @@ use Rattle.memories.specs.declared.Second.{Second}
 use Rattle.memories.specs.declared.Second.the-variants as B
 use Rattle.memories.specs.declared.Seconded.{Seconded}
 use Rattle.memories.specs.declared.Seconded.the-variants as D
+use Rattle.memories.specs.declared.ReadEnabled.{ReadEnabled}
+use Rattle.memories.specs.declared.ReadEnabled.the-variants as R
 use Rattle.memories.specs.declared.RamWord.{RamWord}
 use Rattle.memories.specs.declared.Worded.{Worded}
 use Rattle.memories.specs.declared.Worded.the-variants as W
 use Rattle.memories.specs.declared.Words.{Words}
 use Rattle.address_mux.specs.Address.{atMost}
 use Rattle.address_mux.specs.AddressMux.{Node, balancedAddressMux}
-use Rattle.memories.specs.Memories.{Word, PortExprs, writeSecond, ramWord, ramWords, candidatesFrom, enableOf, emitBlockRam}
+use Rattle.memories.specs.Memories.{Word, PortExprs, Gate, gate, writeSecond, ramWord, ramWords, candidatesFrom, enableOf, nextRead, emitBlockRam}
 
 -- ---- which lists a call writes, whatever the others hold
 
@@ -40,16 +46,28 @@ WroteWords s e t w r s′ e′ = (m : List ℕ) → Wrote (lists s e m) t w r (l
 
 -- ---- the expressions of a port, with the wires that it reads to and its read enable
 
+abbrev pub enabledOf : ClockEnabled → Option ℕ
+enabledOf E.Absent = none
+enabledOf (E.Present c) = some (c .0)
+
 abbrev pub portOf : List ℕ → Option Control → Port → PortExprs
-portOf out en p = record { writeAddress = p .writes .0; writeData = p .data .0; writeAsserted = p .asserted .0; readAddress = p .reads .0; readData = out; readEnable = en }
+portOf out en p = record { writeAddress = p .writes .0; writeData = p .data .0; writeAsserted = p .asserted .0; readAddress = p .reads .0; readData = out; readEnable = en; clockEnabled = enabledOf (p .«clock_enabled») }
 
 -- only its writing counts
 abbrev pub writing : Port → PortExprs
 writing p = portOf [] none p
 
 -- only its reading counts
-abbrev pub reading : ℕ → ℕ → Option Control → PortExprs
-reading address output en = record { writeAddress = 0; writeData = 0; writeAsserted = 0; readAddress = address; readData = output ∷ []; readEnable = en }
+abbrev pub reading : ℕ → ℕ → Option Control → ClockEnabled → PortExprs
+reading address output en c = record { writeAddress = 0; writeData = 0; writeAsserted = 0; readAddress = address; readData = output ∷ []; readEnable = en; clockEnabled = enabledOf c }
+
+abbrev pub readEnabled : ReadEnabled → Writer (Option RegEnable)
+readEnabled (R.Done e) = pure (recorded e)
+readEnabled (R.Refused x) = refuse (numberOf x) (placeOf x)
+
+abbrev pub gated : Gated → Answer Gate
+gated (G.Done w c t) = Done (record { writeAsserted = w .0; clockEnabled = enabledOf c }) t
+gated (G.Refused x) = Failed (numberOf x) (placeOf x)
 
 abbrev pub ported : List ℕ → Option Control → Ported → Answer PortExprs
 ported out en (P.Done p t) = Done (portOf out en p) t
@@ -72,8 +90,8 @@ firstExprs m shift aw r = do
   wa ← vectorExpression m (r .writeAddress) shift aw
   ra ← vectorExpression m (r .readAddress) shift aw
   d ← bitsExpression m (r .input)
-  y ← assertedExpression m (r .write)
-  pure (record { writeAddress = wa; writeData = d; writeAsserted = y; readAddress = ra; readData = r .output; readEnable = r .readEnable })
+  g ← gate m (r .write) (r .clockEnable)
+  pure (record { writeAddress = wa; writeData = d; writeAsserted = g .writeAsserted; readAddress = ra; readData = r .output; readEnable = r .readEnable; clockEnabled = g .clockEnabled })
 
 -- a distributed RAM's, in the order of emitDistributedRam
 unfoldable pub dramExprs : Wires → DistributedRam → Writer PortExprs
@@ -82,7 +100,7 @@ dramExprs m r = do
   ra ← vectorExpression m (r .readAddress) 0 4
   d ← vectorExpression m (r .input) 0 4
   y ← assertedExpression m (r .write)
-  pure (record { writeAddress = wa; writeData = d; writeAsserted = y; readAddress = ra; readData = r .output; readEnable = none })
+  pure (record { writeAddress = wa; writeData = d; writeAsserted = y; readAddress = ra; readData = r .output; readEnable = none; clockEnabled = none })
 
 -- ---- words by their numbers
 
@@ -139,11 +157,13 @@ selectWord address words width aw = do
   nodes ← candidatesFrom address aw 0 words []
   balancedAddressMux width nodes e
 
-unfoldable pub readRegister : Wires → Constants → ℕ → Option Control → ℕ → ℕ → ℕ → Writer (Unit {0})
-readRegister m z output enable v clock edge = do
+-- wire, read enable, clock enable, width, selected word, clock signal, edge
+unfoldable pub readRegister : Wires → Constants → ℕ → Option Control → Option ℕ → ℕ → ℕ → ℕ → ℕ → Writer (Unit {0})
+readRegister m z output enable clocked width v clock edge = do
   r ← wireRef m output
   en ← enableOf m z enable
-  state (reg (r .signal) v clock edge none en)
+  n ← nextRead clocked width (r .signal) v
+  state (reg (r .signal) n clock edge none en)
 
 -- ---- the cells at an index
 

@@ -1,9 +1,8 @@
 -- The steps of a block RAM and of a distributed RAM that functions of the code write.
 use mathlib.Core.List.{List, [], _∷_}
-use mathlib.Core.Option.{Option, none, some}
+use mathlib.Core.Option.{Option, none}
 use mathlib.Core.Path.{_≡_}
 use Prim.Native.Nat.{ℕ, _+_, _≤_}
-use Rattle.netlist.specs.declared.Control.{Control}
 use Rattle.netlist.specs.Netlist.{SecondPort}
 use Rattle.netlist.specs.Fields.{wordAt, firstSize, secondPortAt}
 use Rattle.recorder.specs.declared.Tapes.{Tapes}
@@ -14,7 +13,7 @@ use Rattle.recorder.specs.Writer.{Count, Out, Writer, pure, emit, state, _>>=_,
 use Rattle.recorder.specs.Lists.{Lists, Wrote}
 use Rattle.wires.specs.declared.Constants.{Constants}
 use Rattle.wires.specs.Wires.{Wires}
-use Rattle.wires.specs.Expressions.{bitSignal, assignWire}
+use Rattle.wires.specs.Expressions.{assignWire}
 use Rattle.memories.specs.Memories.{Word, PortExprs, ramWord, ramWords, candidatesFrom, emitBlockRamReadPort, emitSecondReadPort, updateWords, dramWords, dramSelect}
 use Rattle.address_mux.specs.Address.{matchAddress}
 use Rattle.address_mux.specs.AddressMux.{balancedAddressMux}
@@ -29,12 +28,6 @@ unfoldable pub pickWord : ℕ → List Word → ℕ → ℕ → ℕ → Writer �
 pickWord address words width aw e = do
   nodes ← candidatesFrom address aw 0 words []
   balancedAddressMux width nodes e
-
--- a register that loads while a control is asserted
-unfoldable pub enabledRegister : Wires → Constants → ℕ → Control → ℕ → ℕ → ℕ → Writer (Unit {0})
-enabledRegister m z target c v clock edge = do
-  s ← bitSignal m z (c .signal)
-  state (reg target v clock edge none (some (record { signal = s; active = c .active })))
 
 -- ports, words' width, address's width, clock signal, edge, words
 unfoldable pub ramReads : Wires → Constants → PortExprs → Option PortExprs → ℕ → ℕ → ℕ → ℕ → List Word → Writer (Unit {0})

@@ -57,7 +57,6 @@ fn reads_and_updates(
     requires { ⌜ (made .depth ≤ length (now parts)) × (made .depth ≤ length (now values)) × Spaced made ⌝ }
     ensures { λ r. ⌜ WroteBoth (now (exprs .entry)) (now (stmts .entry)) t (ramReads (wiresOf (now (wires .entry)) (now (places .entry))) constants (portOf (ramAt (now (words .entry)) at .output) (ramAt (now (words .entry)) at .readEnable) first) (secondOf (secondAt (now (words .entry)) at .output) (secondAt (now (words .entry)) at .readEnable) second) (shape .width) (shape .address) (shape .clock .0) (shape .edge) (wordsOf made)) (stated r) (now (exprs .exit)) (now (stmts .exit)) ⌝ }
 {
-    let reads = first.reads;
     let clock = shape.clock;
     let a = first_read_port(
         exprs,
@@ -70,7 +69,7 @@ fn reads_and_updates(
         constants,
         made,
         shape,
-        reads,
+        first,
         words,
         at,
     );

@@ -6,17 +6,37 @@ mod ram_words;
 mod read_port;
 mod select;
 
+use recorder::Enable;
 use recorder::ExprId;
 use recorder::SignalId;
 use recorder::Tapes;
 use refusal::Refusal;
 
-// The expressions of a port: where it writes, what, whether, and where it reads.
+// A port's clock enable asserted.
+pub enum ClockEnabled {
+    Absent,
+    Present(ExprId),
+}
+
+// Whether a port writes, and its clock enable.
+pub enum Gated {
+    Done(ExprId, ClockEnabled, Tapes),
+    Refused(Refusal),
+}
+
+// The enable of a read register's record.
+pub enum ReadEnabled {
+    Done(Enable),
+    Refused(Refusal),
+}
+
+// The expressions of a port: where it writes, what, whether, where it reads, and its clock enable.
 pub struct Port {
     pub writes: ExprId,
     pub data: ExprId,
     pub asserted: ExprId,
     pub reads: ExprId,
+    pub clock_enabled: ClockEnabled,
 }
 
 pub enum Ported {

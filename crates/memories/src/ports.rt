@@ -1,17 +1,22 @@
 // The expressions of a RAM's ports.
+use crate::ClockEnabled;
+use crate::Gated;
 use crate::Port;
 use crate::Ported;
 use crate::Second;
 use crate::Seconded;
 use address_mux::address::address_expression;
 use netlist::Bit;
+use netlist::fields::OptionalControl;
 use netlist::fields::ahead;
 use netlist::fields::bits4;
 use netlist::fields::control;
 use netlist::fields::field;
+use netlist::fields::optional_control;
 use netlist::fields::wide;
 use recorder::Emitted;
 use recorder::Tapes;
+use recorder::builder;
 use wires::expressions::asserted_expression;
 use wires::expressions::bit_expression;
 use wires::expressions::bits_expression;
@@ -21,12 +26,12 @@ ghost use mathlib.Core.List.{[]};
 ghost use mathlib.Core.Option.{none};
 ghost use Prim.Native.Nat.{_+_, _≤_};
 ghost use lib.ListN.{length};
-ghost use Rattle.netlist.specs.Fields.{wordAt, bitsAt, controlAt, firstSize, ramAt};
+ghost use Rattle.netlist.specs.Fields.{wordAt, bitsAt, controlAt, optionalControlAt, firstSize, ramAt};
 ghost use Rattle.recorder.specs.Lists.{WroteExprs, emitted};
 ghost use Rattle.wires.specs.Wires.{wiresOf};
 ghost use Rattle.wires.specs.Expressions.{assertedExpression, vectorExpression, bitsExpression};
-ghost use Rattle.memories.specs.Memories.{secondExprs};
-ghost use Rattle.memories.specs.Rams.{ported, seconded, firstExprs, dramExprs, dramAt, addressed, secondAddressed, dramAddressed};
+ghost use Rattle.memories.specs.Memories.{gate, secondExprs};
+ghost use Rattle.memories.specs.Rams.{gated, ported, seconded, firstExprs, dramExprs, dramAt, addressed, secondAddressed, dramAddressed};
 ghost use Rattle.memories.specs.Steps.{secondAt};
 
 // The n bits at an offset of a record.
@@ -101,6 +106,40 @@ fn asserted_at(
     asserted_expression(exprs, wires, places, t, write)
 }
 
+// Whether a port writes, by the control at one offset of a record and, if it is there, the clock enable at another.
+fn gated_at(
+    exprs: &mut [u32],
+    wires: &[u32],
+    places: &[u32],
+    t: Tapes,
+    words: &[u32],
+    at: usize,
+    write_offset: usize,
+    enable_offset: usize,
+) -> Gated
+    ensures { λ r. ⌜ WroteExprs (now (exprs .entry)) t (gate (wiresOf (now (wires .entry)) (now (places .entry))) (controlAt (now (words .entry)) (at + «write_offset»)) (optionalControlAt (now (words .entry)) (at + «enable_offset»))) (gated r) (now (exprs .exit)) ⌝ }
+{
+    match asserted_at(exprs, wires, places, t, words, at, write_offset) {
+        Emitted::Done(asserted, t2) => match optional_control(words, at, enable_offset) {
+            OptionalControl::Absent => Gated::Done(asserted, ClockEnabled::Absent, t2),
+            OptionalControl::Present(c) => {
+                match asserted_expression(exprs, wires, places, t2, c) {
+                    Emitted::Done(enabled, t3) => {
+                        match builder::and(exprs, t3, asserted, enabled) {
+                            Emitted::Done(both, t4) => {
+                                Gated::Done(both, ClockEnabled::Present(enabled), t4)
+                            }
+                            Emitted::Refused(x) => Gated::Refused(x),
+                        }
+                    }
+                    Emitted::Refused(x) => Gated::Refused(x),
+                }
+            }
+        },
+        Emitted::Refused(x) => Gated::Refused(x),
+    }
+}
+
 // The first port of the block RAM at an index, whose addresses have so many bits from the shift on.
 pub fn first_port(
     exprs: &mut [u32],
@@ -132,17 +171,18 @@ pub fn first_port(
             Emitted::Done(reads, t3) => {
                 match data_expression(exprs, parts, wires, places, t3, words, at, 43, width) {
                     Emitted::Done(input, t4) => {
-                        match asserted_at(exprs, wires, places, t4, words, at, 18) {
-                            Emitted::Done(asserted, t5) => Ported::Done(
+                        match gated_at(exprs, wires, places, t4, words, at, 18, 37) {
+                            Gated::Done(asserted, clock_enabled, t5) => Ported::Done(
                                 Port {
                                     writes,
                                     data: input,
                                     asserted,
                                     reads,
+                                    clock_enabled,
                                 },
                                 t5,
                             ),
-                            Emitted::Refused(x) => Ported::Refused(x),
+                            Gated::Refused(x) => Ported::Refused(x),
                         }
                     }
                     Emitted::Refused(x) => Ported::Refused(x),
@@ -197,17 +237,18 @@ pub fn second_port(
                 width,
             ) {
                 Emitted::Done(input, t3) => {
-                    match asserted_at(exprs, wires, places, t3, words, at, start + 14) {
-                        Emitted::Done(asserted, t4) => Seconded::Done(
+                    match gated_at(exprs, wires, places, t3, words, at, start + 14, start + 19) {
+                        Gated::Done(asserted, clock_enabled, t4) => Seconded::Done(
                             Second::Present(Port {
                                 writes: a,
                                 data: input,
                                 asserted,
                                 reads: a,
+                                clock_enabled,
                             }),
                             t4,
                         ),
-                        Emitted::Refused(x) => Seconded::Refused(x),
+                        Gated::Refused(x) => Seconded::Refused(x),
                     }
                 }
                 Emitted::Refused(x) => Seconded::Refused(x),
@@ -244,6 +285,7 @@ pub fn dram_port(
                                         data: input,
                                         asserted,
                                         reads,
+                                        clock_enabled: ClockEnabled::Absent,
                                     },
                                     t5,
                                 ),

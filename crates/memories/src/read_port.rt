@@ -1,11 +1,13 @@
 // A read port: the word at its address is loaded into a register.
+use crate::ClockEnabled;
+use crate::Port;
 use crate::RamShape;
+use crate::ReadEnabled;
 use crate::Second;
 use crate::Words;
 use crate::ports::first_size;
 use crate::select::select_deep;
 use crate::select::select_word;
-use netlist::Control;
 use netlist::fields::OptionalControl;
 use netlist::fields::field;
 use netlist::fields::optional_control;
@@ -29,84 +31,90 @@ ghost use Prim.Native.Nat.{_+_, _≤_};
 ghost use lib.ListN.{length, getD};
 ghost use Rattle.netlist.specs.Fields.{wiresAt, ramAt};
 ghost use Rattle.netlist.specs.FieldForms.{presence};
-ghost use Rattle.recorder.specs.Lists.{WroteStmts, stated, WroteBoth};
+ghost use Rattle.recorder.specs.Lists.{WroteExprs, emitted, stated, WroteBoth};
 ghost use Rattle.wires.specs.Wires.{wiresOf};
-ghost use Rattle.memories.specs.Memories.{emitBlockRamReadPort, emitSecondReadPort};
-ghost use Rattle.memories.specs.Rams.{reading, secondOf, wordsOf, Spaced, readRegister};
-ghost use Rattle.memories.specs.Steps.{secondAt, enabledRegister};
+ghost use Rattle.memories.specs.Memories.{enableOf, nextRead, emitBlockRamReadPort, emitSecondReadPort};
+ghost use Rattle.memories.specs.Rams.{enabledOf, readEnabled, reading, secondOf, wordsOf, Spaced, readRegister};
+ghost use Rattle.memories.specs.Steps.{secondAt};
 
-// A register that loads while a control is asserted.
-fn enabled_register(
-    stmts: &mut [u32],
+// The signal of a read enable, if there is one.
+fn enable_of(
     wires: &[u32],
     places: &[u32],
-    t: Tapes,
     constants: Constants,
-    target: SignalId,
-    enable: Control,
-    value: ExprId,
-    clock: SignalId,
-    edge: u32,
-) -> Stated
-    ensures { λ r. ⌜ WroteStmts (now (stmts .entry)) t (enabledRegister (wiresOf (now (wires .entry)) (now (places .entry))) constants (target .0) enable (value .0) (clock .0) edge) (stated r) (now (stmts .exit)) ⌝ }
+    enable: OptionalControl,
+) -> ReadEnabled
+    ensures { λ r. ⌜ enableOf (wiresOf (now (wires .entry)) (now (places .entry))) constants (presence enable) ≡ readEnabled r ⌝ }
 {
-    let bit = enable.signal;
-    match bit_signal(wires, places, constants, bit) {
-        Controlled::Signal(s) => builder::register(
-            stmts,
-            t,
-            target,
-            value,
-            clock,
-            edge,
-            AsyncReset::Absent,
-            Enable::Present(s, enable.active),
-        ),
-        Controlled::Refused(x) => Stated::Refused(x),
+    match enable {
+        OptionalControl::Absent => ReadEnabled::Done(Enable::Absent),
+        OptionalControl::Present(c) => {
+            let bit = c.signal;
+            match bit_signal(wires, places, constants, bit) {
+                Controlled::Signal(s) => ReadEnabled::Done(Enable::Present(s, c.active)),
+                Controlled::Refused(x) => ReadEnabled::Refused(x),
+            }
+        }
+    }
+}
+
+// What a read register takes: the selected word, and with a clock enable its own where that is not asserted.
+fn next_read(
+    exprs: &mut [u32],
+    t: Tapes,
+    clock_enabled: ClockEnabled,
+    width: u32,
+    target: SignalId,
+    value: ExprId,
+) -> Emitted
+    ensures { λ r. ⌜ WroteExprs (now (exprs .entry)) t (nextRead (enabledOf «clock_enabled») width (target .0) (value .0)) (emitted r) (now (exprs .exit)) ⌝ }
+{
+    match clock_enabled {
+        ClockEnabled::Absent => Emitted::Done(value, t),
+        ClockEnabled::Present(enabled) => match builder::read(exprs, t, width, target, 0) {
+            Emitted::Done(own, t2) => builder::mux(exprs, t2, width, enabled, value, own),
+            Emitted::Refused(x) => Emitted::Refused(x),
+        },
     }
 }
 
 // The register of the signal that a wire is in.
 fn read_register(
+    exprs: &mut [u32],
     stmts: &mut [u32],
     wires: &[u32],
     places: &[u32],
     t: Tapes,
     constants: Constants,
+    shape: RamShape,
+    clock_enabled: ClockEnabled,
+    value: ExprId,
     output: u32,
     enable: OptionalControl,
-    value: ExprId,
-    clock: SignalId,
-    edge: u32,
 ) -> Stated
-    ensures { λ r. ⌜ WroteStmts (now (stmts .entry)) t (readRegister (wiresOf (now (wires .entry)) (now (places .entry))) constants output (presence enable) (value .0) (clock .0) edge) (stated r) (now (stmts .exit)) ⌝ }
+    ensures { λ r. ⌜ WroteBoth (now (exprs .entry)) (now (stmts .entry)) t (readRegister (wiresOf (now (wires .entry)) (now (places .entry))) constants output (presence enable) (enabledOf «clock_enabled») (shape .width) (value .0) (shape .clock .0) (shape .edge)) (stated r) (now (exprs .exit)) (now (stmts .exit)) ⌝ }
 {
     match wire_ref(wires, places, output) {
         Found::At(r) => {
             let target = r.signal;
-            match enable {
-                OptionalControl::Absent => builder::register(
-                    stmts,
-                    t,
-                    target,
-                    value,
-                    clock,
-                    edge,
-                    AsyncReset::Absent,
-                    Enable::Absent,
-                ),
-                OptionalControl::Present(c) => enabled_register(
-                    stmts,
-                    wires,
-                    places,
-                    t,
-                    constants,
-                    target,
-                    c,
-                    value,
-                    clock,
-                    edge,
-                ),
+            let clock = shape.clock;
+            match enable_of(wires, places, constants, enable) {
+                ReadEnabled::Done(enabled) => {
+                    match next_read(exprs, t, clock_enabled, shape.width, target, value) {
+                        Emitted::Done(next, t2) => builder::register(
+                            stmts,
+                            t2,
+                            target,
+                            next,
+                            clock,
+                            shape.edge,
+                            AsyncReset::Absent,
+                            enabled,
+                        ),
+                        Emitted::Refused(x) => Stated::Refused(x),
+                    }
+                }
+                ReadEnabled::Refused(x) => Stated::Refused(x),
             }
         }
         Found::Missing => Stated::Refused(Refusal::MissingWire(wide(output))),
@@ -125,14 +133,15 @@ fn emit_block_ram_read_port(
     constants: Constants,
     made: Words,
     shape: RamShape,
-    reads: ExprId,
+    port: Port,
     output: u32,
     enable: OptionalControl,
 ) -> Stated
     requires { ⌜ (made .depth ≤ length (now parts)) × (made .depth ≤ length (now values)) × Spaced made × (made .depth ≤ 1024) ⌝ }
-    ensures { λ r. ⌜ WroteBoth (now (exprs .entry)) (now (stmts .entry)) t (emitBlockRamReadPort (wiresOf (now (wires .entry)) (now (places .entry))) constants (reading (reads .0) output (presence enable)) (wordsOf made) (shape .width) (shape .address) (shape .clock .0) (shape .edge)) (stated r) (now (exprs .exit)) (now (stmts .exit)) ⌝ }
+    ensures { λ r. ⌜ WroteBoth (now (exprs .entry)) (now (stmts .entry)) t (emitBlockRamReadPort (wiresOf (now (wires .entry)) (now (places .entry))) constants (reading (port .reads .0) output (presence enable) (port .«clock_enabled»)) (wordsOf made) (shape .width) (shape .address) (shape .clock .0) (shape .edge)) (stated r) (now (exprs .exit)) (now (stmts .exit)) ⌝ }
 {
-    let clock = shape.clock;
+    let reads = port.reads;
+    let clock_enabled = port.clock_enabled;
     match select_word(
         exprs,
         parts,
@@ -144,16 +153,17 @@ fn emit_block_ram_read_port(
         shape.address,
     ) {
         Emitted::Done(v, t2) => read_register(
+            exprs,
             stmts,
             wires,
             places,
             t2,
             constants,
+            shape,
+            clock_enabled,
+            v,
             output,
             enable,
-            v,
-            clock,
-            shape.edge,
         ),
         Emitted::Refused(x) => Stated::Refused(x),
     }
@@ -171,14 +181,15 @@ fn emit_deep_ram_read_port(
     constants: Constants,
     made: Words,
     shape: RamShape,
-    reads: ExprId,
+    port: Port,
     output: u32,
     enable: OptionalControl,
 ) -> Stated
     requires { ⌜ (made .depth ≤ length (now parts)) × (made .depth ≤ length (now values)) × Spaced made ⌝ }
-    ensures { λ r. ⌜ WroteBoth (now (exprs .entry)) (now (stmts .entry)) t (emitBlockRamReadPort (wiresOf (now (wires .entry)) (now (places .entry))) constants (reading (reads .0) output (presence enable)) (wordsOf made) (shape .width) (shape .address) (shape .clock .0) (shape .edge)) (stated r) (now (exprs .exit)) (now (stmts .exit)) ⌝ }
+    ensures { λ r. ⌜ WroteBoth (now (exprs .entry)) (now (stmts .entry)) t (emitBlockRamReadPort (wiresOf (now (wires .entry)) (now (places .entry))) constants (reading (port .reads .0) output (presence enable) (port .«clock_enabled»)) (wordsOf made) (shape .width) (shape .address) (shape .clock .0) (shape .edge)) (stated r) (now (exprs .exit)) (now (stmts .exit)) ⌝ }
 {
-    let clock = shape.clock;
+    let reads = port.reads;
+    let clock_enabled = port.clock_enabled;
     match select_deep(
         exprs,
         parts,
@@ -190,16 +201,17 @@ fn emit_deep_ram_read_port(
         shape.address,
     ) {
         Emitted::Done(v, t2) => read_register(
+            exprs,
             stmts,
             wires,
             places,
             t2,
             constants,
+            shape,
+            clock_enabled,
+            v,
             output,
             enable,
-            v,
-            clock,
-            shape.edge,
         ),
         Emitted::Refused(x) => Stated::Refused(x),
     }
@@ -227,12 +239,12 @@ pub fn first_read_port(
     constants: Constants,
     made: Words,
     shape: RamShape,
-    reads: ExprId,
+    port: Port,
     words: &[u32],
     at: usize,
 ) -> Stated
     requires { ⌜ (made .depth ≤ length (now parts)) × (made .depth ≤ length (now values)) × Spaced made ⌝ }
-    ensures { λ r. ⌜ WroteBoth (now (exprs .entry)) (now (stmts .entry)) t (emitBlockRamReadPort (wiresOf (now (wires .entry)) (now (places .entry))) constants (reading (reads .0) (getD (ramAt (now (words .entry)) at .output) 0 0) (ramAt (now (words .entry)) at .readEnable)) (wordsOf made) (shape .width) (shape .address) (shape .clock .0) (shape .edge)) (stated r) (now (exprs .exit)) (now (stmts .exit)) ⌝ }
+    ensures { λ r. ⌜ WroteBoth (now (exprs .entry)) (now (stmts .entry)) t (emitBlockRamReadPort (wiresOf (now (wires .entry)) (now (places .entry))) constants (reading (port .reads .0) (getD (ramAt (now (words .entry)) at .output) 0 0) (ramAt (now (words .entry)) at .readEnable) (port .«clock_enabled»)) (wordsOf made) (shape .width) (shape .address) (shape .clock .0) (shape .edge)) (stated r) (now (exprs .exit)) (now (stmts .exit)) ⌝ }
 {
     let width = field(words, at, 2);
     let offset = 43 + wide(width);
@@ -250,7 +262,7 @@ pub fn first_read_port(
             constants,
             made,
             shape,
-            reads,
+            port,
             output,
             enable,
         );
@@ -266,7 +278,7 @@ pub fn first_read_port(
         constants,
         made,
         shape,
-        reads,
+        port,
         output,
         enable,
     )
@@ -294,7 +306,6 @@ pub fn second_read_port(
     match second {
         Second::Absent => Stated::Done(t),
         Second::Present(port) => {
-            let reads = port.reads;
             let start = first_size(words, at);
             let width = field(words, at, 2);
             let offset = start + (24 + wide(width));
@@ -312,7 +323,7 @@ pub fn second_read_port(
                     constants,
                     made,
                     shape,
-                    reads,
+                    port,
                     output,
                     enable,
                 );
@@ -328,7 +339,7 @@ pub fn second_read_port(
                 constants,
                 made,
                 shape,
-                reads,
+                port,
                 output,
                 enable,
             )

@@ -3,7 +3,7 @@ use native.Mathlib.Omega.{arith}
 use Rattle.recorder.proofs.Wrote.{wrote-pure, then-done, then-stop}
 use Rattle.recorder.specs.Lists.{emitted}
 use Rattle.wires.specs.Wires.{wiresOf}
-use Rattle.memories.specs.Rams.{firstExprs}
+use Rattle.memories.specs.Rams.{gated, firstExprs}
 use Rattle.memories.proofs.PortLaws.{data-same}
 use borrow.Author.Needs.{needs}
 use Rattle.memories.proofs.ports.first_port.Statement.{statement}
@@ -11,7 +11,7 @@ use Rattle.memories.proofs.ports.first_port.Tie as tie
 use Rattle.memories.proofs.ports.first_port.Reads as reads
 use Rattle.memories.proofs.ports.first_port.Lts as lts
 use Rattle.memories.proofs.ports.address_part.Reads as address-part-reads
-use Rattle.memories.proofs.ports.asserted_at.Reads as asserted-at-reads
+use Rattle.memories.proofs.ports.gated_at.Reads as gated-at-reads
 use Rattle.memories.proofs.ports.data_expression.Reads as data-expression-reads
 use Rattle.netlist.proofs.fields.field.Reads as field-reads
 
@@ -44,8 +44,8 @@ enum-known-input : tie.Need-enum-known-input
 enum-known-input c = search needs
 
 -- src/ports.rt:133:31
-asserted-at-requires : tie.Need-asserted-at-requires
-asserted-at-requires c κs = search needs
+gated-at-requires : tie.Need-gated-at-requires
+gated-at-requires c κs = search needs
 
 -- src/ports.rt:134:43
 enum-known-asserted : tie.Need-enum-known-asserted
@@ -69,7 +69,7 @@ enum-known-x-4 c = search needs
 
 -- src/ports.rt:111:1
 same-length : tie.Need-same-length
-same-length c = c .before .before .before .before .before .asserted-at .kept .0 ∙ c .before .before .before .before .before .before .before .before .before .before .before .before .before .before .data-expression .kept .0 ∙ c .before .before .before .before .before .before .before .before .before .before .before .before .before .before .before .before .before .before .before .before .before .before .address-part2 .kept .0 ∙ c .before .before .before .before .before .before .before .before .before .before .before .before .before .before .before .before .before .before .before .before .before .before .before .before .before .before .before .before .before .address-part .kept .0
+same-length c = c .before .before .before .before .before .gated-at .kept .0 ∙ c .before .before .before .before .before .before .before .before .before .before .before .before .before .before .data-expression .kept .0 ∙ c .before .before .before .before .before .before .before .before .before .before .before .before .before .before .before .before .before .before .before .before .before .before .address-part2 .kept .0 ∙ c .before .before .before .before .before .before .before .before .before .before .before .before .before .before .before .before .before .before .before .before .before .before .before .before .before .before .before .before .before .address-part .kept .0
 
 -- src/ports.rt:111:1
 same-length-2 : tie.Need-same-length-2
@@ -78,11 +78,11 @@ same-length-2 c = c .before .before .before .before .before .before .before .bef
 -- src/ports.rt:111:1
 returns : tie.Need-returns
 unfolding firstExprs
-returns c = λ s m. then-done (c .before .before .before .before .before .before .before .before .before .before .before .before .before .before .before .before .before .before .before .before .before .before .before .before .before .before .before .before .before .address-part .ensures s m) _ (ap emitted (c .before .before .before .before .before .before .before .before .before .before .before .before .before .before .before .before .before .before .before .before .before .before .before .before .before .writes .given .1)) (then-done (c .before .before .before .before .before .before .before .before .before .before .before .before .before .before .before .before .before .before .before .before .before .before .address-part2 .ensures s m) _ (ap emitted (c .before .before .before .before .before .before .before .before .before .before .before .before .before .before .before .before .before .before .reads .given .1)) (then-done (data-same (wiresOf (c .before .before .before .before .before .before .before .before .before .before .before .before .before .before .before .before .before .before .before .before .before .before .before .before .before .before .before .before .before .before .before .before .before .before .before .before .before .args .wires .now) (c .before .before .before .before .before .before .before .before .before .before .before .before .before .before .before .before .before .before .before .before .before .before .before .before .before .before .before .before .before .before .before .before .before .before .before .before .before .args .places .now)) (c .before .before .before .before .before .before .before .before .before .before .before .before .before .before .before .before .before .before .before .before .before .before .before .before .before .before .before .before .before .before .before .before .before .before .before .before .before .args .words .now) refl (c .before .before .before .before .before .before .before .before .before .before .before .before .before .before .before .before .before .before .before .before .before .before .before .before .before .before .before .before .before .before .before .field .ensures) (c .before .before .before .before .before .before .before .before .before .before .before .before .before .before .data-expression .ensures) s m) _ (ap emitted (c .before .before .before .before .before .before .before .before .input .given .1)) (then-done (c .before .before .before .before .before .asserted-at .ensures s m) _ (ap emitted (c .before .asserted .given .1)) wrote-pure)))
+returns c = λ s m. then-done (c .before .before .before .before .before .before .before .before .before .before .before .before .before .before .before .before .before .before .before .before .before .before .before .before .before .before .before .before .before .address-part .ensures s m) _ (ap emitted (c .before .before .before .before .before .before .before .before .before .before .before .before .before .before .before .before .before .before .before .before .before .before .before .before .before .writes .given .1)) (then-done (c .before .before .before .before .before .before .before .before .before .before .before .before .before .before .before .before .before .before .before .before .before .before .address-part2 .ensures s m) _ (ap emitted (c .before .before .before .before .before .before .before .before .before .before .before .before .before .before .before .before .before .before .reads .given .1)) (then-done (data-same (wiresOf (c .before .before .before .before .before .before .before .before .before .before .before .before .before .before .before .before .before .before .before .before .before .before .before .before .before .before .before .before .before .before .before .before .before .before .before .before .before .args .wires .now) (c .before .before .before .before .before .before .before .before .before .before .before .before .before .before .before .before .before .before .before .before .before .before .before .before .before .before .before .before .before .before .before .before .before .before .before .before .before .args .places .now)) (c .before .before .before .before .before .before .before .before .before .before .before .before .before .before .before .before .before .before .before .before .before .before .before .before .before .before .before .before .before .before .before .before .before .before .before .before .before .args .words .now) refl (c .before .before .before .before .before .before .before .before .before .before .before .before .before .before .before .before .before .before .before .before .before .before .before .before .before .before .before .before .before .before .before .field .ensures) (c .before .before .before .before .before .before .before .before .before .before .before .before .before .before .data-expression .ensures) s m) _ (ap emitted (c .before .before .before .before .before .before .before .before .input .given .1)) (then-done (c .before .before .before .before .before .gated-at .ensures s m) _ (ap gated (c .before .asserted .given .1)) wrote-pure)))
 
 -- src/ports.rt:111:1
 same-length-3 : tie.Need-same-length-3
-same-length-3 c = c .before .before .before .before .before .asserted-at .kept .0 ∙ c .before .before .before .before .before .before .before .before .before .before .before .before .before .before .data-expression .kept .0 ∙ c .before .before .before .before .before .before .before .before .before .before .before .before .before .before .before .before .before .before .before .before .before .before .address-part2 .kept .0 ∙ c .before .before .before .before .before .before .before .before .before .before .before .before .before .before .before .before .before .before .before .before .before .before .before .before .before .before .before .before .before .address-part .kept .0
+same-length-3 c = c .before .before .before .before .before .gated-at .kept .0 ∙ c .before .before .before .before .before .before .before .before .before .before .before .before .before .before .data-expression .kept .0 ∙ c .before .before .before .before .before .before .before .before .before .before .before .before .before .before .before .before .before .before .before .before .before .before .address-part2 .kept .0 ∙ c .before .before .before .before .before .before .before .before .before .before .before .before .before .before .before .before .before .before .before .before .before .before .before .before .before .before .before .before .before .address-part .kept .0
 
 -- src/ports.rt:111:1
 same-length-4 : tie.Need-same-length-4
@@ -91,7 +91,7 @@ same-length-4 c = c .before .before .before .before .before .before .before .bef
 -- src/ports.rt:111:1
 returns-2 : tie.Need-returns-2
 unfolding firstExprs
-returns-2 c = λ s m. then-done (c .before .before .before .before .before .before .before .before .before .before .before .before .before .before .before .before .before .before .before .before .before .before .before .before .before .before .before .before .before .address-part .ensures s m) _ (ap emitted (c .before .before .before .before .before .before .before .before .before .before .before .before .before .before .before .before .before .before .before .before .before .before .before .before .before .writes .given .1)) (then-done (c .before .before .before .before .before .before .before .before .before .before .before .before .before .before .before .before .before .before .before .before .before .before .address-part2 .ensures s m) _ (ap emitted (c .before .before .before .before .before .before .before .before .before .before .before .before .before .before .before .before .before .before .reads .given .1)) (then-done (data-same (wiresOf (c .before .before .before .before .before .before .before .before .before .before .before .before .before .before .before .before .before .before .before .before .before .before .before .before .before .before .before .before .before .before .before .before .before .before .before .before .before .args .wires .now) (c .before .before .before .before .before .before .before .before .before .before .before .before .before .before .before .before .before .before .before .before .before .before .before .before .before .before .before .before .before .before .before .before .before .before .before .before .before .args .places .now)) (c .before .before .before .before .before .before .before .before .before .before .before .before .before .before .before .before .before .before .before .before .before .before .before .before .before .before .before .before .before .before .before .before .before .before .before .before .before .args .words .now) refl (c .before .before .before .before .before .before .before .before .before .before .before .before .before .before .before .before .before .before .before .before .before .before .before .before .before .before .before .before .before .before .before .field .ensures) (c .before .before .before .before .before .before .before .before .before .before .before .before .before .before .data-expression .ensures) s m) _ (ap emitted (c .before .before .before .before .before .before .before .before .input .given .1)) (then-stop (c .before .before .before .before .before .asserted-at .ensures s m) _ (ap emitted (c .before .x .given .1)))))
+returns-2 c = λ s m. then-done (c .before .before .before .before .before .before .before .before .before .before .before .before .before .before .before .before .before .before .before .before .before .before .before .before .before .before .before .before .before .address-part .ensures s m) _ (ap emitted (c .before .before .before .before .before .before .before .before .before .before .before .before .before .before .before .before .before .before .before .before .before .before .before .before .before .writes .given .1)) (then-done (c .before .before .before .before .before .before .before .before .before .before .before .before .before .before .before .before .before .before .before .before .before .before .address-part2 .ensures s m) _ (ap emitted (c .before .before .before .before .before .before .before .before .before .before .before .before .before .before .before .before .before .before .reads .given .1)) (then-done (data-same (wiresOf (c .before .before .before .before .before .before .before .before .before .before .before .before .before .before .before .before .before .before .before .before .before .before .before .before .before .before .before .before .before .before .before .before .before .before .before .before .before .args .wires .now) (c .before .before .before .before .before .before .before .before .before .before .before .before .before .before .before .before .before .before .before .before .before .before .before .before .before .before .before .before .before .before .before .before .before .before .before .before .before .args .places .now)) (c .before .before .before .before .before .before .before .before .before .before .before .before .before .before .before .before .before .before .before .before .before .before .before .before .before .before .before .before .before .before .before .before .before .before .before .before .before .args .words .now) refl (c .before .before .before .before .before .before .before .before .before .before .before .before .before .before .before .before .before .before .before .before .before .before .before .before .before .before .before .before .before .before .before .field .ensures) (c .before .before .before .before .before .before .before .before .before .before .before .before .before .before .data-expression .ensures) s m) _ (ap emitted (c .before .before .before .before .before .before .before .before .input .given .1)) (then-stop (c .before .before .before .before .before .gated-at .ensures s m) _ (ap gated (c .before .x .given .1)))))
 
 -- src/ports.rt:111:1
 same-length-5 : tie.Need-same-length-5
@@ -135,7 +135,7 @@ first-port-spec =
     enum-known-reads
     data-expression-requires
     enum-known-input
-    asserted-at-requires
+    gated-at-requires
     enum-known-asserted
     enum-known-x
     enum-known-x-2
