@@ -1,5 +1,5 @@
 #!/bin/sh
-# Builds the oracle. The feature gate for u32::bit_width is opened in
+# Builds the oracle; needs the program patch. The feature gate for u32::bit_width is opened in
 # .cargo/config.toml, which cargo finds from this directory only; an outer
 # RUSTFLAGS would replace it.
 set -eu

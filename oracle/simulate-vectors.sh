@@ -1,7 +1,7 @@
 #!/bin/sh
 # simulate-vectors.sh [DIRECTORY]: the runs that the gate replays (crates/simulate/stdin, stdout), made again without the proved program.
-# An example, cases with answers by hand, random ones by the independent simulators, one-cell netlists by Yosys' cell models (answers/yosys.txt), designs by
-# Icarus Verilog (answers/design.*, made by yosys/design.sh). Needs build.sh. In the end the oracle's `simulate` must say the same of them all.
+# An example, cases with answers by hand (here and in clock-enables.py), random ones by the independent simulators, one-cell netlists by Yosys' cell models
+# (answers/yosys.txt), designs by Icarus Verilog (answers/design.*, made by yosys/design.sh). Needs build.sh. In the end the oracle's `simulate` must say the same of them all.
 set -eu
 cd "$(dirname "$0")"
 bin=target/release
@@ -41,6 +41,9 @@ hand "0 0, 1 1 2, 0 2 2 2 2 0 21845, 0 1 3 1"
 hand "1 0, 0 0 0, 1 1 2, 0 2 2 2 2 0 65535, 0 1 3 1" 1
 # the signal list is full
 hand "0 0, 6 16384 1 1, $zeros, 0 1, $zeros, 0 0 0, 0 0 0, 0 0 0, 0 0, 0 0 0 1" "refused 2 0"
+# small block RAMs with a clock enable, which the unchanged Rust takes otherwise: one that is off for ever, one that is missing
+hand "2 2, 1 1 0, 1 1 0, 0, 0 1 2, 1 1 3, 6 1 1 1, $zeros, 1 1, $zeros, 0 0 0, 1 0 1, 2 0, 0, 1, 1, 0 2 6 1" 0 0
+hand "2 2, 1 1 0, 1 1 0, 0, 0 1 2, 1 1 3, 6 1 1 1, $zeros, 1 1, $zeros, 0 0 0, 1 9 1, 2 0, 0, 1, 1, 0 2 6 1" "refused 8 7"
 # leading words are missing, then the netlist is
 hand "" "refused 3 0"
 hand "0" "refused 3 0"
@@ -54,10 +57,14 @@ hand "1 1, 9 9 9, 5, 0 0 1, 0 0 0 0" "refused 4 0"
 python3 ../tools/words.py asm-ticks ../examples/counter.txt ../examples/counter.ticks > "$work/one.bin"
 $bin/words $(($(wc -c < "$work/one.bin") / 4)) | cat - "$work/one.bin" > "$work/example.bin"
 
+./clock-enables.py ticks "$work/small.bin" "$work/small.txt"
 $bin/simulate-cases 1 700 20 3000 "$work/random.bin" "$work/random.txt" > "$work/tally"
+$bin/simulate-cases --clock-enables 1 100 20 2000 "$work/enables.bin" "$work/enables.txt" > "$work/tally-enables"
 yosys/cases.py answers/yosys.txt "$work/yosys.bin" "$work/yosys.txt"
-cat "$work/example.bin" "$work/hand.bin" "$work/random.bin" "$work/yosys.bin" answers/design.bin > "$to/stdin"
-cat ../examples/counter.shown "$work/hand.txt" "$work/random.txt" "$work/yosys.txt" answers/design.txt > "$to/stdout"
+cat "$work/example.bin" "$work/hand.bin" "$work/small.bin" "$work/random.bin" "$work/enables.bin" "$work/yosys.bin" answers/design.bin > "$to/stdin"
+cat ../examples/counter.shown "$work/hand.txt" "$work/small.txt" "$work/random.txt" "$work/enables.txt" "$work/yosys.txt" answers/design.txt > "$to/stdout"
 $bin/simulate --batch < "$to/stdin" | cmp "$to/stdout" -
 cat "$work/tally"
+echo "with clock enables:"
+cat "$work/tally-enables"
 echo "$(wc -c < "$to/stdin") bytes of cases, $(wc -l < "$to/stdout") lines"

@@ -32,7 +32,7 @@ def draw(rng, inputs, count):
             values["b"] = values["a"]
         recent = (recent + [values["a"]])[-6:]
         how, fired = rng.randrange(100), None
-        begins = k > 0 and any(values[name] == level != before[name] for name, level in RESETS.items())
+        begins = k > 0 and any(values[name] == level != before[name] for name, level in RESETS.items() if name in inputs)
         if k == 0:
             values.update(FIRST)
             fired = "clk2"

@@ -1,11 +1,14 @@
 #!/usr/bin/env python3
-"""Runs the vectors of vectors.py by document 01's tick rule and says where they part.
+"""Runs the vectors of vectors.py by document 01's tick rule, as request W1 amends it, and says where they part.
 
   compare.py FILE [--only PREFIX] [--quiet]
+  compare.py --batch BATCH PROGRAM
 
-Written from the paper alone, apart from the proved definitions: a third opinion on both. Exits 1 if a tick differs.
+The second form runs the cases of a batch for `simulate` and holds them to what PROGRAM prints for each; what it refuses is left out, and so
+are cells that form a loop.
+Written from the papers alone, apart from the proved definitions: a third opinion on both. Exits 1 if a tick differs.
 """
-import argparse, sys
+import argparse, struct, subprocess, sys
 
 
 class Reader:
@@ -207,9 +210,11 @@ class Machine:
         at = lambda bits: number(self.many(bits[shift : shift + width]))
         words, reads = [w[:] for w in r["words"]], []
         for side, s in enumerate(x["sides"]):
+            goes = s["ce"] is None or self.asserted(s["ce"])
             a = at(s["raddr"])
-            reads.append(r["reads"][side] if s["read"] and not self.asserted(s["read"]) else r["words"][a] if a < x["depth"] else [0] * x["width"])
-            if self.asserted(s["write"]) and at(s["waddr"]) < x["depth"]:
+            loads = goes and (s["read"] is None or self.asserted(s["read"]))
+            reads.append((r["words"][a] if a < x["depth"] else [0] * x["width"]) if loads else r["reads"][side])
+            if goes and self.asserted(s["write"]) and at(s["waddr"]) < x["depth"]:
                 words[at(s["waddr"])] = self.many(s["data"])
         return {"words": words, "reads": reads}
 
@@ -221,12 +226,64 @@ class Machine:
         return "".join(str(self.value(b)) for direction, port in self.n["ports"] if direction == 1 for b in port)
 
 
+def cases(batch):
+    """Per case its bytes, its ticks as bits and what fires, and its netlist; where leading words are missing, no ticks."""
+    data, at = open(batch, "rb").read(), 0
+    while at < len(data):
+        (length,) = struct.unpack_from("<I", data, at)
+        case, at = data[at + 4 : at + 4 + 4 * length], at + 4 + 4 * length
+        words = struct.unpack(f"<{length}I", case)
+        count, bits = words[:2] if length > 1 else (length, 0)
+        ticks, left = [], list(case[8 + 12 * count :][:bits])
+        for k in range(min(count, (length - 2) // 3)):
+            asked, fires, signal = words[2 + 3 * k : 5 + 3 * k]
+            ticks.append((left[:asked], (signal, fires - 1) if fires else None))
+            left = left[asked:]
+        yield case, ticks, words[2 + 3 * count + (bits + 3) // 4 :]
+
+
+def shown(machine, row):
+    """The output ports in order, the highest bit of each first."""
+    ports, at = [], 0
+    for direction, bits in machine.n["ports"]:
+        if direction == 1:
+            ports.append(row[at : at + len(bits)][::-1])
+            at += len(bits)
+    return " ".join(ports)
+
+
+def compare_batch(batch, program):
+    sys.setrecursionlimit(4000)
+    ran = ticks = wrong = loops = 0
+    for number, (case, given, words) in enumerate(cases(batch)):
+        lines = subprocess.run(program, input=case, capture_output=True, check=True).stdout.decode().split("\n")[:-1]
+        made = [(bits, fired, line) for (bits, fired), line in zip(given, lines) if not line.startswith("refused")]
+        if not made:
+            continue
+        machine = Machine(words)
+        try:
+            for bits, fired, line in made:
+                got = shown(machine, machine.tick(bits, fired))
+                ticks += 1
+                if got != line:
+                    wrong += 1
+                    print(f"case {number}: bits {bits}, fired {fired}: {program} shows {line}, the tick rule {got}")
+            ran += 1
+        except RecursionError:
+            loops += 1
+    print(f"{ran} cases, {ticks} ticks, {wrong} differ; {loops} cases with a loop")
+    sys.exit(wrong > 0)
+
+
 def main():
     a = argparse.ArgumentParser()
-    a.add_argument("file")
+    a.add_argument("file", nargs="?")
+    a.add_argument("--batch", nargs=2)
     a.add_argument("--only", default="")
     a.add_argument("--quiet", action="store_true")
     a = a.parse_args()
+    if a.batch:
+        compare_batch(*a.batch)
     ticks = wrong = 0
     counts = {}
     for line in open(a.file):

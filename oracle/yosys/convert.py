@@ -5,8 +5,9 @@
 
 Little-endian words on standard output; what the words can't say is refused with a message. Ports keep their order, so signal n of
 the model is port n of the module. Cells come in the file's order, nets are numbered as they are met, and a value that does not
-matter (x) is 0. A block RAM gets as many words as its address bits reach and as many bits as are read. Where a control of a block RAM
-is made of several pins, a LUT4 in front of it joins them.
+matter (x) is 0. A block RAM gets as many words as its address bits reach and as many bits as are read. CEA and CEB are its ports' clock
+enables; OCEA and OCEB do nothing without an output register. Where a control of a block RAM is made of several pins, a LUT4 in front of it
+joins them.
 """
 import json, struct, sys
 
@@ -212,14 +213,15 @@ class Side:
         self.used = [k for k in range(18) if self.nets[k] in w.read]
         self.c, self.side = c, side
         self.clock, self.edge = c.bit("CLK" + side), c.choice(f"CLK{side}MUX", "CLK" + side, **{"CLK" + side: 0, "INV": 1})
-        self.enable, write = c.bit("CE" + side), [c.bit("WE" + side)]
+        self.enable = (c.bit("CE" + side), c.choice(f"CE{side}MUX", "CE" + side, **{"CE" + side: 1, "INV": 0}))
+        write = [c.bit("WE" + side)]
         self.mode = c.parameter(f"WRITEMODE_{side}", "NORMAL")
         if self.width == 18:
             # the two lowest address bits choose bytes
             if self.address[0] != self.address[1]:
                 c.no("bytes are written apart")
             write.append(self.address[0])
-        self.writing = [] if ZERO in write + [self.enable] else write
+        self.writing = [] if ZERO in write or self.enable in ((ZERO, 1), (ONE, 0)) else write
         self.reads, self.writes = bool(self.used), bool(self.writing)
         if self.reads:
             c.want(f"REGMODE_{side}", "NOREG", "NOREG")
@@ -233,18 +235,18 @@ class Side:
         return max([k + 1 - self.shift for k in range(self.shift, 14) if self.address[k] != ZERO], default=0)
 
     def write(self, w):
-        return [w.join(self.writing + [self.enable]) if self.writes else ZERO, 1]
+        return [w.join(self.writing) if self.writes else ZERO, 1]
 
     def read_enable(self, w):
-        """Off while the clock enable is, and in mode NORMAL while the side writes."""
-        low = []
-        if self.reads and self.writes:
-            if self.mode == "NORMAL":
-                low = [w.join(self.writing)]
-            elif self.mode != "READBEFOREWRITE":
-                self.c.no(f"{self.mode}: the read takes what is written")
-        bit = w.join([self.enable], low)
-        return [0, 0, 0] if bit == ONE else [1, bit, 1]
+        """Off in mode NORMAL while the side writes."""
+        if not (self.reads and self.writes) or self.mode == "READBEFOREWRITE":
+            return [0, 0, 0]
+        if self.mode != "NORMAL":
+            self.c.no(f"{self.mode}: the read takes what is written")
+        return [1, w.join([], [w.join(self.writing)]), 1]
+
+    def clock_enable(self):
+        return [0, 0, 0] if self.enable in ((ONE, 1), (ZERO, 0)) else [1, *self.enable]
 
     def outputs(self, w, width):
         return [w.fresh() if net is None else w.wire(net) for net in self.nets[:width]]
@@ -254,6 +256,8 @@ def block_ram(w, c):
     for name in c.parameters:
         if name.startswith("INITVAL_") and c.number(name):
             c.no("it does not start at 0")
+        if name.endswith("MUX") and name[:3] not in ("CLK", "CEA", "CEB"):
+            c.want(name, name[:-3], None)
     sides = [s for s in (Side(w, c, "A"), Side(w, c, "B")) if s.reads or s.writes]
     if not sides:
         return
@@ -262,22 +266,20 @@ def block_ram(w, c):
     first = sides[0]
     depth = 1 << max(s.reach() for s in sides)
     width = max([k + 1 for s in sides for k in s.used], default=1)
-    if len(sides) == 2 and not any(s.reads and s.writes for s in sides) and sides[0].reads != sides[1].reads:
-        # one writes, the other reads: one port of the words
+    apart = len(sides) == 2 and not any(s.reads and s.writes for s in sides) and sides[0].reads != sides[1].reads
+    if apart and sides[0].enable == sides[1].enable:
+        # one writes, the other reads, and nothing stops only one of them: one port of the words
         reader, writer = sorted(sides, key=lambda s: s.writes)
         second = None
     else:
         reader = writer = first
         second = sides[1] if len(sides) == 2 else None
     write, enable = writer.write(w), reader.read_enable(w)
-    ports = [(write, enable)]
-    if second:
-        ports.append((second.write(w), second.read_enable(w)))
-    out = [6, depth, width, first.width, *writer.address, *write, *reader.address, *enable, 0, 0, 0, first.clock, first.edge,
+    out = [6, depth, width, first.width, *writer.address, *write, *reader.address, *enable, *reader.clock_enable(), first.clock, first.edge,
            int(second is not None), *writer.data[:width], *reader.outputs(w, width)]
     if second:
-        write, enable = ports[1]
-        out += [*second.address, *write, *enable, 0, 0, 0, second.clock, second.edge, *second.data[:width], *second.outputs(w, width)]
+        out += [*second.address, *second.write(w), *second.read_enable(w), *second.clock_enable(), second.clock, second.edge,
+                *second.data[:width], *second.outputs(w, width)]
     w.put(*out)
 
 

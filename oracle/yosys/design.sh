@@ -25,7 +25,7 @@ lines() { # TOP FILE..: what Icarus shows
 }
 
 [ -z "$batch" ] || : > "$batch" > "$expected"
-for top in datapath system; do
+for top in datapath system doorlog; do
     synthesised $top "$here"/design/*.v
     "$here/convert.py" "$work/$top.json" > "$work/$top.words"
     "$here/bench.py" "$work/$top.json" "$work/$top.words" "$ticks" "$seed" "$work/$top.case" "$work/$top.bench.v"
@@ -84,6 +84,11 @@ refused "bytes are written apart" << 'V'
 module no(input c, input [1:0] w, input [7:0] a, input [17:0] d, output reg [17:0] q);
     (* ram_style = "block" *) reg [17:0] m [0:255];
     always @(posedge c) begin if (w[0]) m[a][8:0] <= d[8:0]; if (w[1]) m[a][17:9] <= d[17:9]; q <= m[a]; end
+endmodule
+V
+refused "WEAMUX is INV" << 'V'
+module no(input c, w, a, d, output q);
+    DP16KD #(.DATA_WIDTH_A(9), .WRITEMODE_A("READBEFOREWRITE"), .WEAMUX("INV")) m(.CLKA(c), .CEA(1'b1), .WEA(w), .ADA3(a), .DIA0(d), .DOA0(q));
 endmodule
 V
 refused "no such cell" << 'V'

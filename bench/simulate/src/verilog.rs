@@ -236,10 +236,13 @@ fn load(text: &mut String, names: &Names, at: usize, cell: &Cell) {
                 "all addresses within, one port"
             );
             let address = |bits: &[Bit; 14]| names.all(&bits[shift..shift + width]);
-            if let Some(enable) = ram.read_enable {
-                let _ = write!(text, "if ({}) ", names.control(enable));
+            for enable in ram.clock_enable.iter().chain(&ram.read_enable) {
+                let _ = write!(text, "if ({}) ", names.control(*enable));
             }
             put(text, format!("read{at} <= words{at}[{}];", address(&ram.read_address)));
+            for enable in &ram.clock_enable {
+                let _ = write!(text, "if ({}) ", names.control(*enable));
+            }
             let (data, write) = (names.all(&ram.data), names.control(ram.write));
             put(
                 text,

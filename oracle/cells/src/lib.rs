@@ -5,7 +5,8 @@
 use std::collections::HashMap;
 
 use netlist::{
-    Bit, BlockRam, Cell, Control, Direction, Edge, Netlist, address_shift, address_width,
+    Bit, BlockRam, Cell, Control, Direction, Edge, Netlist, SecondPort, address_shift,
+    address_width,
 };
 
 mod signals;
@@ -317,12 +318,20 @@ impl<'a> Circuit<'a> {
             &ram.data,
             self.number(&ram.read_address[low..high]),
             ram.read_enable,
+            ram.clock_enable,
         )];
         if let Some(second) = &ram.second {
             let address = self.number(&second.address[low..high]);
-            ports.push((address, second.write, &second.data, address, second.read_enable));
+            let SecondPort { write, data, read_enable, clock_enable, .. } = second;
+            ports.push((address, *write, data, address, *read_enable, *clock_enable));
         }
-        for (port, (write_at, write, data, read_at, read_enable)) in ports.into_iter().enumerate() {
+        for (port, (write_at, write, data, read_at, read_enable, clock_enable)) in
+            ports.into_iter().enumerate()
+        {
+            // A port whose clock enable is off stands still; the other does not.
+            if clock_enable.is_some_and(|enable| !self.asserted(enable)) {
+                continue;
+            }
             if self.asserted(write)
                 && let Some(word) = words.get_mut(write_at as usize)
             {

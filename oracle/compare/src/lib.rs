@@ -24,9 +24,13 @@ pub struct Tick {
 /// What is counted over many runs.
 #[derive(Clone, Copy, Debug, Default)]
 pub struct Tally {
-    /// Netlists run, refused by lowering, with a loop of cells, and those of
-    /// the latter whose model has a loop too.
+    /// Netlists run.
     pub run: u64,
+    /// Of those run, with a clock enable, and with one in both ports of a RAM.
+    pub clock_enable: u64,
+    pub two_clock_enables: u64,
+    /// Refused by lowering, with a loop of cells, and those of the latter whose
+    /// model has a loop too.
     pub refused: u64,
     pub loops: u64,
     pub model_loops: u64,
@@ -78,6 +82,8 @@ pub fn compare(
         return Outcome::Different("input bits or signal counts differ".to_owned());
     }
     tally.run += 1;
+    tally.clock_enable += u64::from(netlist.has_clock_enable());
+    tally.two_clock_enables += u64::from(netlist.has_two_clock_enables());
     let mut bytes = vec![0; model.signal_bits()];
     let mut before = model.shown(&bytes);
     if before != circuit.shown() {

@@ -1,9 +1,11 @@
 //! Wrong readings, made by changing the netlist that the cells side runs. The
 //! comparison must find each of them; if not, its ticks are too tame.
 
-use netlist::{Bit, Cell, Control, Edge, Netlist, address_shift, address_width};
+use netlist::{
+    Bit, BlockRam, Cell, Control, Edge, Netlist, SecondPort, address_shift, address_width,
+};
 
-pub const READINGS: [(&str, fn(&mut Cell)); 19] = [
+pub const READINGS: [(&str, fn(&mut Cell)); 27] = [
     ("LUT4 with d as lowest bit", |cell| {
         if let Cell::Lut4 { inputs, .. } = cell {
             inputs.reverse();
@@ -71,6 +73,62 @@ pub const READINGS: [(&str, fn(&mut Cell)); 19] = [
             ram.read_enable = None;
         }
     }),
+    ("block RAM: clock enables ignored", |cell| {
+        each_port(cell, |port| *port.clock_enable = None);
+    }),
+    ("block RAM: A's clock enable for both ports", |cell| {
+        if let Cell::BlockRam(ram) = cell
+            && let Some(second) = &mut ram.second
+        {
+            second.clock_enable = ram.clock_enable;
+        }
+    }),
+    ("block RAM: B's clock enable for both ports", |cell| {
+        if let Cell::BlockRam(ram) = cell
+            && let Some(second) = &ram.second
+        {
+            ram.clock_enable = second.clock_enable;
+        }
+    }),
+    ("block RAM: a port that is off still reads", |cell| {
+        // Where it always writes, the clock enable is all that its write has.
+        each_port(cell, |port| {
+            if port.write.signal == Bit::One
+                && port.write.active_high
+                && let Some(enable) = port.clock_enable.take()
+            {
+                *port.write = enable;
+            }
+        });
+    }),
+    ("block RAM: a port that is off still writes", |cell| {
+        each_port(cell, |port| {
+            if port.read_enable.is_none() {
+                *port.read_enable = port.clock_enable.take();
+            }
+        });
+    }),
+    ("block RAM: clock enables all active high", |cell| {
+        each_port(cell, |port| {
+            if let Some(enable) = port.clock_enable {
+                enable.active_high = true;
+            }
+        });
+    }),
+    ("block RAM: beside a read enable the clock enable is ignored", |cell| {
+        each_port(cell, |port| {
+            if port.read_enable.is_some() {
+                *port.clock_enable = None;
+            }
+        });
+    }),
+    ("block RAM: beside a clock enable the read enable is ignored", |cell| {
+        each_port(cell, |port| {
+            if port.clock_enable.is_some() {
+                *port.read_enable = None;
+            }
+        });
+    }),
     ("block RAM: A's write wins", |cell| {
         // With one address for both ports, trading data and control is all.
         if let Cell::BlockRam(ram) = cell {
@@ -121,6 +179,23 @@ pub const READINGS: [(&str, fn(&mut Cell)); 19] = [
         }
     }),
 ];
+
+/// The controls of a block RAM's port.
+struct PortControls<'a> {
+    write: &'a mut Control,
+    read_enable: &'a mut Option<Control>,
+    clock_enable: &'a mut Option<Control>,
+}
+
+fn each_port(cell: &mut Cell, change: fn(PortControls<'_>)) {
+    if let Cell::BlockRam(ram) = cell {
+        let BlockRam { write, read_enable, clock_enable, second, .. } = &mut **ram;
+        change(PortControls { write, read_enable, clock_enable });
+        if let Some(SecondPort { write, read_enable, clock_enable, .. }) = second {
+            change(PortControls { write, read_enable, clock_enable });
+        }
+    }
+}
 
 #[must_use]
 pub fn spoiled(netlist: &Netlist, reading: fn(&mut Cell)) -> Netlist {

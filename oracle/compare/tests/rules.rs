@@ -133,7 +133,7 @@ fn ram(depth: u32, physical_width: u32, low: &[Bit], second: bool) -> Netlist {
             write: high(wire(3)),
             read_address: address,
             read_enable: None,
-            clock_enable: Some(high(Bit::Zero)),
+            clock_enable: None,
             clock: CLOCK,
             edge: Edge::Rising,
             data: vec![wire(4)],
@@ -205,6 +205,105 @@ fn a_read_enable_keeps_the_old_word() {
             (RISE, "01000000", "1"),
             (RISE, "00100000", "1"),
             (RISE, "01100000", "0"),
+        ],
+    );
+}
+
+fn low(signal: Bit) -> Control {
+    Control { signal, active_high: false }
+}
+
+/// Two words, two ports that both use address bit 1, and their clock enables.
+fn enabled(first: Option<Control>, second: Option<Control>) -> Netlist {
+    let mut netlist = ram(2, 1, &[wire(1)], true);
+    // A second enable, as a port of its own; the first is address bit 2, which
+    // two words leave unused: part of a wider signal.
+    netlist.ports.insert(2, input(&[9]));
+    let Cell::BlockRam(ram) = &mut netlist.cells[0] else { unreachable!() };
+    ram.clock_enable = first;
+    ram.second.as_mut().expect("a second port").clock_enable = second;
+    netlist
+}
+
+#[test]
+fn each_port_has_a_clock_enable_of_its_own() {
+    // Bits: clock, address, A's enable, A's write and data, B's; B's enable.
+    check(
+        &enabled(Some(high(wire(2))), Some(high(wire(9)))),
+        &[
+            (RISE, "00011001", "00"), // A is off: its write is lost
+            (RISE, "00100000", "00"), // word 0 is still 0
+            (RISE, "00000111", "00"), // A off, B on: B writes 1 and reads 0
+            (RISE, "00000001", "01"), // A keeps its old word, B reads 1
+            (RISE, "00100000", "11"), // now A reads it
+            (RISE, "00111110", "11"), // both write word 0, B is off: A's 1 stays
+            (RISE, "00110010", "11"), // A writes 0; B, off, neither writes nor reads
+            (RISE, "00100000", "01"),
+            (RISE, "00000001", "00"),
+            (RISE, "00111101", "00"), // both on: B's 0 stays
+            (RISE, "00100001", "00"),
+            (FALL, "00111001", "00"), // the other edge
+            (RISE, "00100001", "00"),
+        ],
+    );
+}
+
+#[test]
+fn a_clock_enable_may_be_active_low() {
+    check(
+        &enabled(Some(low(wire(2))), Some(high(wire(9)))),
+        &[
+            (RISE, "00111000", "00"), // A is off
+            (RISE, "00000000", "00"),
+            (RISE, "00011000", "00"), // A is on and writes 1
+            (RISE, "00100001", "01"), // only B reads
+            (RISE, "00000000", "11"),
+        ],
+    );
+    check(
+        &enabled(None, Some(low(wire(9)))),
+        &[
+            (RISE, "00011001", "00"), // A, without one, writes 1; B is off
+            (RISE, "00000001", "10"),
+            (RISE, "00000100", "11"), // B reads 1 and writes 0
+            (RISE, "00000001", "01"),
+            (RISE, "00000000", "00"),
+        ],
+    );
+}
+
+#[test]
+fn a_constant_clock_enable() {
+    // Off for ever, by either level.
+    for never in [high(Bit::Zero), low(Bit::One)] {
+        check(
+            &enabled(Some(never), None),
+            &[(RISE, "00011000", "00"), (RISE, "00000110", "00"), (RISE, "00000000", "01")],
+        );
+    }
+    for always in [high(Bit::One), low(Bit::Zero)] {
+        check(
+            &enabled(Some(always), Some(always)),
+            &[(RISE, "00011000", "00"), (RISE, "00000100", "11"), (RISE, "00000000", "00")],
+        );
+    }
+}
+
+#[test]
+fn a_read_needs_both_enables() {
+    let mut netlist = enabled(Some(high(wire(2))), None);
+    let Cell::BlockRam(ram) = &mut netlist.cells[0] else { unreachable!() };
+    ram.read_enable = Some(high(wire(9)));
+    check(
+        &netlist,
+        &[
+            (RISE, "00111000", "00"), // writes 1; the read enable is off
+            (RISE, "00000001", "01"), // the clock enable is off
+            (RISE, "00100000", "01"), // the read enable is off
+            (RISE, "00100001", "11"),
+            (RISE, "00010001", "11"), // the write waits for the clock enable only
+            (RISE, "00110000", "11"),
+            (RISE, "00100001", "00"),
         ],
     );
 }

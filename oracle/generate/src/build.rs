@@ -23,6 +23,10 @@ pub struct Plan {
     pub deep: usize,
     /// Block RAMs in a hundred that have hundreds of words.
     pub very_deep: usize,
+    /// Block RAMs in a hundred of at most four words.
+    pub shallow: usize,
+    /// Block RAM ports in a hundred that have a clock enable.
+    pub clock_enables: usize,
 }
 
 impl Plan {
@@ -51,7 +55,24 @@ impl Plan {
             kinds[6] += 6;
         }
         let deep = if rng.chance(3) { 50 } else { 3 };
-        Self { faults, ports: rng.below(8), cells, kinds, deep, very_deep: 0 }
+        Self {
+            faults,
+            ports: rng.below(8),
+            cells,
+            kinds,
+            deep,
+            very_deep: 0,
+            shallow: 0,
+            clock_enables: 30,
+        }
+    }
+
+    /// Block RAMs whose ports mostly have clock enables, and meet in few words.
+    pub fn favour_clock_enables(&mut self) {
+        self.cells = self.cells.clamp(1, 40);
+        self.kinds[6] += 12;
+        self.shallow = 60;
+        self.clock_enables = 85;
     }
 }
 
@@ -71,7 +92,9 @@ struct Builder<'a> {
     /// Wire numbers not used yet; the last is next.
     fresh: Vec<u32>,
     driven: HashSet<u32>,
+    /// What ports drive stands first.
     sources: Vec<Source>,
+    port_sources: usize,
     /// The few clocks of a netlist, so that flip-flops share banks.
     clocks: Vec<Bit>,
     resets: Vec<Control>,
@@ -89,6 +112,7 @@ pub fn netlist(rng: &mut Rng, plan: &Plan) -> Netlist {
         fresh,
         driven: HashSet::new(),
         sources: Vec::new(),
+        port_sources: 0,
         clocks: Vec::new(),
         resets: Vec::new(),
     };
@@ -121,6 +145,7 @@ impl Builder<'_> {
             ports.insert(at, Port { direction: Direction::Input, bits: vec![Bit::Wire(wire)] });
             self.clocks.push(Bit::Wire(wire));
         }
+        self.port_sources = self.sources.len();
         let mut kinds = (0..self.plan.cells).map(|_| self.kind()).collect::<Vec<_>>();
         self.rng.shuffle(&mut kinds);
         let mut ranks = (1..=kinds.len()).collect::<Vec<_>>();
@@ -438,6 +463,9 @@ impl Builder<'_> {
     }
 
     fn depth(&mut self) -> u32 {
+        if self.plan.shallow > 0 && self.rng.chance(self.plan.shallow) {
+            return self.rng.range(1, 4) as u32;
+        }
         if self.rng.chance(self.plan.very_deep) {
             return self.rng.pick(&[512, 513, 1_000, 1_024, 1_025, 2_048, 2_049, 4_096, 16_384]);
         }
@@ -475,10 +503,22 @@ impl Builder<'_> {
         })
     }
 
-    /// Nothing reads it, so it may name any wire.
+    /// Read as a bit, so it may be part of a wider signal. Mostly a port drives
+    /// it: such a bit moves, and the RAM is on and off by turns.
     fn clock_enable(&mut self) -> Option<Control> {
-        self.rng.chance(30).then(|| {
-            let signal = if self.rng.chance(20) { self.undriven() } else { self.any() };
+        self.rng.chance(self.plan.clock_enables).then(|| {
+            let signal = if self.rng.chance(self.plan.faults.missing_enable) {
+                self.undriven()
+            } else {
+                match self.rng.below(10) {
+                    0 => self.rng.pick(&[Bit::Zero, Bit::One]),
+                    1 => self.rng.pick(&self.resets).signal,
+                    2..7 if self.port_sources > 0 => {
+                        Bit::Wire(self.sources[self.rng.below(self.port_sources)].wire)
+                    }
+                    _ => self.bit(usize::MAX),
+                }
+            };
             Control { signal, active_high: self.rng.flag() }
         })
     }

@@ -3,7 +3,6 @@
 
 use celox::recorder::{self, LABELS, OWNER_MARK, Recording, SIGNALS, STATEMENTS};
 use netlist::{Bit, Cell, Control, Direction, Edge, Limits, Netlist, Refusal, Reset};
-use struo_celox::CeloxAdapterError;
 use struo_ir::{ActiveLevel, ClockEdge};
 use struo_target_ecp5 as ecp5;
 
@@ -17,8 +16,27 @@ const LONGEST_LIST: usize = 2_147_483_648;
 /// Words of the signal, expression and statement lists that `lower` lends.
 pub const DEFAULT_LENGTHS: [usize; 3] = [16_384; 3];
 
+/// Which Rust lowers.
+#[derive(Clone, Copy, Debug, PartialEq, Eq)]
+pub enum Rust {
+    /// The five files as published.
+    Unchanged,
+    /// With the requests that change records applied.
+    Amended,
+}
+
+/// By the amended Rust.
 pub fn lower(words: &[u32], limits: &Limits, lengths: [usize; 3]) -> Result<Recording, Refusal> {
-    let outcome = lower_netlist(&netlist::read_words(words, limits)?, lengths);
+    lower_by(Rust::Amended, words, limits, lengths)
+}
+
+pub fn lower_by(
+    rust: Rust,
+    words: &[u32],
+    limits: &Limits,
+    lengths: [usize; 3],
+) -> Result<Recording, Refusal> {
+    let outcome = lower_netlist_by(rust, &netlist::read_words(words, limits)?, lengths);
     // The reader and the Rust judge second ports apart from each other.
     let by_reader = netlist::read(words, limits).err();
     let by_rust = outcome.as_ref().err().copied().filter(|refusal| refusal.number == 6);
@@ -26,21 +44,30 @@ pub fn lower(words: &[u32], limits: &Limits, lengths: [usize; 3]) -> Result<Reco
     outcome
 }
 
-/// Lowers a netlist whose words are in order.
+/// Lowers a netlist whose words are in order, by the amended Rust.
 pub fn lower_netlist(netlist: &Netlist, lengths: [usize; 3]) -> Result<Recording, Refusal> {
+    lower_netlist_by(Rust::Amended, netlist, lengths)
+}
+
+pub fn lower_netlist_by(
+    rust: Rust,
+    netlist: &Netlist,
+    lengths: [usize; 3],
+) -> Result<Recording, Refusal> {
     let lengths = lengths.map(|length| length.min(LONGEST_LIST));
     recorder::keep(lengths.into_iter().max().unwrap_or(0));
-    let outcome = struo_celox::ecp5_frontend_artifact(&mapped_netlist(netlist));
+    let mapped = mapped_netlist(netlist);
+    let outcome = match rust {
+        Rust::Unchanged => unchanged(&mapped),
+        Rust::Amended => amended(&mapped),
+    };
     let recording = recorder::take().unwrap_or_default();
     // All recorded events came before a refusal of the Rust, so a list that
     // they fill comes first.
     if let Some(list) = recording.first_full(lengths) {
         return Err(Refusal { number: 2, place: list });
     }
-    match outcome {
-        Ok(_) => {}
-        Err(error) => return Err(adapter_refusal(&error)),
-    }
+    outcome?;
     match doubly_driven(&recording) {
         Some(signal) => Err(Refusal { number: 11, place: signal }),
         None => Ok(recording),
@@ -58,20 +85,31 @@ fn doubly_driven(recording: &Recording) -> Option<u32> {
     found.map(|signal| signal as u32)
 }
 
-fn adapter_refusal(error: &CeloxAdapterError) -> Refusal {
-    let cell = |name: &str| {
-        let (_, index) = name.split_once(OWNER_MARK).expect("a marked cell name");
-        index.parse().expect("a cell index")
+/// Each Rust has an error type of its own.
+macro_rules! rust {
+    ($name:ident, $adapter:ident) => {
+        fn $name(netlist: &ecp5::Ecp5Netlist) -> Result<(), Refusal> {
+            use $adapter::CeloxAdapterError as Error;
+            let Err(error) = $adapter::ecp5_frontend_artifact(netlist) else { return Ok(()) };
+            let (number, place) = match error {
+                Error::Build(_) => unreachable!("the stand-in refuses nothing"),
+                Error::UnsupportedTrueDualPortMemoryClocking(name) => (6, cell_index(&name)),
+                Error::DuplicateWire(wire) => (7, wire),
+                Error::MissingWire(wire) => (8, wire),
+                Error::NonScalarControl(wire) => (9, wire),
+                Error::UnsupportedTrueDualPortMemory(name) => (10, cell_index(&name)),
+            };
+            Err(Refusal { number, place })
+        }
     };
-    let (number, place) = match error {
-        CeloxAdapterError::Build(_) => unreachable!("the stand-in refuses nothing"),
-        CeloxAdapterError::UnsupportedTrueDualPortMemoryClocking(name) => (6, cell(name)),
-        CeloxAdapterError::DuplicateWire(wire) => (7, *wire),
-        CeloxAdapterError::MissingWire(wire) => (8, *wire),
-        CeloxAdapterError::NonScalarControl(wire) => (9, *wire),
-        CeloxAdapterError::UnsupportedTrueDualPortMemory(name) => (10, cell(name)),
-    };
-    Refusal { number, place }
+}
+
+rust!(unchanged, struo_celox);
+rust!(amended, struo_celox_amended);
+
+fn cell_index(name: &str) -> u32 {
+    let (_, index) = name.split_once(OWNER_MARK).expect("a marked cell name");
+    index.parse().expect("a cell index")
 }
 
 /// The netlist in the lowering's own types, with names that tell label and

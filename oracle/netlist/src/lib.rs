@@ -177,6 +177,36 @@ pub struct Netlist {
     pub cells: Vec<Cell>,
 }
 
+impl BlockRam {
+    /// The clock enable of each port.
+    #[must_use]
+    pub fn clock_enables(&self) -> Vec<Option<Control>> {
+        let second = self.second.as_ref().map(|second| second.clock_enable);
+        [self.clock_enable].into_iter().chain(second).collect()
+    }
+}
+
+impl Netlist {
+    pub fn block_rams(&self) -> impl Iterator<Item = &BlockRam> {
+        self.cells.iter().filter_map(|cell| match cell {
+            Cell::BlockRam(ram) => Some(&**ram),
+            _ => None,
+        })
+    }
+
+    /// Whether some port of a block RAM has a clock enable.
+    #[must_use]
+    pub fn has_clock_enable(&self) -> bool {
+        self.block_rams().any(|ram| ram.clock_enables().iter().any(Option::is_some))
+    }
+
+    /// Whether some block RAM has two ports, each with a clock enable.
+    #[must_use]
+    pub fn has_two_clock_enables(&self) -> bool {
+        self.block_rams().any(|ram| ram.clock_enables().iter().flatten().count() == 2)
+    }
+}
+
 impl Cell {
     /// The wires that the cell drives, in the order of its words.
     #[must_use]

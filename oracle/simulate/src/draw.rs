@@ -2,7 +2,7 @@
 
 use cells::Circuit;
 use compare::draw;
-use generate::{Faults, Plan, Rng};
+use generate::{Faults, Focus, Plan, Rng};
 use model::Model;
 use netlist::Limits;
 
@@ -13,20 +13,25 @@ impl Case {
     /// faults, and some close loops.
     #[must_use]
     pub fn draw(seed: u64, index: u64, ticks: usize) -> Self {
-        let netlist = netlist_of(seed, index);
+        Self::draw_for(Focus::All, seed, index, ticks)
+    }
+
+    #[must_use]
+    pub fn draw_for(focus: Focus, seed: u64, index: u64, ticks: usize) -> Self {
+        let netlist = netlist_of(focus, seed, index);
         Self { ticks: ticks_for(seed, index, &netlist, ticks), netlist }
     }
 }
 
-fn netlist_of(seed: u64, index: u64) -> Vec<u32> {
+fn netlist_of(focus: Focus, seed: u64, index: u64) -> Vec<u32> {
     match index % 20 {
-        16..=18 => generate::sample(seed, index),
+        16..=18 => focus.sample(seed, index),
         19 => {
             let mut rng = Rng::new(seed, index);
             let plan = Plan::draw(&mut rng, Faults { any_rank: 4, ..Faults::default() });
-            netlist::write(&generate::netlist(&mut rng, &plan))
+            netlist::write(&focus.netlist(&mut rng, plan))
         }
-        _ => netlist::write(&generate::runnable(seed, index)),
+        _ => netlist::write(&focus.runnable(seed, index)),
     }
 }
 

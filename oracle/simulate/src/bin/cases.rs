@@ -1,6 +1,6 @@
 //! Random cases for `simulate`, and what it must print.
 //!
-//!     simulate-cases SEED CASES TICKS WORDS BATCH EXPECTED
+//!     simulate-cases [--clock-enables] SEED CASES TICKS WORDS BATCH EXPECTED
 //!
 //! Most netlists are meant to be run; some have faults, and some close loops.
 //! Netlists of more than WORDS words are left out, and those that ask for longer
@@ -10,17 +10,19 @@ use std::collections::BTreeMap;
 use std::io::{BufWriter, Write};
 
 use cells::Circuit;
+use generate::Focus;
 use model::Model;
 use netlist::Limits;
 use simulate::{Case, LISTS, NETLIST, TICKS};
 
 fn main() -> std::io::Result<()> {
-    let arguments = std::env::args().skip(1).collect::<Vec<_>>();
+    let mut arguments = std::env::args().skip(1).collect::<Vec<_>>();
+    let focus = Focus::option(&mut arguments);
     let number = |at: usize| arguments.get(at).and_then(|text| text.parse::<u64>().ok());
     let (Some(seed), Some(cases), Some(ticks), Some(words), [_, _, _, _, batch, expected]) =
         (number(0), number(1), number(2), number(3), arguments.as_slice())
     else {
-        eprintln!("usage: simulate-cases SEED CASES TICKS WORDS BATCH EXPECTED");
+        eprintln!("usage: simulate-cases [--clock-enables] SEED CASES TICKS WORDS BATCH EXPECTED");
         std::process::exit(2)
     };
     let ticks = (ticks as usize).min(TICKS);
@@ -30,7 +32,7 @@ fn main() -> std::io::Result<()> {
     let mut tally = BTreeMap::<String, u64>::new();
     let (mut made, mut index) = (0, 0);
     while made < cases {
-        let case = Case::draw(seed, index, ticks);
+        let case = Case::draw_for(focus, seed, index, ticks);
         index += 1;
         let words = case.write();
         let Some(read) = Case::read(&words).filter(|_| case.netlist.len() <= longest) else {
@@ -91,6 +93,11 @@ fn count(tally: &mut BTreeMap<String, u64>, case: &Case, lines: &str) {
     clocks.sort_unstable();
     clocks.dedup();
     add("cases with several clocks".to_owned(), usize::from(clocks.len() > 1));
+    add("cases with a clock enable".to_owned(), netlist.has_clock_enable().into());
+    add(
+        "cases with clock enables in both ports".to_owned(),
+        netlist.has_two_clock_enables().into(),
+    );
     for cell in &netlist.cells {
         let text = format!("{cell:?}");
         let kind = text.split([' ', '(']).next().expect("a name").to_owned();
