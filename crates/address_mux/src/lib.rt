@@ -1,5 +1,8 @@
 // The address of a memory, and the balanced mux of its candidates, which stand in two lent slices of expression numbers.
 // (lib.rs of the Rust: balanced_address_mux.)
+
+#![tactic(auto)]
+
 pub mod address;
 
 ghost use Rattle.std.specs.Prelude.{◌≡◌, ◌≤◌, length};
@@ -15,12 +18,14 @@ use refusal::Refusal;
 
 // A candidate of an address: the expression that says it is the one, and the word's.
 #[derive(Drop)]
+#[derive(Clone, Copy)]
 pub struct AddressMuxNode {
     pub matched: ExprId,
     pub value: ExprId,
 }
 
 #[derive(Drop)]
+#[derive(Clone, Copy)]
 pub enum Joined {
     Done(AddressMuxNode, Tapes),
     Refused(Refusal),

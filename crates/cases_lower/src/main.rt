@@ -1,6 +1,9 @@
 // Replays netlists from standard input: per netlist a count of words, the lengths of the three lists, and the words, all
 // little-endian. Prints a line for each: the refusal, or the model's records, words, and hashes of its words and of its listing.
 // oracle/README.md, "generate and bulk", has the format; stdout is what the Rust answers.
+
+#![tactic(auto)]
+
 ghost use Rattle.std.specs.Prelude.{◌≡◌};
 ghost use Rattle.io.specs.Counts.{IsPrefixLen};
 

@@ -3,6 +3,9 @@
 //
 // A line has the words of the records and the number of the result. The stored lines were written by a transliteration of the
 // Rust's balanced_address_mux (lib.rs), not by this program.
+
+#![tactic(auto)]
+
 use address_mux::{AddressMuxNode, balanced_address_mux};
 use nodes::balanced_address_mux_of_64;
 use recorder::read::word;

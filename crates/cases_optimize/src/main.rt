@@ -3,6 +3,9 @@
 // The stored lines (stdout of this crate, answers/optimizer.txt of oracle/) are the Rust's: its four files, unchanged, ran on
 // the same calls over a recorder that stands in for ModuleBuilder. oracle/README.md, "optimizer", says which calls make
 // up a line, and oracle/build.sh and oracle/check.sh make the lines again.
+
+#![tactic(auto)]
+
 use optimize::lut::lut;
 use optimize::optimizer::{mux, xor};
 use recorder::builder::constant;

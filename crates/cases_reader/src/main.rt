@@ -1,5 +1,8 @@
 // Replays a stored test set against the check of netlist words: number of cases; per case the number and place of the refusal
 // (0 and 0 where the words are read), a count of words, and the words. Little-endian 32-bit words on standard input.
+
+#![tactic(auto)]
+
 use libc::STDOUT_FILENO;
 use netlist::Limits;
 use netlist::fields::{wide, word};

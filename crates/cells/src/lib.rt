@@ -1,4 +1,7 @@
 // The small cells. (lib.rs of the Rust: emit_cell's arms.) Carry chains, PLL and JTAG have crates of their own, over the definitions here.
+
+#![tactic(auto)]
+
 pub mod answers;
 pub mod emit;
 
@@ -7,6 +10,7 @@ use refusal::Refusal;
 
 // Four inputs, read.
 #[derive(Drop)]
+#[derive(Clone, Copy)]
 pub enum Read4 {
     Done(ExprId, ExprId, ExprId, ExprId, Tapes),
     Refused(Refusal),

@@ -1,1 +1,4 @@
 // Theory only: see specs/ and proofs/.
+
+#![tactic(auto)]
+

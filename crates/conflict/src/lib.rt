@@ -2,6 +2,9 @@
 //
 // Lists may be of any length, so the statements are counted in the signal list itself: the first word of a signal's record, its
 // length 4, becomes 5 and then 6, and is 4 again in the end.
+
+#![tactic(auto)]
+
 ghost use Rattle.std.specs.Prelude.{◌≡◌, get_or};
 ghost use Rattle.recorder.specs.Standing.{size_at, fields_at};
 ghost use Rattle.conflict.specs.Conflicts.{foundOf};
@@ -12,6 +15,7 @@ use recorder::Cut;
 use recorder::read::{cut, word};
 
 #[derive(Drop)]
+#[derive(Clone, Copy)]
 pub enum Conflict {
     Absent,
     Signal(usize),

@@ -9,6 +9,7 @@ use wires::Constants;
 
 // The constants' signals.
 #[derive(Drop)]
+#[derive(Clone, Copy)]
 pub enum Started {
     Done(Constants, Tapes),
     Refused(Refusal),

@@ -10,6 +10,7 @@ use recorder::{SignalId, Stated};
 use refusal::Refusal;
 
 #[derive(Drop)]
+#[derive(Clone, Copy)]
 pub enum Inserted {
     Done,
     Refused(Refusal),

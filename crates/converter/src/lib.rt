@@ -1,5 +1,8 @@
 // The converter: from a netlist's words to the three lists of its model, or a refusal. (lib.rs of the Rust: `lower` is its
 // `ecp5_frontend_artifact`. The files below stand in its order of functions.)
+
+#![tactic(auto)]
+
 mod steps; // the steps in the Rust's order
 mod ports; // signals of ports
 mod reserve; // signals of cells (reserve_cell_output)
@@ -36,6 +39,7 @@ pub const WORK: usize = 16384;
 
 // Each list's records and words used, or the refusal.
 #[derive(Drop)]
+#[derive(Clone, Copy)]
 pub enum Lowered {
     Accepted(Tapes),
     Refused(Refusal),

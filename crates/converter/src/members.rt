@@ -6,6 +6,7 @@ use netlist::fields::{cell_end, wide, word};
 
 // The members of a bank: those of n cells, from an index on, that have its number.
 #[derive(Drop)]
+#[derive(Clone, Copy)]
 pub struct Scan {
     pub at: usize,
     pub n: u32,
@@ -14,6 +15,7 @@ pub struct Scan {
 
 // A cell and the index where it stands.
 #[derive(Drop)]
+#[derive(Clone, Copy)]
 pub struct Cursor {
     pub cell: u32,
     pub place: usize,

@@ -22,6 +22,7 @@ use wires::{Constants, Controlled, Found};
 
 // A bank's asynchronous reset, or none.
 #[derive(Drop)]
+#[derive(Clone, Copy)]
 pub enum Resetting {
     Done(AsyncReset, Tapes),
     Refused(Refusal),

@@ -6,6 +6,7 @@ ghost use Rattle.fusing.specs.Join.{form_of, gateBit, lookIn, rowBit, among, fla
 
 // A table of 16 bits and the positions of its four inputs. A table from 65,536 on is none.
 #[derive(Drop)]
+#[derive(Clone, Copy)]
 pub struct Lut {
     pub table: u32,
     pub a: u32,
@@ -16,6 +17,7 @@ pub struct Lut {
 
 // Up to four different positions; those behind the first `count` repeat one of them.
 #[derive(Drop)]
+#[derive(Clone, Copy)]
 pub struct Spots {
     pub count: u32,
     pub a: u32,

@@ -1,4 +1,7 @@
 // One-bit expressions as tables of up to four bits.
+
+#![tactic(auto)]
+
 mod find; // find.rt: the form of one expression
 mod join; // join.rt: the table of a gate of tables
 

@@ -1,4 +1,7 @@
 // A whole model: its first line, then a line for each record.
+
+#![tactic(auto)]
+
 ghost use Rattle.std.specs.Prelude.{◌≡◌, [], ◌∷◌, ◌++◌};
 ghost use Rattle.recorder.specs.Standing.{size_at};
 ghost use Rattle.text.specs.Text.{Appended};

@@ -1,4 +1,7 @@
 // Reads a netlist in words from standard input and prints its model, or `refused` with number and place.
+
+#![tactic(auto)]
+
 ghost use Rattle.io.specs.Counts.{IsPrefixLen};
 ghost use Rattle.recorder.specs.Lists.{lists};
 ghost use Rattle.lower.specs.Entry.{LowersWords, Unread, LowersBytes};

@@ -1,4 +1,7 @@
 // Memories: block RAM and distributed RAM. (lib.rs of the Rust: emit_block_ram to emit_distributed_ram.)
+
+#![tactic(auto)]
+
 pub mod block_ram;
 pub mod distributed_ram;
 mod ports;
@@ -11,6 +14,7 @@ use refusal::Refusal;
 
 // A port's clock enable asserted.
 #[derive(Drop)]
+#[derive(Clone, Copy)]
 pub enum ClockEnabled {
     Absent,
     Present(ExprId),
@@ -18,6 +22,7 @@ pub enum ClockEnabled {
 
 // Whether a port writes, and its clock enable.
 #[derive(Drop)]
+#[derive(Clone, Copy)]
 pub enum Gated {
     Done(ExprId, ClockEnabled, Tapes),
     Refused(Refusal),
@@ -25,6 +30,7 @@ pub enum Gated {
 
 // The enable of a read register's record.
 #[derive(Drop)]
+#[derive(Clone, Copy)]
 pub enum ReadEnabled {
     Done(Enable),
     Refused(Refusal),
@@ -32,6 +38,7 @@ pub enum ReadEnabled {
 
 // The expressions of a port: where it writes, what, whether, where it reads, and its clock enable.
 #[derive(Drop)]
+#[derive(Clone, Copy)]
 pub struct Port {
     pub writes: ExprId,
     pub data: ExprId,
@@ -41,18 +48,21 @@ pub struct Port {
 }
 
 #[derive(Drop)]
+#[derive(Clone, Copy)]
 pub enum Ported {
     Done(Port, Tapes),
     Refused(Refusal),
 }
 
 #[derive(Drop)]
+#[derive(Clone, Copy)]
 pub enum Second {
     Absent,
     Present(Port),
 }
 
 #[derive(Drop)]
+#[derive(Clone, Copy)]
 pub enum Seconded {
     Done(Second, Tapes),
     Refused(Refusal),
@@ -60,6 +70,7 @@ pub enum Seconded {
 
 // A word: its signal, its read, its next value.
 #[derive(Drop)]
+#[derive(Clone, Copy)]
 pub struct RamWord {
     pub signal: SignalId,
     pub current: ExprId,
@@ -67,6 +78,7 @@ pub struct RamWord {
 }
 
 #[derive(Drop)]
+#[derive(Clone, Copy)]
 pub enum Worded {
     Done(RamWord, Tapes),
     Refused(Refusal),
@@ -75,6 +87,7 @@ pub enum Worded {
 // The words of a RAM. Their signals are consecutive; each word's next value stands `last` behind its read, and the next word's read
 // right behind that.
 #[derive(Drop)]
+#[derive(Clone, Copy)]
 pub struct Words {
     pub signal: SignalId,
     pub current: ExprId,
@@ -84,6 +97,7 @@ pub struct Words {
 
 // A RAM's sizes and clock: the words' width, the address's, the clock's signal and its edge.
 #[derive(Drop)]
+#[derive(Clone, Copy)]
 pub struct RamShape {
     pub width: u32,
     pub address: u32,

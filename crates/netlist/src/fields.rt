@@ -106,6 +106,7 @@ pub fn control(words: &[u32], at: usize, offset: usize) -> Control
 }
 
 #[derive(Drop)]
+#[derive(Clone, Copy)]
 pub enum OptionalControl {
     Absent,
     Present(Control),
@@ -122,6 +123,7 @@ pub fn optional_control(words: &[u32], at: usize, offset: usize) -> OptionalCont
 }
 
 #[derive(Drop)]
+#[derive(Clone, Copy)]
 pub enum OptionalReset {
     Absent,
     Present(Reset),

@@ -6,6 +6,7 @@ ghost use Rattle.netlist.specs.FieldForms.{shiftGiven};
 use super::fields::wide;
 
 #[derive(Drop)]
+#[derive(Clone, Copy)]
 pub enum Shift {
     NotAllowed,
     By(u32),

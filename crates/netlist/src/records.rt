@@ -8,6 +8,7 @@ use super::Bit;
 use super::fields::{ahead, bit_at, field, wide};
 
 #[derive(Drop)]
+#[derive(Clone, Copy)]
 pub struct Pfumx {
     pub lut_true: Bit,
     pub lut_false: Bit,
@@ -31,6 +32,7 @@ pub fn pfumx_at(words: &[u32], at: usize) -> Pfumx
 }
 
 #[derive(Drop)]
+#[derive(Clone, Copy)]
 pub struct L6mux21 {
     pub data_zero: Bit,
     pub data_one: Bit,
@@ -55,6 +57,7 @@ pub fn l6mux21_at(words: &[u32], at: usize) -> L6mux21
 
 // The two rows of inputs: fields::ccu2c_inputs.
 #[derive(Drop)]
+#[derive(Clone, Copy)]
 pub struct Ccu2c {
     pub carry_in: Bit,
     pub sum0: u32,
@@ -98,6 +101,7 @@ pub fn second_start(words: &[u32], at: usize) -> usize
 }
 
 #[derive(Drop)]
+#[derive(Clone, Copy)]
 pub struct Io {
     pub pad: u32,
     pub fabric_output: Bit,

@@ -1,5 +1,8 @@
 // The balanced address mux on a lent slice of its nodes: a thin layer over the function on two number slices. An array of nodes goes by
 // value, and a lender makes a slice of its first ones; there is one for each of three sizes, so that few nodes are cheap.
+
+#![tactic(auto)]
+
 ghost use Rattle.std.specs.Prelude.{◌≡◌, ◌≤◌, take};
 ghost use Rattle.recorder.specs.Lists.{WroteExprs, emitted};
 ghost use Rattle.recorder.specs.Words.{zeroed};

@@ -11,6 +11,7 @@ use recorder::{Emitted, ExprId, Tapes, builder};
 
 // The result of a local rewrite, before anything is recorded.
 #[derive(Drop)]
+#[derive(Clone, Copy)]
 pub enum Rewrite {
     Value(ExprId),
     Not(ExprId),

@@ -1,4 +1,7 @@
 // The check of a netlist's words: refusals 3 to 6.
+
+#![tactic(auto)]
+
 ghost use Rattle.std.specs.Prelude.{◌≡◌};
 ghost use Rattle.netlist.specs.Reader.{trailerFits};
 ghost use Rattle.reader.specs.Checks.{Checks};
@@ -13,6 +16,7 @@ use refusal::Refusal;
 use sections::check_sections;
 
 #[derive(Drop)]
+#[derive(Clone, Copy)]
 pub enum Checked {
     Netlist(Layout),
     Refused(Refusal),

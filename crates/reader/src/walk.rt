@@ -10,6 +10,7 @@ use netlist::fields::{wide, word};
 use refusal::Refusal;
 
 #[derive(Drop)]
+#[derive(Clone, Copy)]
 pub enum Walk {
     At(usize),
     Refused(Refusal),

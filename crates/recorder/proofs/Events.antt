@@ -6,7 +6,7 @@ use native.Mathlib.Nat.{add-zero}
 use native.Mathlib.Omega.{arith}
 use lib.ListN.{length, length-append}
 use Rattle.recorder.specs.Record.{Signal, Expr, Stmt}
-use Rattle.recorder.specs.Writer.{Event, Event.signal, Event.expr, Event.stmt, signalsOf, exprsOf, stmtsOf, Count, further, End, End.ok, End.no, Out, Writer, pure, refuse, after, ◌>>=◌}
+use Rattle.recorder.specs.Writer.{Event, Event.signal, Event.expr, Event.stmt, signalsOf, exprsOf, stmtsOf, Count, further, End, End.ok, End.no, Writer, pure, refuse, after, ◌>>=◌}
 
 -- ---- the lists of joined events
 

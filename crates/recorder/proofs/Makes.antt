@@ -1,17 +1,15 @@
 -- Laws of what writers make: a small logic over the values of the expressions.
 -- Assumes nothing.
-use mathlib.Core.Path.{◌≡◌, refl, ap, ap₂, sym, ◌∙◌, subst}
-use mathlib.Core.Bool.{Bool, true, false}
-use mathlib.Core.List.{List, [], ◌∷◌, ◌++◌, append-nil, append_assoc}
-use Prim.Native.Nat.{ℕ, zero, suc, ◌+◌, ◌≤◌, ◌<◌}
-use native.Mathlib.Nat.{add-zero}
+use mathlib.Core.Path.{◌≡◌, refl, ap, sym, ◌∙◌, subst}
+use mathlib.Core.List.{List, [], ◌∷◌, ◌++◌}
+use Prim.Native.Nat.{ℕ, ◌+◌}
 use native.Mathlib.Omega.{arith}
-use lib.ListN.{length, get_or, length-append, get_or-append}
+use lib.ListN.{length, length-append, get_or-append}
 use lib.Seq.{get_or-append_seam}
 use Rattle.bits.specs.Bits.{Bits}
 use Rattle.recorder.specs.Record.{Signal, Expr}
-use Rattle.recorder.specs.Writer.{Event, exprsOf, Count, further, End, End.ok, End.no, Out, Writer, pure, refuse, declare, emit, after, ◌>>=◌}
-use Rattle.recorder.specs.Evaluate.{Signals, Values, value_of, evalExpr, evalAll}
+use Rattle.recorder.specs.Writer.{Event, exprsOf, Count, further, End, End.ok, End.no, Writer, pure, refuse, declare, emit, after, ◌>>=◌}
+use Rattle.recorder.specs.Evaluate.{Signals, Values, evalExpr, evalAll}
 use Rattle.recorder.specs.Meaning.{Is, Keeps, Base, Ends, Makes, Means}
 use Rattle.recorder.proofs.Events.{exprs-append}
 

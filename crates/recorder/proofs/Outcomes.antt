@@ -1,10 +1,10 @@
 -- A call that wrote into lists of zeros has ended in one of three ways.
 -- Assumes nothing.
 use Prim.Native.Nat.{ℕ}
-use mathlib.Core.Path.{◌≡◌, refl, sym, ap, ◌∙◌, subst}
+use mathlib.Core.Path.{◌≡◌, refl, sym, ap, subst}
 use mathlib.Core.Logic.{⊎_elim}
-use Rattle.recorder.specs.Writer.{modelOf, Count, End, End.ok, End.no, Out, Writer}
-use Rattle.recorder.specs.Lists.{Lists, Played, Played.going, Played.full, play, Answer, Answer.Done, Answer.Failed, Left, finish, writing, Wrote}
+use Rattle.recorder.specs.Writer.{modelOf, End, End.ok, End.no, Out, Writer}
+use Rattle.recorder.specs.Lists.{Lists, Played, Played.going, play, Answer, Left, finish, Wrote}
 use Rattle.recorder.specs.Words.{holdingAll, tapesOf, blank, unwritten, Fit}
 use Rattle.recorder.proofs.Played.{played-fit, played-full, fit-or-filled}
 use Rattle.recorder.specs.Outcome.{none_yet, Ended, done, refused, filled}

@@ -8,13 +8,13 @@ use mathlib.Core.Option.{Option, none, some}
 use native.Mathlib.Omega.{arith}
 use native.Mathlib.Nat.{not-suc-le-zero}
 use lib.Dec.{eqb, leb}
-use lib.ListN.{length, get_or, take, drop, length-append, length-drop, length-map}
+use lib.ListN.{length, take, drop, length-append, length-drop}
 use lib.Seq.{take-append_seam, drop-append_seam}
 use borrow.Author.Tests.{le-leb, lt-leb, eqb-true}
 use Rattle.recorder.specs.Record.{Signal, Expr, RegReset, RegEnable, Stmt, Model, sized, signalWords, exprWords, stmtWords, resetWords, enableWords}
 use Rattle.recorder.specs.Record.{const, read, concat, not, and, or, xor, mux, eq, mul, assign, reg}
-use Rattle.recorder.specs.Read.{Cut, none_left, stopped, before, cut, split, one, two, three, only, withReset, withEnable, readReg, readSignal, readExpr, readStmt, read_all, modelOf}
-use Rattle.recorder.specs.Words.{listWords, words_of, rawOf, Reads}
+use Rattle.recorder.specs.Read.{Cut, none_left, stopped, before, cut, split, one, two, three, only, withReset, withEnable, readSignal, readExpr, readStmt, read_all, modelOf}
+use Rattle.recorder.specs.Words.{listWords, words_of, rawOf}
 
 -- THE STEPS OF A SPLIT: what a loop over the words does
 

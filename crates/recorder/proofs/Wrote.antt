@@ -1,19 +1,18 @@
 -- Laws of `Wrote`: one call after another, a call that stops, one record, none.
-use mathlib.Core.Path.{◌≡◌, refl, ap, ap₂, sym, ◌∙◌, subst}
+use mathlib.Core.Path.{◌≡◌, refl, ap, sym, ◌∙◌, subst}
 use mathlib.Core.Bool.{Bool, true, false}
 use mathlib.Core.List.{List, [], ◌∷◌, ◌++◌}
 use Prim.Native.Nat.{ℕ, suc, ◌+◌}
-use native.Mathlib.Nat.{add-zero, add-suc, suc-add}
+use native.Mathlib.Nat.{add-zero}
 use native.Mathlib.Omega.{arith}
 use lib.ListN.{length}
 use Rattle.bits.specs.Bits.{pick}
-use Rattle.recorder.specs.declared.Tape.{Tape}
 use Rattle.recorder.specs.declared.Tapes.{Tapes}
 use Rattle.recorder.specs.declared.Put.{Put}
 use Rattle.recorder.specs.declared.Put.TheVariants.{At, Full}
 use Rattle.recorder.specs.Record.{Signal, Expr, Stmt, signalWords, exprWords, stmtWords}
-use Rattle.recorder.specs.Writer.{Event, Event.signal, Event.expr, Event.stmt, signalsOf, exprsOf, stmtsOf, Count, further, End, End.ok, End.no, Out, Writer, pure, refuse, declare, emit, state, after, ◌>>=◌}
-use Rattle.recorder.specs.Lists.{fits, over, behind, put_of, put_in, Recorded, Lists, lists, tapes, count_of, Played, Played.going, Played.full, list_of, hasRoom, laid, advanced, put, onward, play, Answer, Answer.Done, Answer.Failed, Left, finish, writing, Wrote, WroteSignals, WroteExprs, WroteStmts}
+use Rattle.recorder.specs.Writer.{Event, Event.signal, Event.expr, Event.stmt, signalsOf, exprsOf, stmtsOf, Count, further, End, End.ok, End.no, Writer, pure, refuse, declare, emit, state, after, ◌>>=◌}
+use Rattle.recorder.specs.Lists.{fits, put_of, put_in, Recorded, Lists, lists, tapes, count_of, Played, Played.going, Played.full, list_of, hasRoom, laid, advanced, put, onward, play, Answer, Answer.Done, Answer.Failed, Left, finish, writing, Wrote, WroteSignals, WroteExprs, WroteStmts}
 
 one_more : (a b : ℕ) → a + 1 + b ≡ a + suc b
 one_more a b = omega arith

@@ -1,5 +1,5 @@
 -- What expression records mean: the bits of each, over the signals' bits and the bits of the expressions before it.
-use Rattle.std.specs.Prelude.{Bool, true, false, not, ◌&&◌, ◌||◌, List, [], ◌∷◌, ◌++◌, ℕ, ◌*◌, get_or}
+use Rattle.std.specs.Prelude.{Bool, not, ◌&&◌, ◌||◌, List, [], ◌∷◌, ◌++◌, ℕ, ◌*◌, get_or}
 use Rattle.bits.specs.Bits.{pick, Bits, number, binary, lowest, window, differ, sameBits}
 use Rattle.recorder.specs.Record.{Expr, Expr.const, Expr.read, Expr.concat, Expr.not as complement, Expr.and, Expr.or, Expr.xor, Expr.mux, Expr.eq, Expr.mul}
 

@@ -1,5 +1,5 @@
 -- The three lent lists: what playing a writer's events into them leaves, and how the call ends.
-use Rattle.std.specs.Prelude.{Bool, true, false, ◌&&◌, List, [], ◌∷◌, ◌++◌, ◌≡◌, ℕ, ◌+◌, min, leb, length}
+use Rattle.std.specs.Prelude.{Bool, ◌&&◌, List, [], ◌∷◌, ◌≡◌, ℕ, ◌+◌, min, leb, length}
 use Rattle.std.proofs.Math.Option.{Option, none, some}
 use Rattle.std.proofs.lemmas.List.Edits.{sets}
 use Rattle.bits.specs.Bits.{pick}
@@ -19,7 +19,7 @@ use Rattle.recorder.specs.declared.AsyncReset.TheVariants as R
 use Rattle.recorder.specs.declared.Enable.{Enable}
 use Rattle.recorder.specs.declared.Enable.TheVariants as N
 use Rattle.recorder.specs.Record.{Signal, Expr, Stmt, RegReset, RegEnable, signalWords, exprWords, stmtWords}
-use Rattle.recorder.specs.Writer.{Event, Event.signal, Event.expr, Event.stmt, Count, End, End.ok, End.no, Out, Writer, declare, emit, state}
+use Rattle.recorder.specs.Writer.{Event, Event.signal, Event.expr, Event.stmt, Count, End, End.ok, End.no, Writer, declare, emit, state}
 
 -- ONE LIST
 

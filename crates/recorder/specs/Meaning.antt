@@ -1,7 +1,7 @@
 -- What a writer makes: its result and the values after its records, over the values before them.
-use Rattle.std.specs.Prelude.{◌≡◌, Bool, true, false, List, [], ◌∷◌, ℕ, ◌<◌, length}
+use Rattle.std.specs.Prelude.{◌≡◌, true, false, [], ◌∷◌, ℕ, ◌<◌, length}
 use Rattle.bits.specs.Bits.{Bits}
-use Rattle.recorder.specs.Writer.{exprsOf, Count, End, End.ok, End.no, Out, Writer}
+use Rattle.recorder.specs.Writer.{exprsOf, Count, End, End.ok, End.no, Writer}
 use Rattle.recorder.specs.Evaluate.{Signals, Values, value_of, evalAll}
 
 -- an expression is there and has these bits

@@ -1,6 +1,6 @@
 -- How a call that starts with lists of zeros ends, and what it leaves there.
 use Rattle.std.specs.Prelude.{ℕ, ◌≡◌}
-use Rattle.recorder.specs.Writer.{modelOf, Count, End, End.ok, End.no, Out}
+use Rattle.recorder.specs.Writer.{modelOf, Count, End.ok, End.no, Out}
 use Rattle.recorder.specs.Lists.{Lists, Answer, Answer.Done, Answer.Failed}
 use Rattle.recorder.specs.Words.{holdingAll, tapesOf, Fit, Filled}
 

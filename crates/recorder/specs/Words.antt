@@ -1,12 +1,12 @@
 -- Whole lists: the words of records one after the other, and lists of given lengths that hold a model's records.
-use Rattle.std.specs.Prelude.{ℕ, ◌+◌, ◌-◌, ◌≤◌, min, Bool, false, List, [], ◌∷◌, ◌++◌, ◌≡◌, length, replicate}
-use Rattle.std.proofs.Math.Option.{Option, none, some}
+use Rattle.std.specs.Prelude.{ℕ, ◌-◌, ◌≤◌, min, List, [], ◌∷◌, ◌++◌, ◌≡◌, length, replicate}
+use Rattle.std.proofs.Math.Option.{Option, some}
 use Rattle.recorder.specs.declared.Tape.{Tape}
 use Rattle.recorder.specs.declared.Tapes.{Tapes}
-use Rattle.recorder.specs.Record.{Signal, Expr, Stmt, Model, signalWords, exprWords, stmtWords}
+use Rattle.recorder.specs.Record.{Model, signalWords, exprWords, stmtWords}
 use Rattle.recorder.specs.Writer.{Event, Event.signal, Event.expr, Event.stmt, modelOf}
 use Rattle.recorder.specs.Lists.{Lists, lists, tapes, list_of}
-use Rattle.recorder.specs.Read.{Cut, Raw, split}
+use Rattle.recorder.specs.Read.{Raw, split}
 
 abbrev pub listWords : {A : Type 0} → (A → List ℕ) → List A → List ℕ
 listWords f [] = []

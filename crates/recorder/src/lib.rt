@@ -1,4 +1,7 @@
 // The recorder, in place of the simulator's ModuleBuilder: counters by value and three lent lists.
+
+#![tactic(auto)]
+
 pub mod builder;
 pub mod list;
 pub mod read;
@@ -8,10 +11,12 @@ use refusal::Refusal;
 
 // The number of an expression.
 #[derive(Drop)]
+#[derive(Clone, Copy)]
 pub struct ExprId(pub u32);
 
 // The number of a signal. It cannot stand for an expression's, nor that for this.
 #[derive(Drop)]
+#[derive(Clone, Copy)]
 pub struct SignalId(pub u32);
 
 // The constants are always the first two expressions.
@@ -23,12 +28,14 @@ impl ExprId {
 
 // How far a list is written: its words and its records.
 #[derive(Drop)]
+#[derive(Clone, Copy)]
 pub struct Tape {
     pub used: usize,
     pub count: u32,
 }
 
 #[derive(Drop)]
+#[derive(Clone, Copy)]
 pub struct Tapes {
     pub signals: Tape,
     pub exprs: Tape,
@@ -37,24 +44,28 @@ pub struct Tapes {
 
 // Where a record went: its number and the tape behind it.
 #[derive(Drop)]
+#[derive(Clone, Copy)]
 pub enum Put {
     At(u32, Tape),
     Full,
 }
 
 #[derive(Drop)]
+#[derive(Clone, Copy)]
 pub enum Emitted {
     Done(ExprId, Tapes),
     Refused(Refusal),
 }
 
 #[derive(Drop)]
+#[derive(Clone, Copy)]
 pub enum Declared {
     Done(SignalId, Tapes),
     Refused(Refusal),
 }
 
 #[derive(Drop)]
+#[derive(Clone, Copy)]
 pub enum Stated {
     Done(Tapes),
     Refused(Refusal),
@@ -62,6 +73,7 @@ pub enum Stated {
 
 // An asynchronous reset of a register: signal, active level, the value that it loads.
 #[derive(Drop)]
+#[derive(Clone, Copy)]
 pub enum AsyncReset {
     Absent,
     Present(SignalId, u32, ExprId),
@@ -69,6 +81,7 @@ pub enum AsyncReset {
 
 // An enable of a register: signal, active level.
 #[derive(Drop)]
+#[derive(Clone, Copy)]
 pub enum Enable {
     Absent,
     Present(SignalId, u32),
@@ -76,6 +89,7 @@ pub enum Enable {
 
 // What stands at an index of a list: a whole record with so many fields, the end, or a length of 0 or past the end.
 #[derive(Drop)]
+#[derive(Clone, Copy)]
 pub enum Cut {
     Record(usize),
     End,

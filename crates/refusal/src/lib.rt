@@ -1,8 +1,12 @@
 // The refusals, by cause. A refusal has a number and a place; specs/Refusal.antt gives both.
+
+#![tactic(auto)]
+
 ghost use Rattle.std.specs.Prelude.{◌≡◌};
 ghost use Rattle.refusal.specs.Refusal.{number_of, place_of};
 
 #[derive(Drop)]
+#[derive(Clone, Copy)]
 pub enum Refusal {
     // The caller's.
     BufferTooShort(usize),

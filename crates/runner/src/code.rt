@@ -28,6 +28,7 @@ use simulation::{Driver, index};
 // Whether there is code; a word before which all ports begin; the bits of all expressions, and of all signals; how many registers, signals that they ask for and outputs are
 // listed; how many words the two pieces of code have; how much of the order is lent.
 #[derive(Drop)]
+#[derive(Clone, Copy)]
 pub struct Code {
     pub usable: bool,
     pub ports: usize,

@@ -1,4 +1,7 @@
 // The run of a model. All but its entries is private: it asks what they have checked.
+
+#![tactic(auto)]
+
 mod bytes; // bytes.rt: copies, tests, numbers
 mod code; // code.rt: the plan of a list of ticks
 mod coded; // coded.rt: the values of expressions along code

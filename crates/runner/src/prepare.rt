@@ -14,6 +14,7 @@ use simulation::zero::zero_bytes;
 
 // Whether the model has a loop, and how many expressions the order has: all or none.
 #[derive(Drop)]
+#[derive(Clone, Copy)]
 pub struct Readied {
     pub found: Loop,
     pub ordered: usize,

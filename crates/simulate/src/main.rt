@@ -1,5 +1,8 @@
 // Reads a list of ticks and a netlist from standard input, and prints what the output ports show after each tick, or the refusal.
 // docs/SIMULATE.md says how both are laid out, and what the arguments --vcd and --batch ask for.
+
+#![tactic(auto)]
+
 mod batch; // several lists of ticks, each with its netlist
 mod input; // what both ways of reading share
 mod session; // a netlist and ticks, lowered, run and printed

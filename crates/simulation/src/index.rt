@@ -58,6 +58,7 @@ pub fn field(list: &[u32], at: usize, size: usize, j: usize) -> u32
 }
 
 #[derive(Drop)]
+#[derive(Clone, Copy)]
 pub struct Counted {
     pub count: usize,
     pub whole: bool,

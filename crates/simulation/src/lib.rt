@@ -1,4 +1,7 @@
 // The run of a model: one call is one tick.
+
+#![tactic(auto)]
+
 pub mod index;
 pub mod zero;
 
@@ -7,6 +10,7 @@ use refusal::Refusal;
 
 // What fires in a tick: nothing, or an edge (0 rises, 1 falls) of a signal.
 #[derive(Drop)]
+#[derive(Clone, Copy)]
 pub enum Fired {
     Nothing,
     Edge(SignalId, u32),
@@ -14,6 +18,7 @@ pub enum Fired {
 
 // How a run ends.
 #[derive(Drop)]
+#[derive(Clone, Copy)]
 pub enum Ran {
     Done,
     Refused(Refusal),
@@ -21,6 +26,7 @@ pub enum Ran {
 
 // A model's first faulty record, counted through its three lists.
 #[derive(Drop)]
+#[derive(Clone, Copy)]
 pub enum Fault {
     Fine,
     At(usize),
@@ -28,6 +34,7 @@ pub enum Fault {
 
 // What is assigned to a signal: nothing, or an expression.
 #[derive(Drop)]
+#[derive(Clone, Copy)]
 pub enum Driver {
     None,
     By(u32),

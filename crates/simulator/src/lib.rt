@@ -1,4 +1,7 @@
 // A netlist and a list of ticks: lowered once, checked once, run tick by tick. What is shown is what the netlist's own cells show.
+
+#![tactic(auto)]
+
 ghost use Rattle.std.specs.Prelude.{[], ◌∷◌};
 ghost use Rattle.netlist.specs.Reader.{base};
 ghost use Rattle.recorder.specs.Lists.{lists};

@@ -1,4 +1,7 @@
 // Text into a lent buffer. What does not fit is cut off at the buffer's end, and the answer says so.
+
+#![tactic(auto)]
+
 ghost use Rattle.std.specs.Prelude.{[], ◌∷◌};
 ghost use Rattle.text.specs.Text.{Appended, Flushed};
 ghost use Rattle.text.specs.Decimal.{decimal};
@@ -7,6 +10,7 @@ use libc::STDOUT_FILENO;
 
 // The place behind what was put, or that not all of it fitted.
 #[derive(Drop)]
+#[derive(Clone, Copy)]
 pub enum Place {
     At(usize),
     Full,

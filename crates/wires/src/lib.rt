@@ -1,4 +1,7 @@
 // The wire map and what is read through it. (lib.rs of the Rust: insert_wire to asserted_expression, bits_expression.)
+
+#![tactic(auto)]
+
 pub mod expressions;
 pub mod map;
 
@@ -7,6 +10,7 @@ use refusal::Refusal;
 
 // Where a wire's bit is.
 #[derive(Drop)]
+#[derive(Clone, Copy)]
 pub struct WireRef {
     pub signal: SignalId,
     pub lsb: u32,
@@ -14,6 +18,7 @@ pub struct WireRef {
 }
 
 #[derive(Drop)]
+#[derive(Clone, Copy)]
 pub enum Found {
     At(WireRef),
     Missing,
@@ -21,6 +26,7 @@ pub enum Found {
 
 // The signals of the constants.
 #[derive(Drop)]
+#[derive(Clone, Copy)]
 pub struct Constants {
     pub zero: SignalId,
     pub one: SignalId,
@@ -28,6 +34,7 @@ pub struct Constants {
 
 // The signal of a control.
 #[derive(Drop)]
+#[derive(Clone, Copy)]
 pub enum Controlled {
     Signal(SignalId),
     Refused(Refusal),

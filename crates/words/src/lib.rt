@@ -1,4 +1,7 @@
 // Little-endian 32-bit words.
+
+#![tactic(auto)]
+
 ghost use Rattle.std.specs.Prelude.{◌≡◌};
 ghost use Rattle.io.specs.Counts.{IsPrefixLen};
 ghost use Rattle.words.specs.Words.{leWord, Laid, ReadWords};

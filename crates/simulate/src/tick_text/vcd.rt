@@ -5,6 +5,7 @@ use text::{Place, flush, put_text};
 
 // Where the next byte goes, and the next byte of the tick's bits and of what is shown.
 #[derive(Drop)]
+#[derive(Clone, Copy)]
 struct Spots {
     at: usize,
     bit: usize,
