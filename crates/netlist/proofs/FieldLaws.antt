@@ -13,7 +13,6 @@ use Rattle.netlist.specs.declared.Bit.{Bit}
 use Rattle.netlist.specs.Netlist.{bit_of, Control, Reset, Cell, Port, Netlist}
 use Rattle.netlist.specs.Reader
 use Rattle.netlist.specs.Reader.{Limits, netlist, Step, got, fault, Parser, and_then, ◌>>=◌, done, many, judged, fetched, closed}
-use Rattle.netlist.specs.Fields
 use Rattle.netlist.specs.Shape.{FitsCell, FitsPort, Row}
 use Rattle.netlist.specs.ReaderLaws.{parts, went, many-at, trailerAt, portCountOf, cellsAtOf, cellCountOf}
 use Rattle.netlist.specs.ReaderFits.{Outcome, Sound, many-sound, cell-sound, port-sound}

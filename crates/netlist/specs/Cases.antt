@@ -1,6 +1,6 @@
 -- The P cases of document 01 that reading decides, and the largest wire.
 use Rattle.std.specs.Prelude.{◌≡◌, refl, List, [], ◌∷◌, map, ℕ}
-use Rattle.std.proofs.Math.Option.{Option, none, some}
+use Rattle.std.proofs.Math.Option.{none, some}
 use Rattle.netlist.specs.ReaderChecks.{reading, Row}
 
 -- a block RAM alone, of this depth and physical width, one bit wide, with one port; its read wire is 7

@@ -2,7 +2,7 @@
 -- The answers were written by the reference (the Rust behind its reader), not by hand.
 use Rattle.std.specs.Prelude.{◌≡◌, refl, List, [], ◌∷◌, map, ℕ}
 use Rattle.std.proofs.Math.Option.{Option, none, some}
-use Rattle.netlist.specs.declared.Bit.TheVariants.{Zero, One, Wire}
+use Rattle.netlist.specs.declared.Bit.TheVariants.{Zero, Wire}
 use Rattle.netlist.specs.Netlist.{lut4}
 use Rattle.netlist.specs.Reader.{Read, netlist, refused, readWords, base, addressWidth}
 
