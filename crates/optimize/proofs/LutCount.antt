@@ -2,9 +2,9 @@
 -- Assumes nothing.
 use mathlib.Core.Path.{◌≡◌, refl, sym, ap, ◌∙◌, subst}
 use mathlib.Core.Bool.{Bool, true, false, ◌&&◌, ◌||◌}
-use mathlib.Core.List.{List, [], ◌∷◌, ◌++◌}
+use mathlib.Core.List.{List, [], ◌∷◌}
 use mathlib.Core.Logic.{◌⊎◌, inl, inr, ⊎_elim}
-use Prim.Native.Nat.{ℕ, zero, suc, ◌+◌, ◌-◌, ◌*◌, ◌/◌, ◌^◌, ◌<◌, ◌≤◌}
+use Prim.Native.Nat.{ℕ, zero, suc, ◌+◌, ◌*◌, ◌/◌, ◌^◌, ◌<◌, ◌≤◌}
 use native.Mathlib.Nat.{pow-succ', not-suc-le-zero, le_of_suc-le-suc}
 use native.Mathlib.Omega.{arith}
 use lib.Dec.{eqb}
@@ -14,11 +14,10 @@ use lib.ListN.{length, length-append}
 use borrow.Author.Tests.{eqb-true, eqb-false}
 use Rattle.bits.specs.Bits.{pick}
 use Rattle.recorder.specs.Record.{Expr, Expr.not as complement, Expr.and, Expr.or}
-use Rattle.recorder.specs.Writer.{exprsOf, Count, further, End, End.ok, End.no, Out, Writer, pure, emit, ◌>>=◌}
+use Rattle.recorder.specs.Writer.{exprsOf, Count, further, End.ok, Out, Writer, pure, emit, ◌>>=◌}
 use Rattle.recorder.proofs.Events.{exprs-append, bind_ok}
 use Rattle.optimize.specs.declared.optimizer.Rewrite.{Rewrite}
-use Rattle.optimize.specs.declared.optimizer.Rewrite.TheVariants.{Value, Not, And, Or, Xor, AndNot, OrNot, Mux}
-use Rattle.optimize.specs.Rewrite.{expr, simplifyXor, simplifyMux, emitRewrite, xorOf, muxOf}
+use Rattle.optimize.specs.Rewrite.{emitRewrite, xorOf, muxOf}
 use Rattle.optimize.specs.Lut.{low_of, high_of, fullTable, joinCofactors, lutCofactor}
 use Rattle.optimize.specs.Claims.{LutAdds}
 use Rattle.optimize.proofs.Muxes.{by-test}

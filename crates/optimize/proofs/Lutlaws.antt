@@ -1,18 +1,16 @@
 -- The cases of `lutCofactor`, from what the tests on the way say.
-use mathlib.Core.Path.{◌≡◌, refl, sym, ap, ◌∙◌, subst, fun_ext}
+use mathlib.Core.Path.{◌≡◌, sym, ap, ◌∙◌, fun_ext}
 use mathlib.Core.List.{List, [], ◌∷◌}
-use Prim.Native.Nat.{ℕ, suc, ◌+◌, ◌-◌, ◌≤◌, ◌<◌}
+use Prim.Native.Nat.{ℕ, suc, ◌-◌, ◌≤◌, ◌<◌}
 use native.Mathlib.Omega.{arith}
-use lib.Dec.{eqb}
 use lib.Bits.{bit_xor}
 use lib.ListN.{length, get_or, drop, length-drop, length-map}
 use lib.Seq.{drop-cons, drop-length}
 use borrow.Author.Tests.{eq-eqb, ne_eqb}
-use Rattle.bits.specs.Bits.{pick}
 use Rattle.recorder.specs.declared.ExprId.{ExprId}
-use Rattle.recorder.specs.Writer.{Count, Out, Writer, pure, ◌>>=◌}
+use Rattle.recorder.specs.Writer.{Writer, pure, ◌>>=◌}
 use Rattle.optimize.specs.Rewrite.{expr, xorOf, muxOf}
-use Rattle.optimize.specs.Lut.{evens, fullTable, low_of, high_of, joinCofactors, lutCofactor, numbers}
+use Rattle.optimize.specs.Lut.{fullTable, low_of, high_of, joinCofactors, lutCofactor, numbers}
 
 -- a table that is not constant, over the inputs xs: its first input, the others, and its two cofactors
 pub record Split (xs : List ℕ) (t x : ℕ) (rest : List ℕ) (low high : ℕ) : Type 0 where

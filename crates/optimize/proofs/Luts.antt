@@ -1,25 +1,24 @@
 -- What a truth table makes: the table's bit that the inputs name.
 -- Assumes nothing.
-use mathlib.Core.Path.{◌≡◌, refl, sym, ap, ap₂, ◌∙◌, subst}
+use mathlib.Core.Path.{◌≡◌, refl, sym, ap, ◌∙◌, subst}
 use mathlib.Core.Bool.{Bool, true, false, not}
-use mathlib.Core.List.{List, [], ◌∷◌, ◌++◌}
-use Prim.Native.Nat.{ℕ, zero, suc, ◌+◌, ◌-◌, ◌*◌, ◌/◌, ◌%◌, ◌^◌, ◌<◌, ◌≤◌}
+use mathlib.Core.List.{List, [], ◌∷◌}
+use Prim.Native.Nat.{ℕ, suc, ◌+◌, ◌*◌, ◌/◌, ◌^◌, ◌<◌, ◌≤◌}
 use native.Mathlib.Nat.{zero-add, pow-succ'}
 use native.Mathlib.Omega.{arith}
 use lib.Dec.{eqb}
 use lib.Bits.{bit_xor}
 use lib.Pow.{pow_mono}
-use lib.ListN.{length, get_or}
+use lib.ListN.{length}
 use borrow.Author.Tests.{eqb-true, eqb-false}
 use Rattle.bits.specs.Bits.{pick, Bits, differ, digit, number, tableBit}
 use Rattle.bits.proofs.TableBits.{bit-none, bit-ones, bit-xor}
-use Rattle.recorder.specs.Writer.{Writer, pure, ◌>>=◌}
-use Rattle.optimize.specs.Rewrite.{xorOf, muxOf}
+use Rattle.recorder.specs.Writer.{Writer}
 use Rattle.optimize.specs.Lut.{low_of, high_of, fullTable, joinCofactors, lutCofactor}
 use Rattle.recorder.specs.Evaluate.{Signals, Values}
-use Rattle.recorder.specs.Meaning.{Is, Keeps, Base, Makes, Means}
+use Rattle.recorder.specs.Meaning.{Is, Keeps, Base, Means}
 use Rattle.optimize.specs.Claims.{Inputs, XorMeans, MuxMeans, LutMeans}
-use Rattle.recorder.proofs.Makes.{is-as, base-keeps, makes-pure, makes-bind, makes_so}
+use Rattle.recorder.proofs.Makes.{is-as, base-keeps, makes-pure, makes-bind}
 use Rattle.optimize.proofs.Muxes.{by-test, means-as, same_bit, mux-means, xor-means}
 use Rattle.optimize.proofs.TableBits.{bit-low, bit_high, evens-lt}
 

@@ -1,19 +1,19 @@
 -- What the rewrites make: an exclusive or, and a mux, of one bit.
 -- Assumes nothing.
-use mathlib.Core.Path.{◌≡◌, refl, ap, ap₂, sym, ◌∙◌, subst}
+use mathlib.Core.Path.{◌≡◌, refl, ap, ap₂, sym, ◌∙◌}
 use mathlib.Core.Bool.{Bool, true, false, not, ◌&&◌, ◌||◌, false≢true}
-use mathlib.Core.List.{List, [], ◌∷◌, ◌++◌}
-use Prim.Native.Nat.{ℕ, zero, suc}
+use mathlib.Core.List.{[], ◌∷◌}
+use Prim.Native.Nat.{ℕ}
 use lib.Dec.{eqb}
 use borrow.Author.Tests.{eqb-true}
 use Rattle.recorder.specs.Record.{Expr.not as complement, Expr.and, Expr.or, Expr.xor, Expr.mux}
 use Rattle.bits.specs.Bits.{pick, Bits, lowest, differ}
-use Rattle.recorder.specs.Writer.{Writer, emit, pure, ◌>>=◌}
+use Rattle.recorder.specs.Writer.{Writer, emit}
 use Rattle.optimize.specs.declared.optimizer.Rewrite.{Rewrite}
-use Rattle.optimize.specs.declared.optimizer.Rewrite.TheVariants.{Value, Not, And, Or, Xor, AndNot, OrNot, Mux}
-use Rattle.optimize.specs.Rewrite.{expr, simplifyXor, simplifyMux, emitRewrite, xorOf, muxOf}
-use Rattle.recorder.specs.Evaluate.{Signals, Values, value_of, bit_of, evalExpr}
-use Rattle.recorder.specs.Meaning.{Is, Keeps, Base, Makes, Means}
+use Rattle.optimize.specs.declared.optimizer.Rewrite.TheVariants.{Value}
+use Rattle.optimize.specs.Rewrite.{expr, emitRewrite, xorOf, muxOf}
+use Rattle.recorder.specs.Evaluate.{Signals, Values, value_of}
+use Rattle.recorder.specs.Meaning.{Is, Base, Means}
 use Rattle.recorder.proofs.Makes.{is-as, makes-pure, means-emit, makes-bind, makes_so}
 
 -- a choice by a test, from both sides

@@ -1,5 +1,5 @@
 -- The bits of a table's cofactors.
-use mathlib.Core.Path.{◌≡◌, refl, sym, ap, ◌∙◌, subst}
+use mathlib.Core.Path.{◌≡◌, sym, ap, ◌∙◌, subst}
 use Prim.Native.Nat.{ℕ, zero, suc, ◌+◌, ◌*◌, ◌/◌, ◌%◌, ◌^◌, ◌<◌}
 use native.Mathlib.Nat.{pow-succ', le_of_suc-le-suc, not-suc-le-zero}
 use native.Mathlib.Omega.{arith}

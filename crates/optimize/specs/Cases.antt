@@ -2,7 +2,7 @@
 -- next one.
 use Rattle.std.specs.Prelude.{◌≡◌, refl, List, [], ◌∷◌, map, ℕ}
 use Rattle.recorder.specs.Record.{Expr, Expr.not as complement, Expr.and, Expr.xor}
-use Rattle.recorder.specs.Writer.{Event, Event.expr, Count, End, End.ok, Out, Writer, ◌>>=◌}
+use Rattle.recorder.specs.Writer.{Event.expr, Count, End.ok, Out, Writer, ◌>>=◌}
 use Rattle.optimize.specs.Rewrite.{emitRewrite, xorOf, muxOf}
 use Rattle.optimize.specs.Lut.{evens, joinCofactors, lutCofactor}
 

@@ -1,7 +1,7 @@
 -- What is claimed of the rewrites and of a truth table; proofs/ shows each.
 use Rattle.std.specs.Prelude.{Bool, List, [], ◌∷◌, ℕ, ◌+◌, ◌*◌, ◌^◌, ◌<◌, ◌≤◌, length}
 use Rattle.bits.specs.Bits.{pick, Bits, differ, digit, tableBit}
-use Rattle.recorder.specs.Writer.{exprsOf, Count, Out}
+use Rattle.recorder.specs.Writer.{exprsOf, Count}
 use Rattle.recorder.specs.Evaluate.{Signals, Values}
 use Rattle.recorder.specs.Meaning.{Is, Base, Means}
 use Rattle.optimize.specs.Rewrite.{xorOf, muxOf}

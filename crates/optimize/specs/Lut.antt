@@ -3,7 +3,7 @@ use Rattle.std.specs.Prelude.{List, [], ◌∷◌, map, ℕ, zero, suc, ◌+◌,
 use Rattle.std.specs.Int.Bits.{bit_xor}
 use Rattle.bits.specs.Bits.{pick}
 use Rattle.recorder.specs.declared.ExprId.{ExprId}
-use Rattle.recorder.specs.Writer.{Count, Out, Writer, pure, ◌>>=◌}
+use Rattle.recorder.specs.Writer.{Writer, pure, ◌>>=◌}
 use Rattle.optimize.specs.Rewrite.{xorOf, muxOf}
 
 -- the first k even bits of a number, drawn together

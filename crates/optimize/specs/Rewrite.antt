@@ -1,9 +1,9 @@
 -- The local rewrites: the first rule that fits, and what is recorded for it.
-use Rattle.std.specs.Prelude.{Bool, true, false, ◌&&◌, ◌||◌, ℕ, eqb}
+use Rattle.std.specs.Prelude.{◌&&◌, ◌||◌, ℕ, eqb}
 use Rattle.bits.specs.Bits.{pick}
 use Rattle.recorder.specs.declared.ExprId.{ExprId}
 use Rattle.recorder.specs.Record.{Expr.not as complement, Expr.and, Expr.or, Expr.xor, Expr.mux}
-use Rattle.recorder.specs.Writer.{Count, Out, Writer, pure, emit, ◌>>=◌}
+use Rattle.recorder.specs.Writer.{Writer, pure, emit, ◌>>=◌}
 use Rattle.optimize.specs.declared.optimizer.Rewrite.{Rewrite}
 use Rattle.optimize.specs.declared.optimizer.Rewrite.TheVariants.{Value, Not, And, Or, Xor, AndNot, OrNot, Mux}
 
