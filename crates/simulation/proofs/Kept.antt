@@ -12,19 +12,17 @@ use lib.ListN.{length, get_or, take, drop, length-append, length-drop, length-ma
 use lib.Seq.{length-take-le, take_at, drop_at}
 use borrow.Author.Tests.{eqb-true, ltb-true, ltb-false}
 use Rattle.bits.specs.Bits.{pick, Bits, digit}
-use Rattle.recorder.specs.Record.{Signal, RegReset, RegEnable, Stmt, Model}
+use Rattle.recorder.specs.Record.{Signal, RegReset, Stmt, Model}
 use Rattle.recorder.specs.Record.{assign, reg}
-use Rattle.recorder.specs.Lists.{Lists}
-use Rattle.recorder.specs.Read.{only, modelOf}
+use Rattle.recorder.specs.Read.{only}
 use Rattle.recorder.specs.Words.{rawOf}
-use Rattle.recorder.specs.Evaluate.{Signals}
 use Rattle.settle.specs.Settle.{iterate}
 use Rattle.settle.specs.Table.{at, tabFrom}
 use Rattle.settle.specs.Tests.{and_left, and_right}
 use Rattle.settle.specs.Loop.{LowestOnLoop}
 use Rattle.simulation.specs.Wellformed.{wide, broad, suits, resetFits, enableFits, stmtFits, or_else, unsplitAll, firstFault, malformed}
 use Rattle.simulation.specs.Tick.{valuesIn, target, given, assigns, asserted, resetLoads, enabled, Firing, loads, become, setBy, sweep, settle, commit, setInputs, tick, depends, looped}
-use Rattle.simulation.specs.Run.{Call, Outcome, firing, exprWidth, total, signalBytes, inputWidth, tickBits, exprBits, short, noBit, wrongCount, wrongFired, onLoop, first_of, causes, refusal, perSignal, flat, isOne, stateBefore, stateAfter, ticked, bytesAfter, verdict, callModel, answer, run}
+use Rattle.simulation.specs.Run.{Call, firing, exprWidth, total, signalBytes, inputWidth, tickBits, exprBits, short, wrongCount, onLoop, first_of, causes, refusal, perSignal, flat, isOne, stateBefore, stateAfter, ticked, bytesAfter, verdict, callModel, answer, run}
 use Rattle.simulation.specs.Sound.{AllFrom, Sound, signalWidths, exprWidths}
 use Rattle.simulation.specs.Settled.{IsSettled}
 use Rattle.simulation.specs.Kept.{Fits, Good, AllBits}

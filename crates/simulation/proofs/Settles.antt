@@ -1,8 +1,8 @@
 -- Values depend only on what is read, and a model with no loop is settled after as many sweeps as it has signals; any settled
 -- state is that one. Assumes nothing.
-use Prim.Native.Nat.{ℕ, zero, suc, ◌+◌, ◌*◌, ◌≤◌, ◌<◌}
+use Prim.Native.Nat.{ℕ, zero, suc, ◌+◌, ◌*◌, ◌<◌}
 use mathlib.Core.Path.{◌≡◌, refl, sym, ◌∙◌, ap, ap₂}
-use mathlib.Core.Bool.{Bool, true, false, ◌&&◌, ◌||◌}
+use mathlib.Core.Bool.{◌&&◌, ◌||◌}
 use mathlib.Core.Bool.{not as flip}
 use mathlib.Core.List.Memᴰ.{append_left as mem-left}
 use mathlib.Core.List.Memᴰ.{append_right as mem-right}
@@ -16,13 +16,12 @@ use lib.Seq.{ext_get_or, get_or-append_seam}
 use Rattle.bits.specs.Bits.{pick, Bits, binary, number, lowest, window, differ, sameBits}
 use Rattle.recorder.specs.Record.{Expr, Model}
 use Rattle.recorder.specs.Record.{const, read, concat, not, and, or, xor, mux, eq, mul}
-use Rattle.recorder.specs.Evaluate.{Signals, value_of, bit_of, joinedParts, evalExpr, evalAll}
-use Rattle.recorder.specs.Meaning.{Is}
+use Rattle.recorder.specs.Evaluate.{Signals, joinedParts, evalExpr, evalAll}
 use Rattle.settle.specs.Settle.{Respects, iterate, settles, settled-unique}
 use Rattle.settle.specs.Ground.{below, length-below, mem_below}
 use Rattle.settle.specs.Loop.{Reads, DepsUnder, NoLoops, Under, LowestOnLoop, lowest-on-loop}
-use Rattle.settle.specs.Table.{at, tabFrom, rounds-at, length-tab}
-use Rattle.simulation.specs.Tick.{valuesIn, given, assigns, become, setBy, sweep, settle, joinedReads, readsExpr, readsAll, readsBy, depends, looped}
+use Rattle.settle.specs.Table.{at, rounds-at, length-tab}
+use Rattle.simulation.specs.Tick.{given, assigns, become, sweep, settle, joinedReads, readsExpr, readsAll, readsBy, depends, looped}
 use Rattle.simulation.specs.Settled.{driven, IsSettled}
 
 -- a cell of a list with one more at its end

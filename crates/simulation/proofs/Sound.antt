@@ -9,12 +9,10 @@ use lib.ListN.{length, get_or}
 use Rattle.bits.specs.Bits.{pick}
 use Rattle.recorder.specs.Record.{Signal, Expr, Stmt, Model, signalWords, exprWords, stmtWords}
 use Rattle.recorder.specs.Record.{const, read, concat, not, and, or, xor, mux, eq, mul, assign, reg}
-use Rattle.recorder.specs.Lists.{Lists}
-use Rattle.recorder.specs.Read.{Cut, split, readSignal, readExpr, readStmt, read_all, Raw, modelOf}
-use Rattle.recorder.specs.Words.{listWords, words_of, rawOf, Reads, EachReads}
-use Rattle.recorder.proofs.Roundtrip.{Kind, signal-said, expr-said, stmt-said, signal-kind, expr-kind, stmt-kind, words-split}
-use Rattle.simulation.specs.Wellformed.{widths, drives, count_of, signalFits, exprFits, stmtFits, fits, firstFailing, or_else, behind, signalFault, exprFault, stmtFault, firstFault, unsplit, unsplitAll, malformed}
-use Rattle.simulation.specs.Tick.{target}
+use Rattle.recorder.specs.Read.{readSignal, readExpr, readStmt, read_all, Raw, modelOf}
+use Rattle.recorder.specs.Words.{words_of, EachReads}
+use Rattle.recorder.proofs.Roundtrip.{signal-said, expr-said, stmt-said, signal-kind, expr-kind, stmt-kind, words-split}
+use Rattle.simulation.specs.Wellformed.{widths, drives, count_of, signalFits, exprFits, stmtFits, fits, firstFailing, or_else, behind, signalFault, exprFault, stmtFault, firstFault, malformed}
 use Rattle.simulation.specs.Run.{exprWidth}
 use Rattle.simulation.specs.Sound.{AllFrom, signalWidths, exprWidths, on, drivers, Sound}
 

@@ -1,10 +1,10 @@
 -- The sweep and the commit as code does them: all expressions first, then one statement after the other stores its value. And a
 -- sweep that changes nothing ends the settling. Assumes nothing.
-use Prim.Native.Nat.{ℕ, zero, suc, ◌+◌, ◌-◌, ◌≤◌, ◌<◌}
+use Prim.Native.Nat.{ℕ, zero, suc, ◌+◌, ◌≤◌, ◌<◌}
 use mathlib.Core.Path.{◌≡◌, refl, sym, ◌∙◌, ap, subst}
 use mathlib.Core.Logic.{◌≢◌}
 use mathlib.Core.Bool.{Bool, true, false, ◌&&◌}
-use mathlib.Core.List.{List, [], ◌∷◌, ◌++◌}
+use mathlib.Core.List.{List, [], ◌∷◌}
 use mathlib.Core.Option.{Option, none, some}
 use native.Mathlib.Omega.{arith}
 use native.Mathlib.Nat.{not-suc-le-zero, zero-add, add-zero}
@@ -12,8 +12,8 @@ use lib.Dec.{eqb, leb}
 use lib.ListN.{length, get_or, set, length-set}
 use lib.Seq.{ext_get_or, get_or-set_same, get_or-set_other}
 use borrow.Author.Tests.{eqb-true, eqb-false}
-use Rattle.recorder.specs.Record.{Signal, Expr, Stmt, Model}
-use Rattle.settle.specs.Table.{at, tabFrom, length-tab, getD-tab}
+use Rattle.recorder.specs.Record.{Signal, Stmt, Model}
+use Rattle.settle.specs.Table.{at, length-tab, getD-tab}
 use Rattle.settle.specs.Tests.{and_right}
 use Rattle.simulation.specs.Wellformed.{count_of, or_else, in_range, statements, signalFits}
 use Rattle.bits.specs.Bits.{pick, Bits}

@@ -1,5 +1,5 @@
 -- Calls whose answers come from a reference program, as rows of tables.
-use Rattle.std.specs.Prelude.{ℕ, ◌≡◌, refl, List, [], ◌∷◌, ◌++◌, map, replicate}
+use Rattle.std.specs.Prelude.{ℕ, ◌≡◌, refl, List, [], ◌∷◌, map, replicate}
 use Rattle.std.proofs.Math.Option.{Option, none, some}
 use Rattle.recorder.specs.Lists.{lists}
 use Rattle.recorder.specs.Read.{split, modelOf}

@@ -1,6 +1,6 @@
 -- What an accepted call has, and what it leaves.
 use Rattle.std.specs.Prelude.{ℕ, ◌≤◌, ◌≡◌, List, [], ◌∷◌, length, take}
-use Rattle.std.proofs.Math.Option.{Option, none}
+use Rattle.std.proofs.Math.Option.{none}
 use Rattle.bits.specs.Bits.{Bits}
 use Rattle.recorder.specs.Record.{Signal}
 use Rattle.recorder.specs.Words.{rawOf}

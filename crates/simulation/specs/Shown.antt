@@ -4,7 +4,7 @@ use Rattle.std.proofs.Math.Option.{Option}
 use Rattle.bits.specs.Bits.{pick}
 use Rattle.recorder.specs.Record.{Signal}
 use Rattle.recorder.specs.Lists.{Lists}
-use Rattle.simulation.specs.Run.{Call, Outcome, run}
+use Rattle.simulation.specs.Run.{Call, run}
 
 -- A CALL: tick bits, the fired signal and edge or none, and the three works that it is lent, of any length and contents
 pub record Entry : Type 0 where
