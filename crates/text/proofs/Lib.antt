@@ -1,4 +1,4 @@
--- Appending, Going and Figures are for crates above.
+-- Appending and Going are for crates above.
 pub mod Appending
-pub mod Figures
+pub mod Digits
 pub mod Going

@@ -2,11 +2,12 @@
 
 #![tactic(auto)]
 
-ghost use Rattle.std.specs.Prelude.{[], ◌∷◌};
+ghost use Rattle.std.specs.Prelude.{◌≡◌, ◌<◌, ◌≤◌, [], ◌∷◌, length, drop, take, true};
+ghost use Rattle.std.specs.Io.KnownBytes.{Appends};
 ghost use Rattle.text.specs.Text.{Appended, Flushed};
 ghost use Rattle.text.specs.Decimal.{decimal};
 
-use libc::STDOUT_FILENO;
+use std::io::Write;
 
 // The place behind what was put, or that not all of it fitted.
 #[derive(Drop)]
@@ -47,21 +48,40 @@ pub fn put_text(out: &mut [u8], at: usize, text: &[u8]) -> Place
     Place::At(at + n)
 }
 
+// Puts a number's decimal digits at the end of figures, and answers where they begin.
+pub fn decimal(n: u64, figures: &mut [u8; 20]) -> usize
+    ensures within { result ≤ 20 }
+    ensures digits { drop result figures.new ≡ decimal n }
+{
+    let mut i = 20;
+    let mut rest = n;
+    while 10 <= rest {
+        i -= 1;
+        figures[i] = b'0' + (rest % 10) as u8;
+        rest /= 10;
+    }
+    i -= 1;
+    figures[i] = b'0' + rest as u8;
+    i
+}
+
 // A number's decimal digits.
 pub fn put_decimal(out: &mut [u8], at: usize, n: u64) -> Place
     ensures { Appended out.old at (decimal n) result out.new }
 {
     let mut figures = [0u8; 20];
-    let k = io::decimal(n, &mut figures);
-    put_text(out, at, &figures[..k])
+    let k = decimal(n, &mut figures);
+    put_text(out, at, &figures[k..])
 }
 
-// Writes the bytes before a place to standard output, and answers whether all were written.
-pub fn flush(out: &[u8], at: usize) -> bool
-    ensures { Flushed out.now at result }
+// Writes the bytes before a place to a writer, as the standard output, and answers whether all were written.
+pub fn flush<W: Write>(to: &mut W, out: &[u8], at: usize) -> bool
+    ensures said { Flushed out.now at result }
+    ensures written { result ≡ true → Appends (W.contents to.old) (W.contents to.new) (take at out.now) }
+    ensures kept { length out.now < at → W.contents to.new ≡ W.contents to.old }
 {
     if at <= out.len() {
-        io::write_all(STDOUT_FILENO, &out[..at])
+        to.write_all(&out[..at]).is_ok()
     } else {
         false
     }
