@@ -2,7 +2,7 @@
 use Prim.Native.Nat.{ℕ, zero, suc, ◌+◌, ◌≤◌, ◌<◌}
 use mathlib.Core.Path.{◌≡◌, refl, sym, ◌∙◌, ap, subst}
 use mathlib.Core.Logic.{◌⊎◌, inl, inr}
-use mathlib.Core.Bool.{Bool, true, false, ◌&&◌}
+use mathlib.Core.Bool.{Bool, true, ◌&&◌}
 use mathlib.Core.List.Memᴰ.{append_cases}
 use mathlib.Core.List.Memᴰ.{append_left as mem-left}
 use mathlib.Core.List.Memᴰ.{append_right as mem-right}
@@ -16,19 +16,18 @@ use mathlib.Core.Option.{Option, none, some}
 use native.Mathlib.Omega.{arith}
 use native.Mathlib.Nat.{not-suc-le-zero}
 use native.Mathlib.Decide.{dec_lt, ℕ_discrete}
-use lib.Dec.{eqb, leb, ltb}
+use lib.Dec.{eqb, ltb}
 use lib.ListN.{length, get_or, length-append, get_or-eq_default}
 use borrow.Author.Tests.{ltb-true, eq-eqb}
 use Rattle.recorder.specs.Record.{Expr, Model}
 use Rattle.recorder.specs.Record.{const, read, concat, not, and, or, xor, mux, eq, mul}
-use Rattle.settle.specs.Walk.{Way}
-use Rattle.settle.specs.Ground.{Grounded, ground, no-loop→grounded, grounded→no-loop, below, mem_below, length-below}
-use Rattle.settle.specs.Loop.{Reads, Under, DepsUnder, NoLoops, LowestOnLoop, lowest-on-loop, lowest-on-loop-only}
+use Rattle.settle.specs.Ground.{Grounded, ground, no-loop→grounded, grounded→no-loop, below, mem_below}
+use Rattle.settle.specs.Loop.{Reads, Under, NoLoops, LowestOnLoop, lowest-on-loop, lowest-on-loop-only}
 use Rattle.settle.specs.Tests.{and_left, and_right}
 use Rattle.simulation.specs.Wellformed.{wide, earlier, widthSum, in_range, exprFits}
 use Rattle.simulation.specs.Tick.{given, assigns, joinedReads, readsExpr, readsAll, readsBy, depends, looped}
 use Rattle.simulation.specs.Sound.{AllFrom, Sound, signalWidths, exprWidths}
-use Rattle.simulation.proofs.Settles.{AtLast, getD-last, length-reads}
+use Rattle.simulation.proofs.Settles.{getD-last, length-reads}
 use Rattle.simulation.proofs.Bounds.{reads-there, reads-under}
 use Rattle.ordering.specs.Order.{listed, needsOf, needs, Needs}
 use Rattle.ordering.specs.Marks.{readsIt}

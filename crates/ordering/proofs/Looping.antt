@@ -1,13 +1,12 @@
 -- Which expressions lead to a signal, by marks; a signal whose own expression leads to it is on a loop.
-use Prim.Native.Nat.{ℕ, zero, suc, ◌+◌, ◌≤◌, ◌<◌}
-use mathlib.Core.Path.{◌≡◌, refl, sym, ◌∙◌, ap, subst}
+use Prim.Native.Nat.{ℕ, zero, suc, ◌<◌}
+use mathlib.Core.Path.{◌≡◌, refl, sym, ◌∙◌, subst}
 use mathlib.Core.Logic.{◌⊎◌, inl, inr}
-use mathlib.Core.Bool.{Bool, true, false, ◌||◌, false≢true}
+use mathlib.Core.Bool.{true, false, ◌||◌, false≢true}
 use mathlib.Core.List.Memᴰ.{eq_of_singleton as singleton}
 use mathlib.Core.List.Memᴰ.{head as here}
 use mathlib.Core.List.Memᴰ.{not-nil}
-use mathlib.Core.List.Memᴰ.{tail as there}
-use mathlib.Core.List.{List, [], ◌∷◌, ◌++◌, Memᴰ as Mem}
+use mathlib.Core.List.{List, [], ◌∷◌, Memᴰ as Mem}
 use mathlib.Core.Option.{Option, none, some}
 use native.Mathlib.Omega.{arith}
 use native.Mathlib.Nat.{not-suc-le-zero}
@@ -25,7 +24,7 @@ use Rattle.simulation.specs.Tick.{given, assigns, readsExpr, readsAll, readsBy, 
 use Rattle.simulation.specs.Sound.{Sound}
 use Rattle.simulation.proofs.Settles.{length-reads}
 use Rattle.simulation.proofs.Tally.{getD-zeros}
-use Rattle.ordering.specs.Order.{listed, needsOf, needs}
+use Rattle.ordering.specs.Order.{listed, needsOf}
 use Rattle.ordering.specs.Marks.{marked, readsIt, touched, Leads, Backed, Full}
 use Rattle.ordering.proofs.Grounds.{operands, reads_at, needs-below, operand-reads, through-kind}
 

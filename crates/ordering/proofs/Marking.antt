@@ -1,26 +1,24 @@
 -- Marking in passes: what is marked can be reached at last, and where nothing can be added the unmarked are on or behind a loop.
-use Prim.Native.Nat.{ℕ, zero, suc, ◌+◌, ◌≤◌, ◌<◌}
-use mathlib.Core.Path.{◌≡◌, refl, sym, ◌∙◌, ap, subst}
+use Prim.Native.Nat.{ℕ, suc, ◌<◌}
+use mathlib.Core.Path.{◌≡◌, refl, sym, ◌∙◌, subst}
 use mathlib.Core.Logic.{◌⊎◌, inl, inr}
-use mathlib.Core.Bool.{Bool, true, false, ◌&&◌, true≢false, false≢true}
+use mathlib.Core.Bool.{Bool, true, false, false≢true}
 use mathlib.Core.List.Memᴰ.{eq_of_singleton as singleton}
-use mathlib.Core.List.Memᴰ.{head as here}
 use mathlib.Core.List.Memᴰ.{not-nil}
-use mathlib.Core.List.{List, [], ◌∷◌, ◌++◌, Memᴰ as Mem}
+use mathlib.Core.List.{List, [], ◌∷◌, Memᴰ as Mem}
 use mathlib.Core.Option.{Option, none, some}
 use native.Mathlib.Omega.{arith}
-use native.Mathlib.Nat.{not-suc-le-zero}
-use native.Mathlib.Decide.{dec_lt, ℕ_discrete}
+use native.Mathlib.Decide.{ℕ_discrete}
 use lib.Dec.{eqb, leb, ltb}
 use lib.ListN.{length, get_or, set, replicate, length-map}
-use lib.Seq.{get_or-set_same, get_or-set_other}
-use borrow.Author.Tests.{eqb-true, leb-true, leb-false, ltb-true, le-leb}
+use lib.Seq.{get_or-set_other}
+use borrow.Author.Tests.{ltb-true}
 use Rattle.bits.specs.Bits.{pick}
 use Rattle.recorder.specs.Record.{Expr, Stmt, Model}
 use Rattle.recorder.specs.Record.{const, read, concat, not, and, or, xor, mux, eq, mul, assign, reg}
 use Rattle.settle.specs.Ground.{Grounded, ground}
-use Rattle.settle.specs.Tests.{all, all_in, all-out, clash, and_left, and_right, not-true→false, answer}
-use Rattle.simulation.specs.Wellformed.{wide, or_else, suits, stmtFits, broad, resetFits, enableFits}
+use Rattle.settle.specs.Tests.{all, all_in, all-out, clash, and_left, and_right, answer}
+use Rattle.simulation.specs.Wellformed.{wide, or_else, stmtFits}
 use Rattle.simulation.specs.Tick.{target, given, assigns, looped}
 use Rattle.simulation.specs.Run.{exprWidth}
 use Rattle.simulation.specs.Sound.{AllFrom, Sound, signalWidths, exprWidths}

@@ -7,14 +7,14 @@ use native.Mathlib.Omega.{arith}
 use native.Mathlib.Nat.{add-zero}
 use native.Mathlib.Decide.{ℕ_discrete}
 use lib.Dec.{leb}
-use lib.ListN.{length, get_or, take, drop, length-drop}
+use lib.ListN.{length, get_or, take, drop}
 use lib.Seq.{get_or-drop}
 use Rattle.bits.specs.Bits.{pick}
 use Rattle.recorder.specs.declared.Cut.{Cut}
-use Rattle.recorder.specs.declared.Cut.TheVariants.{Record, End, Broken}
+use Rattle.recorder.specs.declared.Cut.TheVariants.{Record, Broken}
 use Rattle.recorder.specs.Standing.{standing, cut_at}
-use Rattle.simulation.specs.Index.{size_of, size_at, fields_at, recordsIn, start_of}
-use Rattle.simulation.proofs.Steps.{Walked, walked_start, walked-within, walked-there, walked-fields, walked_next, walked-out}
+use Rattle.simulation.specs.Index.{size_of, size_at, recordsIn, start_of}
+use Rattle.simulation.proofs.Steps.{Walked, walked_start, walked-within, walked-fields, walked_next, walked-out}
 use Rattle.simulation.proofs.Offsets.{fields-count, field_in}
 
 -- a record begins with its length

@@ -1,16 +1,16 @@
 -- A pass that marks what leads to a signal.
-use Prim.Native.Nat.{ℕ, zero, suc, ◌+◌, ◌≤◌, ◌<◌}
+use Prim.Native.Nat.{ℕ, ◌+◌, ◌≤◌, ◌<◌}
 use mathlib.Core.Path.{◌≡◌, refl, sym, ◌∙◌, ap, subst}
-use mathlib.Core.Bool.{Bool, true, false, not, ◌||◌, false≢true, true≢false}
+use mathlib.Core.Bool.{Bool, true, false, not, ◌||◌, false≢true}
 use mathlib.Core.List.Memᴰ.{eq_of_singleton as singleton}
 use mathlib.Core.List.Memᴰ.{head as here}
 use mathlib.Core.List.Memᴰ.{not-nil}
-use mathlib.Core.List.{List, [], ◌∷◌, Memᴰ as Mem}
+use mathlib.Core.List.{List, Memᴰ as Mem}
 use mathlib.Core.Option.{Option, none, some}
 use native.Mathlib.Omega.{arith}
 use native.Mathlib.Nat.{not-suc-le-zero}
 use native.Mathlib.Decide.{ℕ_discrete}
-use lib.ListN.{length, get_or, set, replicate, length-set}
+use lib.ListN.{length, set, replicate, length-set}
 use Rattle.bits.specs.Bits.{pick}
 use Rattle.recorder.specs.Record.{Model}
 use Rattle.settle.specs.Walk.{Way}
@@ -18,7 +18,7 @@ use Rattle.settle.specs.Loop.{Reads, lowest-on-loop-only}
 use Rattle.simulation.specs.Tick.{given, assigns, depends, looped}
 use Rattle.simulation.specs.Sound.{Sound}
 use Rattle.simulation.proofs.Bounds.{reads-under}
-use Rattle.ordering.specs.Marks.{marked, touched, Backed, Full, left}
+use Rattle.ordering.specs.Marks.{marked, touched, Backed, left}
 use Rattle.ordering.specs.Order.{listed}
 use Rattle.ordering.specs.Words.{mark_of}
 use Rattle.ordering.specs.Loops.{finds, Touch, Touches, Found, OnLoop}

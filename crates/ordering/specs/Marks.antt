@@ -1,6 +1,6 @@
 -- Marks: a byte for each expression, not zero once all that it needs is marked.
 use Rattle.std.specs.Prelude.{ℕ, zero, suc, ◌+◌, ◌≤◌, ◌<◌, ◌≡◌, Bool, true, false, ◌||◌, ◌⊎◌, eqb, leb, length, get_or, take}
-use mathlib.Core.List.{List, [], ◌∷◌, Memᴰ as Mem}
+use mathlib.Core.List.{List, [], Memᴰ as Mem}
 use Rattle.bits.specs.Bits.{pick}
 use Rattle.recorder.specs.Record.{Expr, Model}
 use Rattle.recorder.specs.Record.{const, read, concat, not, and, or, xor, mux, eq, mul}

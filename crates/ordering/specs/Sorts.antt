@@ -1,5 +1,5 @@
 -- What a pass, and all passes, do to the marks and the order.
-use Rattle.std.specs.Prelude.{ℕ, ◌+◌, ◌≤◌, ◌<◌, ◌≡◌, List, length, set}
+use Rattle.std.specs.Prelude.{ℕ, ◌+◌, ◌≤◌, ◌≡◌, List, set}
 use Rattle.bits.specs.Bits.{pick}
 use Rattle.recorder.specs.Record.{Model}
 use Rattle.ordering.specs.Marks.{Stuck, adds, Sorting}

@@ -1,5 +1,5 @@
 -- A model's expressions and statements from their words, and the tables that find them.
-use Rattle.std.specs.Prelude.{ℕ, ◌<◌, ◌≡◌, Bool, List, [], ◌∷◌}
+use Rattle.std.specs.Prelude.{ℕ, Bool, List, []}
 use Rattle.std.proofs.Math.Option.{Option, none, some}
 use Rattle.recorder.specs.Record.{Model}
 use Rattle.recorder.specs.Read.{readSignal, readExpr, read_all}
