@@ -1,31 +1,26 @@
 -- Cases of what is read through the wire map, and of vectors.
-use mathlib.Core.Path.{◌≡◌, refl, ap, ap₂, sym, ◌∙◌, subst, fun_ext}
+use mathlib.Core.Path.{◌≡◌, refl, ap, ap₂, sym, ◌∙◌, subst}
 use mathlib.Core.Bool.{Bool, true, false, ◌&&◌}
-use mathlib.Core.List.{List, [], ◌∷◌, ◌++◌, append-nil}
+use mathlib.Core.List.{List, [], ◌∷◌, ◌++◌}
 use mathlib.Core.Option.{Option, none, some}
-use Prim.Native.Nat.{ℕ, zero, suc, ◌+◌, ◌-◌, ◌/◌, ◌%◌, ◌≤◌, ◌<◌}
-use native.Mathlib.Nat.{add-zero, zero-add}
-use native.Mathlib.Numerals.{add-one}
+use Prim.Native.Nat.{ℕ, suc, ◌+◌, ◌-◌, ◌/◌, ◌%◌, ◌≤◌, ◌<◌}
 use native.Mathlib.Omega.{arith}
-use lib.Dec.{eqb, leb}
-use lib.ListN.{length, get_or, take, drop, set, length-set, length-take, get_or-eq_default}
+use lib.Dec.{eqb}
+use lib.ListN.{length, get_or, take, set, get_or-eq_default}
 use Rattle.netlist.specs.Fields.{bit_at, bits_at}
 use Rattle.netlist.proofs.RecordLaws.{bits-length, bits-get}
-use lib.Seq.{take-suc-set, take-suc, length-take-le}
+use lib.Seq.{take-suc-set, length-take-le}
 use borrow.Author.Tests.{eq-eqb, ne_eqb, le-leb, lt-leb}
 use Rattle.bits.specs.Bits.{pick}
 use Rattle.netlist.specs.declared.Bit.{Bit}
-use Rattle.netlist.specs.declared.Bit.TheVariants.{Zero, One, Wire}
-use Rattle.netlist.specs.declared.Control.{Control}
-use Rattle.recorder.specs.Record.{Expr.concat, Expr.not as complement, Stmt.assign}
-use Rattle.recorder.specs.Writer.{Count, Out, End, End.ok, End.no, Writer, pure, refuse, emit, state, ◌>>=◌}
+use Rattle.netlist.specs.declared.Bit.TheVariants.{Zero, Wire}
+use Rattle.recorder.specs.Record.{Expr.concat, Stmt.assign}
+use Rattle.recorder.specs.Writer.{Count, End, End.ok, End.no, Writer, pure, refuse, emit, state, ◌>>=◌}
 use Rattle.recorder.proofs.Events.{bind-pure, bind-refuse, bind_assoc}
 use Rattle.wires.specs.declared.Constants.{Constants}
-use Rattle.wires.specs.declared.Found.{Found}
-use Rattle.wires.specs.declared.Found.TheVariants as F
 use Rattle.wires.specs.declared.Controlled.{Controlled}
-use Rattle.wires.specs.Wires.{WireRef, Wires, entry, wiresOf, foundOf}
-use Rattle.wires.specs.Expressions.{refOf, wireRef, readRef, bitExpression, whole, bitSignal, assertedExpression, concatParts, vectorBit, vectorParts, vectorExpression, assignWire, roomy, controlled, Reads}
+use Rattle.wires.specs.Wires.{WireRef, Wires, entry, wiresOf}
+use Rattle.wires.specs.Expressions.{refOf, wireRef, readRef, bitExpression, whole, bitSignal, concatParts, vectorBit, vectorParts, vectorExpression, assignWire, roomy, controlled, Reads}
 
 -- THE TABLES
 

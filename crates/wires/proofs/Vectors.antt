@@ -1,13 +1,13 @@
 -- A loop that reads a vector, the highest bit first: what it has done and what is left.
-use mathlib.Core.Path.{◌≡◌, refl, ap, sym, ◌∙◌, subst}
+use mathlib.Core.Path.{◌≡◌, ap, sym, ◌∙◌, subst}
 use mathlib.Core.List.{List, [], ◌∷◌, ◌++◌}
 use Prim.Native.Nat.{ℕ, ◌+◌, ◌-◌, ◌≤◌}
 use lib.ListN.{length, take, set}
 use Rattle.netlist.specs.declared.Bit.{Bit}
 use Rattle.recorder.specs.declared.Tapes.{Tapes}
 use Rattle.recorder.specs.Writer.{Writer, ◌>>=◌}
-use Rattle.recorder.specs.Lists.{lists, Wrote, WroteExprs, Answer, Answer.Done, Answer.Failed}
-use Rattle.recorder.proofs.Wrote.{wrote_as, Going, going_start, going_step, going-same, going_end}
+use Rattle.recorder.specs.Lists.{lists, WroteExprs, Answer, Answer.Done, Answer.Failed}
+use Rattle.recorder.proofs.Wrote.{Going, going_start, going_step, going-same, going_end}
 use Rattle.wires.specs.Wires.{Wires}
 use Rattle.wires.specs.Expressions.{bitExpression, vectorBit, vectorExpression, concatParts, roomy}
 use Rattle.wires.proofs.Laws.{vectorLeft, vector-start, vector-more, vector-done, parts-step, parts_all, roomy-yes}

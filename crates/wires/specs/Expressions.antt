@@ -1,5 +1,5 @@
 -- Reading wires: a definition for each function of lib.rs that reads through the wire map.
-use Rattle.std.specs.Prelude.{Bool, true, false, ◌&&◌, List, [], ◌∷◌, ◌++◌, ◌≡◌, ℕ, zero, suc, ◌+◌, eqb, leb, length, get_or}
+use Rattle.std.specs.Prelude.{Bool, ◌&&◌, List, [], ◌∷◌, ◌++◌, ◌≡◌, ℕ, zero, suc, ◌+◌, eqb, leb, length, get_or}
 use Rattle.std.proofs.Math.Option.{Option, none, some}
 use Rattle.bits.specs.Bits.{pick}
 use Rattle.refusal.specs.Refusal.{number_of, place_of}
@@ -7,7 +7,7 @@ use Rattle.netlist.specs.declared.Bit.{Bit}
 use Rattle.netlist.specs.declared.Bit.TheVariants.{Zero, One, Wire}
 use Rattle.netlist.specs.declared.Control.{Control}
 use Rattle.recorder.specs.Record.{Expr.read, Expr.concat, Expr.not as complement, Stmt.assign}
-use Rattle.recorder.specs.Writer.{Count, Out, End, End.ok, End.no, Writer, pure, refuse, emit, state, ◌>>=◌}
+use Rattle.recorder.specs.Writer.{Count, End, End.ok, End.no, Writer, pure, refuse, emit, state, ◌>>=◌}
 use Rattle.wires.specs.declared.Constants.{Constants}
 use Rattle.wires.specs.declared.Controlled.{Controlled}
 use Rattle.wires.specs.declared.Controlled.TheVariants.{Signal, Refused}

@@ -1,5 +1,5 @@
 -- The wire map, and the two tables that hold it.
-use Rattle.std.specs.Prelude.{Bool, true, false, List, ℕ, zero, suc, ◌/◌, ◌%◌, eqb, get_or}
+use Rattle.std.specs.Prelude.{List, ℕ, zero, suc, ◌/◌, ◌%◌, eqb, get_or}
 use Rattle.std.proofs.Math.Option.{Option, none, some}
 use Rattle.bits.specs.Bits.{pick}
 use Rattle.wires.specs.declared.Found.{Found}
