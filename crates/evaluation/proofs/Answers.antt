@@ -1,22 +1,21 @@
 -- What the functions that evaluate an expression of each kind ask and leave, in the code's own terms. Assumes nothing.
-use Prim.Native.Nat.{ℕ, zero, suc, ◌+◌, ◌-◌, ◌*◌, ◌≤◌, ◌<◌}
-use mathlib.Core.Path.{◌≡◌, refl, sym, ◌∙◌, ap, ap₂, subst}
-use mathlib.Core.Logic.{◌⊎◌, inl, inr}
-use mathlib.Core.Bool.{Bool, true, false}
-use mathlib.Core.List.{List, [], ◌∷◌, map}
+use Prim.Native.Nat.{ℕ, ◌+◌, ◌-◌, ◌*◌, ◌≤◌, ◌<◌}
+use mathlib.Core.Path.{◌≡◌, refl, sym, ◌∙◌, ap, ap₂}
+use mathlib.Core.Logic.{◌⊎◌, inl}
+use mathlib.Core.Bool.{Bool}
+use mathlib.Core.List.{List, map}
 use native.Mathlib.Omega.{arith}
 use lib.ListN.{length, get_or, set}
-use Rattle.bits.specs.Bits.{Bits, digit, binary, number}
-use Rattle.recorder.specs.Record.{Expr, exprWords}
+use Rattle.bits.specs.Bits.{digit, binary, number}
+use Rattle.recorder.specs.Record.{exprWords}
 use Rattle.recorder.specs.Lists.{over}
 use Rattle.simulation.specs.Run.{exprWidth, isOne}
 use Rattle.simulation.specs.Index.{recordsIn, widthsIn, offset, Indexed}
 use Rattle.simulation.proofs.Offsets.{offset-next}
 use Rattle.evaluation.specs.Bytes.{part, sameBytes, gateOf}
 use Rattle.evaluation.specs.Ready.{exprIn, Ready, Evaluated}
-use Rattle.evaluation.proofs.InBytes.{number_small}
-use Rattle.evaluation.proofs.ByKind.{Operand, Gate, Mux, Const, Equal, Product}
-use Rattle.evaluation.proofs.Evaluating.{own-there, own_room, own-width, operand-before, word-inside, sum_fits, gate-ready, not-ready, mux-ready, const-ready, equal-ready, product-ready, gate-written, mux-one, mux-zero, const-written, equal-written, product-written}
+use Rattle.evaluation.proofs.ByKind.{Operand}
+use Rattle.evaluation.proofs.Evaluating.{own_room, own-width, operand-before, word-inside, sum_fits, gate-ready, not-ready, mux-ready, const-ready, equal-ready, product-ready, gate-written, mux-one, mux-zero, const-written, equal-written, product-written}
 
 -- what `operand` asks of word i
 abbrev pub Asks : List ℕ → List ℕ → ℕ → Type 0
@@ -49,7 +48,7 @@ module _ {exprs table values : List ℕ} {at e : ℕ} (h : Ready exprs table val
       pub gate-asks : (to < length values) × (a < length values) × (b < length values)
       gate-asks =
           let g = (gate-ready h k lo hi).0 in
-          let x = own p g.is-wide in
+          let x = own p g.is_wide in
           let y = place q g.first in
           let z = place r g.second in
           (omega arith, omega arith, omega arith)
@@ -65,7 +64,7 @@ module _ {exprs table values : List ℕ} {at e : ℕ} (h : Ready exprs table val
       pub not-asks : (to < length values) × (a < length values) × (a < length values)
       not-asks =
           let g = (not-ready h k).0 in
-          let x = own p g.is-wide in
+          let x = own p g.is_wide in
           let y = place q g.first in
           (omega arith, omega arith, omega arith)
 

@@ -1,17 +1,15 @@
 -- A value depends only on what its expression needs; consistent values settle the model. Assumes nothing.
-use Prim.Native.Nat.{ℕ, zero, suc, ◌+◌, ◌*◌, ◌≤◌, ◌<◌}
+use Prim.Native.Nat.{ℕ, zero, suc, ◌+◌, ◌*◌, ◌<◌}
 use mathlib.Core.Path.{◌≡◌, refl, sym, ◌∙◌, ap, ap₂, subst}
 use mathlib.Core.Logic.{◌⊎◌, inl, inr, ◌≢◌}
-use mathlib.Core.Bool.{Bool, true, false, ◌&&◌, ◌||◌}
+use mathlib.Core.Bool.{true, ◌&&◌, ◌||◌}
 use mathlib.Core.Bool.{not as flip}
-use mathlib.Core.List.Memᴰ.{append_left as mem-left}
-use mathlib.Core.List.Memᴰ.{append_right as mem-right}
 use mathlib.Core.List.Memᴰ.{cases_cons}
 use mathlib.Core.List.Memᴰ.{eq_of_singleton as singleton}
 use mathlib.Core.List.Memᴰ.{head as here}
 use mathlib.Core.List.Memᴰ.{not-nil}
 use mathlib.Core.List.Memᴰ.{tail as there}
-use mathlib.Core.List.{List, [], ◌∷◌, ◌++◌, append_assoc, append-nil, Memᴰ as Mem}
+use mathlib.Core.List.{List, [], ◌∷◌, ◌++◌, append-nil, Memᴰ as Mem}
 use mathlib.Core.Option.{Option, none, some}
 use native.Mathlib.Omega.{arith}
 use native.Mathlib.Nat.{not-suc-le-zero, zero-add}
@@ -20,7 +18,7 @@ use lib.ListN.{length, get_or, set, length-append, length-map, get_or-append}
 use lib.Seq.{get_or-set_same, get_or-set_other, append_snoc, get_or-append-add}
 use borrow.Author.Tests.{ltb-true}
 use Rattle.bits.specs.Bits.{pick, Bits, binary, number, lowest, window, differ, sameBits}
-use Rattle.settle.specs.Table.{at, tabFrom, length-tab, getD-tab}
+use Rattle.settle.specs.Table.{at, length-tab, getD-tab}
 use Rattle.settle.specs.Tests.{and_left, and_right}
 use Rattle.settle.specs.Loop.{LowestOnLoop, DepsUnder}
 use Rattle.recorder.specs.Record.{Signal, Expr, Stmt, Model}
@@ -31,11 +29,10 @@ use Rattle.simulation.specs.Tick.{given, assigns, become, valuesIn, settle, depe
 use Rattle.simulation.specs.Settled.{IsSettled}
 use Rattle.simulation.specs.Sound.{AllFrom, Sound, signalWidths, exprWidths}
 use Rattle.recorder.proofs.Makes.{keeps-all, length-all}
-use Rattle.recorder.specs.Meaning.{Is}
-use Rattle.simulation.proofs.Settles.{settled-is-settle, settle-settled, settle-length, looped-says}
+use Rattle.simulation.proofs.Settles.{settled-is-settle, settle-settled, looped-says}
 use Rattle.simulation.proofs.Bounds.{reads-under}
 use Rattle.ordering.specs.Order.{listed, needsOf, needs}
-use Rattle.evaluation.specs.Consistent.{assigned, stored, exprAt, computed, Right, Consistent, Settling, ConsistentSettles, operands, signalsOf}
+use Rattle.evaluation.specs.Consistent.{assigned, stored, exprAt, computed, Right, Consistent, ConsistentSettles, operands, signalsOf}
 
 -- WHAT A VALUE DEPENDS ON
 

@@ -1,33 +1,28 @@
 -- Evaluating one expression: where its operands and its value stand, and that what was written is its value. Assumes nothing.
-use Prim.Native.Nat.{ℕ, zero, suc, ◌+◌, ◌-◌, ◌*◌, ◌≤◌, ◌<◌}
+use Prim.Native.Nat.{ℕ, suc, ◌+◌, ◌*◌, ◌≤◌, ◌<◌}
 use mathlib.Core.Path.{◌≡◌, refl, sym, ◌∙◌, ap, ap₂, subst}
-use mathlib.Core.Logic.{◌⊎◌, inl, inr}
-use mathlib.Core.Bool.{Bool, true, false, ◌&&◌}
-use mathlib.Core.List.{List, [], ◌∷◌, ◌++◌, map, Memᴰ as Mem}
-use mathlib.Core.Option.{some}
+use mathlib.Core.Bool.{Bool, true, false}
+use mathlib.Core.List.{List, [], map}
 use native.Mathlib.Omega.{arith}
-use native.Mathlib.Nat.{not-suc-le-zero}
-use lib.ListN.{length, get_or, take, drop, set}
-use lib.Seq.{sets, length-take-le, get_or-take, drop-cons}
-use Rattle.bits.specs.Bits.{pick, Bits, digit, binary, number, sameBits, lowest}
-use Rattle.recorder.specs.Record.{Expr, const, exprWords}
+use lib.ListN.{length, get_or, take, set}
+use lib.Seq.{sets, length-take-le, get_or-take}
+use Rattle.bits.specs.Bits.{pick, Bits, digit, binary, number}
+use Rattle.recorder.specs.Record.{Expr, exprWords}
 use Rattle.recorder.specs.Lists.{over}
-use Rattle.recorder.specs.Read.{readExpr}
-use Rattle.recorder.specs.Evaluate.{Signals, value_of, bit_of, joinedParts, evalExpr}
-use Rattle.simulation.specs.Wellformed.{exprFits, earlier, widthSum}
+use Rattle.recorder.specs.Evaluate.{Signals, value_of, bit_of, evalExpr}
+use Rattle.simulation.specs.Wellformed.{exprFits}
 use Rattle.simulation.specs.Run.{exprWidth, isOne}
 use Rattle.simulation.specs.Index.{recordsIn, widthsIn, offset}
 use Rattle.simulation.proofs.Offsets.{offset-suc, offset-le}
 use Rattle.simulation.proofs.Steps.{width_of, length-widths}
 use Rattle.simulation.proofs.Sound.{expr-width}
 use Rattle.simulation.proofs.Bounds.{value-width}
-use Rattle.evaluation.specs.Consistent.{operands}
 use Rattle.evaluation.specs.Bytes.{part, sameBytes, gateOf, Holds}
 use Rattle.evaluation.specs.Ready.{exprIn, Ready, Evaluated}
 use Rattle.evaluation.proofs.Consistent.{same-value, operands-under}
-use Rattle.evaluation.proofs.InBytes.{part_at, part_length, bits_back, bytes_same}
+use Rattle.evaluation.proofs.InBytes.{bits_back, bytes_same}
 use Rattle.evaluation.proofs.Held.{holds-length, holds-width, holds-part, holds-bit, holds-set}
-use Rattle.evaluation.proofs.ByKind.{Operand, Gate, Mux, Const, Equal, Product, Concat, is-gate, is-not, is-mux, is-const, is-equal, is-product, is-concat, wordsFor, words-enough, words_count, words-first, words-width, no_other, gate-words}
+use Rattle.evaluation.proofs.ByKind.{Operand, Gate, Mux, Const, Equal, Product, is-gate, is-not, is-mux, is-const, is-equal, is-product, wordsFor, words-enough, words_count, gate-words}
 
 subst3 : (P : ℕ → ℕ → ℕ → Type 0) {a b c a' b' c' : ℕ} → a ≡ a' → b ≡ b' → c ≡ c' → P a' b' c' → P a b c
 subst3 P {a} {b} {c} {a'} {b'} {c'} p q r t = subst (λ (i : ℕ). P i b c) (sym p) (subst (λ (i : ℕ). P a' i c) (sym q) (subst (λ (i : ℕ). P a' b' i) (sym r) t))

@@ -1,9 +1,9 @@
 -- The loop that joins the parts of a concat, from the highest bits down. Assumes nothing.
 use Prim.Native.Nat.{ℕ, zero, suc, ◌+◌, ◌-◌, ◌≤◌, ◌<◌}
 use mathlib.Core.Path.{◌≡◌, refl, sym, ◌∙◌, ap, ap₂, subst}
-use mathlib.Core.Logic.{◌⊎◌, inl, inr}
-use mathlib.Core.Bool.{Bool, true, false, ◌&&◌}
-use mathlib.Core.List.{List, [], ◌∷◌, ◌++◌, map}
+use mathlib.Core.Logic.{◌⊎◌, inl}
+use mathlib.Core.Bool.{true, ◌&&◌}
+use mathlib.Core.List.{List, [], ◌∷◌, map}
 use native.Mathlib.Omega.{arith}
 use native.Mathlib.Numerals.{add-one}
 use native.Mathlib.Nat.{add-zero}
@@ -23,7 +23,7 @@ use Rattle.simulation.specs.Index.{recordsIn, widthsIn, offset, Indexed}
 use Rattle.simulation.proofs.Offsets.{offset-next}
 use Rattle.evaluation.specs.Bytes.{part, Holds}
 use Rattle.evaluation.specs.Ready.{exprIn, Ready, Evaluated}
-use Rattle.evaluation.proofs.Held.{holds-length, holds-width, holds-part, map-append}
+use Rattle.evaluation.proofs.Held.{holds-width, holds-part, map-append}
 use Rattle.evaluation.proofs.ByKind.{Concat, is-concat, words-first, words-enough, words-width}
 use Rattle.evaluation.proofs.Evaluating.{offset-before, own-there, own_room, own-width, the_word, word-inside, kind-is, sum_fits, written}
 

@@ -1,15 +1,15 @@
 -- What the tables and an order of all expressions say of a model without a fault. Assumes nothing.
-use Prim.Native.Nat.{ℕ, ◌+◌, ◌≤◌, ◌<◌}
-use mathlib.Core.Path.{◌≡◌, refl, sym, ◌∙◌, ap, subst}
-use mathlib.Core.List.{List, [], Memᴰ as Mem}
+use Prim.Native.Nat.{ℕ, ◌≤◌}
+use mathlib.Core.Path.{◌≡◌, refl, sym, ◌∙◌, subst}
+use mathlib.Core.List.{List, Memᴰ as Mem}
 use mathlib.Core.Option.{none}
 use native.Mathlib.Omega.{arith}
 use native.Mathlib.Nat.{not-suc-le-zero, le_trans}
-use lib.ListN.{length, get_or, take}
+use lib.ListN.{length, take}
 use lib.Seq.{take-take, get_or-take}
 use Rattle.recorder.specs.Record.{Model}
 use Rattle.recorder.specs.Lists.{lists}
-use Rattle.recorder.specs.Read.{readExpr, modelOf}
+use Rattle.recorder.specs.Read.{modelOf}
 use Rattle.recorder.specs.Words.{rawOf}
 use Rattle.simulation.specs.Index.{recordsIn, widthsIn, Indexed, Starts, Driven}
 use Rattle.simulation.specs.Tick.{looped}

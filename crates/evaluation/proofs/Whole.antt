@@ -2,29 +2,27 @@
 use Prim.Native.Nat.{ℕ, zero, suc, ◌+◌, ◌-◌, ◌≤◌, ◌<◌}
 use mathlib.Core.Path.{◌≡◌, refl, sym, ◌∙◌, ap, ap₂, subst}
 use mathlib.Core.Logic.{◌⊎◌, inl, inr}
-use mathlib.Core.Bool.{Bool, true, false, ◌&&◌}
-use mathlib.Core.List.{List, [], ◌∷◌, map, tail}
+use mathlib.Core.Bool.{Bool, true, false}
+use mathlib.Core.List.{List, [], ◌∷◌, map}
 use mathlib.Core.Option.{Option, none, some}
 use native.Mathlib.Omega.{arith}
 use native.Mathlib.Numerals.{add-one}
 use native.Mathlib.Nat.{not-suc-le-zero, add-zero, zero-add}
 use native.Mathlib.Decide.{dec_lt}
 use lib.Dec.{eqb, leb, ltb}
-use lib.ListN.{length, get_or, take, drop, set, length-map, length-drop}
+use lib.ListN.{length, get_or, drop, set, length-drop}
 use lib.Seq.{get_or-drop, length-take-le}
 use borrow.Author.Tests.{eqb-true, ltb-true}
 use Rattle.bits.specs.Bits.{pick, Bits, digit, window}
 use Rattle.settle.specs.Tests.{and_left, and_right}
-use Rattle.recorder.specs.declared.Cut.{Cut}
-use Rattle.recorder.specs.declared.Cut.TheVariants.{Record, End, Broken}
-use Rattle.recorder.specs.Record.{Signal, Expr, Stmt, Model, const, sized, exprWords}
+use Rattle.recorder.specs.declared.Cut.TheVariants.{Record, Broken}
+use Rattle.recorder.specs.Record.{Model, const, sized, exprWords}
 use Rattle.recorder.specs.Lists.{lists, over}
-use Rattle.recorder.specs.Words.{rawOf, Reads, EachReads}
-use Rattle.recorder.specs.Read.{readSignal, readExpr, readStmt, read_all, modelOf}
+use Rattle.recorder.specs.Words.{rawOf, EachReads}
+use Rattle.recorder.specs.Read.{readExpr, read_all, modelOf}
 use Rattle.recorder.specs.Standing.{standing, cut_at}
-use Rattle.recorder.specs.Evaluate.{Signals, evalExpr}
 use Rattle.recorder.proofs.Roundtrip.{expr-said}
-use Rattle.simulation.specs.Wellformed.{wide, suits, widths, exprFits, firstFault}
+use Rattle.simulation.specs.Wellformed.{wide, suits, exprFits}
 use Rattle.simulation.specs.Tick.{given, assigns, become}
 use Rattle.simulation.specs.Sound.{AllFrom, Sound, signalWidths, exprWidths}
 use Rattle.simulation.specs.Index.{size_of, size_at, fields_at, recordsIn, widthsIn, offset, start_of, Indexed, stmtsIn}
@@ -32,12 +30,12 @@ use Rattle.simulation.proofs.Steps.{Walked, walked_start, walked_next, walked-ou
 use Rattle.simulation.proofs.Offsets.{start_first, field_in}
 use Rattle.simulation.proofs.Sound.{sound, exprs-read, signal-widths, expr-widths}
 use Rattle.simulation.proofs.Kept.{assigned-suits}
-use Rattle.evaluation.specs.Consistent.{assigned, exprAt, computed}
+use Rattle.evaluation.specs.Consistent.{assigned, computed}
 use Rattle.evaluation.specs.Bytes.{part, Holds}
 use Rattle.evaluation.specs.Ready.{exprIn, Ready, Evaluated, modelIn, Prepared, Room, Computed}
-use Rattle.evaluation.proofs.Held.{holds-length, holds-window, holds-set}
-use Rattle.evaluation.proofs.ByKind.{Read, is_read, words_count}
-use Rattle.evaluation.proofs.Evaluating.{offset-before, own-there, own_room, own-width, the_word, word-inside, kind-is, count-is, value-wide}
+use Rattle.evaluation.proofs.Held.{holds-window, holds-set}
+use Rattle.evaluation.proofs.ByKind.{Read, is_read}
+use Rattle.evaluation.proofs.Evaluating.{offset-before, own-there, own_room, own-width, word-inside, kind-is, count-is, value-wide}
 
 -- READING RECORDS
 

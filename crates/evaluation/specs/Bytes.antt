@@ -1,5 +1,5 @@
 -- Bits as bytes, one a bit, and the bytes that hold values of given widths one after the other.
-use Rattle.std.specs.Prelude.{ℕ, ◌+◌, ◌≡◌, Bool, true, false, ◌&&◌, ◌||◌, not, List, [], ◌∷◌, ◌++◌, map, eqb, take, drop}
+use Rattle.std.specs.Prelude.{ℕ, ◌≡◌, Bool, true, false, ◌&&◌, ◌||◌, not, List, [], ◌∷◌, ◌++◌, map, eqb, take, drop}
 use Rattle.bits.specs.Bits.{pick, Bits, digit, differ}
 use Rattle.simulation.specs.Run.{flat}
 use Rattle.simulation.proofs.Flat.{Wide}

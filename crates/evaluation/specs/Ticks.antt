@@ -1,7 +1,7 @@
 -- What settling, storing, committing and a whole tick leave in the bytes, for all signals that they may hold.
 use Rattle.std.specs.Prelude.{ℕ, ◌≤◌, ◌<◌, ◌≡◌, length, get_or, take, set}
 use mathlib.Core.List.{List, [], map, Memᴰ as Mem}
-use Rattle.std.proofs.Math.Option.{Option, none}
+use Rattle.std.proofs.Math.Option.{none}
 use Rattle.bits.specs.Bits.{Bits}
 use Rattle.recorder.specs.Record.{Signal, Model}
 use Rattle.recorder.specs.Read.{readSignal, read_all}
