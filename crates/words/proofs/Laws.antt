@@ -5,7 +5,10 @@ use mathlib.Core.List.{List, [], ◌∷◌, ◌++◌}
 use Prim.Native.Nat.{ℕ, zero, suc, ◌+◌, ◌*◌, ◌/◌, ◌≤◌, ◌<◌, min}
 use native.Mathlib.Omega.{arith}
 use lib.ListN.{length, get_or, set, take, drop}
-use lib.Seq.{take-suc, drop-cons, append_snoc, set_at, drop_at, length-take-le}
+use lib.Seq.{take-suc, drop-cons, append_snoc, set_at, drop_at, length-take-le, take-append-le}
+use Rattle.std.specs.declared.option.Option.{Option}
+use Rattle.std.specs.Io.KnownBytes.{Consumes}
+use Rattle.std.proofs.KnownBytes.{Consumes-nil}
 use Rattle.words.specs.Words.{leWord, words_of, Laid, ReadWords}
 
 pub words-length : (bytes : List ℕ) → length (words_of bytes) ≡ length bytes / 4
@@ -66,15 +69,22 @@ unfolding words_of
 laid_none bytes out = record { count = omega arith; words = refl }
 
 -- nothing is read
-pub read_none : (bytes out : List ℕ) (n : ℕ) → ReadWords bytes out n 0 bytes out
-read_none bytes out n = record { came = 0; most = omega arith; laid = laid_none bytes out; kept = refl; roomless = λ h. (refl, refl) }
+pub read_none : (bytes out : List ℕ) (n : ℕ) (left : Option (List ℕ)) → ReadWords bytes out n 0 bytes out left left
+read_none bytes out n left = record { came = 0; most = omega arith; taken = Consumes-nil left; laid = laid_none bytes out; kept = refl; roomless = λ h. (refl, refl) }
 
 -- some bytes come in front of those behind n words
-pub read_some : (bytes front out : List ℕ) (n came : ℕ) {r : ℕ} {out' : List ℕ} → n ≤ length bytes / 4 → length front ≡ length (take (4 * n) bytes) → came ≤ 4 * n
-    → Laid (take came (front ++ drop (4 * n) bytes)) out r out' → ReadWords bytes out n r (front ++ drop (4 * n) bytes) out'
-read_some bytes front out n came room l most laid =
+pub read_some : (bytes front out : List ℕ) (n came : ℕ) {r : ℕ} {out' : List ℕ} (left left' : Option (List ℕ)) → n ≤ length bytes / 4 → length front ≡ length (take (4 * n) bytes) → came ≤ 4 * n
+    → Consumes left left' (take came front) → Laid (take came (front ++ drop (4 * n) bytes)) out r out' → ReadWords bytes out n r (front ++ drop (4 * n) bytes) out' left left'
+read_some bytes front out n came left left' room l most taken laid =
     let e : length (take (4 * n) bytes) ≡ 4 * n = length-take-le (4 * n) bytes (omega (arith, room)) in
-    record { came = came; most = most; laid = laid; kept = drop_at front (drop (4 * n) bytes) (4 * n) (l ∙ e); roomless = λ h. absurd (omega (arith, room, h)) }
+    record {
+      came = came;
+      most = most;
+      taken = subst (Consumes left left') (sym (take-append-le came front (drop (4 * n) bytes) (omega (arith, l, e, most)))) taken;
+      laid = laid;
+      kept = drop_at front (drop (4 * n) bytes) (4 * n) (l ∙ e);
+      roomless = λ h. absurd (omega (arith, room, h));
+    }
 
 -- no more than the room for n words
 pub never-more : (bytes front : List ℕ) (n came : ℕ) → n ≤ length bytes / 4 → length front ≡ length (take (4 * n) bytes) → came ≤ length front → 4 * n < came → ⊥

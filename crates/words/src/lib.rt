@@ -2,9 +2,12 @@
 
 #![tactic(auto)]
 
-ghost use Rattle.std.specs.Prelude.{◌≡◌};
-ghost use Rattle.io.specs.Counts.{IsPrefixLen};
+ghost use Rattle.std.specs.Prelude.{◌≡◌, take};
+ghost use Rattle.std.specs.Io.KnownBytes.{Consumes};
+ghost use Rattle.std.specs.Counts.{IsPrefixLen};
 ghost use Rattle.words.specs.Words.{leWord, Laid, ReadWords};
+
+use std::io::Read;
 
 fn le_word(a: u8, b: u8, c: u8, d: u8) -> u32
     ensures { result ≡ leWord a b c d }
@@ -34,15 +37,33 @@ pub fn words_of(bytes: &[u8], out: &mut [u32]) -> usize
     k
 }
 
-// The next n words of standard input, laid at the start of out, and how many there were.
-pub fn read_words(bytes: &mut [u8], out: &mut [u32], n: usize) -> usize
+// Reads until bytes are full, the input ends or a read fails, and answers how many bytes came to their start.
+pub fn read_full<R: Read>(from: &mut R, bytes: &mut [u8]) -> usize
+    ensures prefix_len { IsPrefixLen result bytes.new }
+    ensures consumed { Consumes (R.remaining from.old) (R.remaining from.new) (take result bytes.new) }
+{
+    let mut done = 0;
+    while done < bytes.len() {
+        let Ok(n) = from.read(&mut bytes[done..]) else {
+            return done;
+        };
+        if n == 0 {
+            return done;
+        }
+        done += n;
+    }
+    done
+}
+
+// The next n words of a reader, as the standard input, laid at the start of out, and how many there were.
+pub fn read_words<R: Read>(from: &mut R, bytes: &mut [u8], out: &mut [u32], n: usize) -> usize
     ensures prefix_len { IsPrefixLen result out.new }
-    ensures read_words { ReadWords bytes.old out.old n result bytes.new out.new }
+    ensures read_words { ReadWords bytes.old out.old n result bytes.new out.new (R.remaining from.old) (R.remaining from.new) }
 {
     if bytes.len() / 4 < n {
         return 0;
     }
-    let got = io::read_full(0, &mut bytes[..4 * n]);
+    let got = read_full(from, &mut bytes[..4 * n]);
     if 4 * n < got {
         return 0;
     }
