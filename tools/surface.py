@@ -1,7 +1,7 @@
 #!/usr/bin/env python3
 """What another crate can call, and what its contract leaves open as far as the text shows it.
 
-  tools/surface.py          prints each function with a `requires`, with no `ensures`, or with a lent `&mut` whose `.exit` no `ensures` names;
+  tools/surface.py          prints each function with a `requires`, with no `ensures`, or with a lent `&mut` whose `.new` no `ensures` names;
                             nothing, and status 0, when all is closed
   tools/surface.py --all    prints every callable function, and behind a colon what is open
 
@@ -51,7 +51,7 @@ def leaves_open(parameters, clauses):
     if not ensured:
         yield 'no ensures'
     for name in re.findall(r"(\w+):\s*&(?:'\w+ )?mut\b", parameters):
-        if not re.search(rf'«?\b{name}\b»? \.exit', ensured):
+        if not re.search(rf'«?\b{name}\b»?\.new\b', ensured):
             yield f'{name} at exit'
 
 
