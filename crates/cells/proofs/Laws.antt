@@ -1,23 +1,21 @@
 -- Refusals handed on as another kind of answer, and the cells' definitions in the form of their code.
 use mathlib.Core.Path.{◌≡◌, refl, ap, sym, ◌∙◌, subst}
-use mathlib.Core.Bool.{Bool, true, false}
-use mathlib.Core.List.{List, [], ◌∷◌, ◌++◌}
-use Prim.Native.Nat.{ℕ, zero, suc, ◌+◌, ◌≤◌, ◌<◌, min}
+use mathlib.Core.List.{List, [], ◌∷◌}
+use Prim.Native.Nat.{ℕ, zero, suc, ◌+◌, ◌≤◌, min}
 use native.Mathlib.Nat.{add-zero}
 use native.Mathlib.Omega.{arith}
-use lib.Dec.{eqb, leb}
-use lib.ListN.{length, get_or, take, drop}
+use lib.Dec.{eqb}
+use lib.ListN.{length, get_or}
 use Rattle.bits.specs.Bits.{pick}
 use Rattle.netlist.specs.declared.Bit.{Bit}
-use Rattle.netlist.specs.declared.Bit.TheVariants.{Zero, One, Wire}
+use Rattle.netlist.specs.declared.Bit.TheVariants.{Zero}
 use Rattle.netlist.specs.Fields.{recordsAt, after, word_at, bit_at, bits_at, wiresAt}
 use Rattle.netlist.proofs.WordLaws.{bit-ahead}
 use Rattle.recorder.specs.declared.Tapes.{Tapes}
 use Rattle.recorder.specs.Record.{Expr.mul}
-use Rattle.recorder.specs.Writer.{Writer, pure, refuse, emit, ◌>>=◌}
-use Rattle.recorder.specs.Lists.{Lists, Answer, Answer.Done, Answer.Failed, Wrote}
+use Rattle.recorder.specs.Writer.{Writer, pure, emit, ◌>>=◌}
+use Rattle.recorder.specs.Lists.{Lists, Answer, Answer.Failed, Wrote}
 use Rattle.recorder.proofs.Wrote.{then-stop}
-use Rattle.recorder.proofs.Events.{bind-pure, bind-refuse, bind_assoc}
 use Rattle.optimize.specs.Rewrite.{xorOf, muxOf}
 use Rattle.optimize.specs.Lut.{lutCofactor}
 use Rattle.wires.specs.Wires.{Wires}

@@ -1,11 +1,11 @@
 -- What each small cell emits: a definition for each function of lib.rs, in its order of events.
-use Rattle.std.specs.Prelude.{Bool, true, false, ◌||◌, List, [], ◌∷◌, ◌++◌, ℕ, eqb, get_or, take, drop}
+use Rattle.std.specs.Prelude.{◌||◌, List, [], ◌∷◌, ◌++◌, ℕ, eqb, get_or, take, drop}
 use Rattle.bits.specs.Bits.{pick}
 use Rattle.netlist.specs.declared.Bit.{Bit}
 use Rattle.netlist.specs.declared.Bit.TheVariants.{Wire}
 use Rattle.netlist.specs.Netlist.{Ccu2c, Pll}
 use Rattle.recorder.specs.Record.{Expr.mul}
-use Rattle.recorder.specs.Writer.{Count, Out, Writer, pure, emit, ◌>>=◌, ◌>>◌}
+use Rattle.recorder.specs.Writer.{Writer, pure, emit, ◌>>=◌, ◌>>◌}
 use Rattle.optimize.specs.Rewrite.{xorOf, muxOf}
 use Rattle.optimize.specs.Lut.{lutCofactor}
 use Rattle.wires.specs.Wires.{Wires}
