@@ -7,7 +7,7 @@ use native.Mathlib.Omega.{arith}
 use lib.ListN.{length, get_or-eq_default}
 use Rattle.netlist.specs.declared.Bit.{Bit}
 use Rattle.netlist.specs.declared.Bit.TheVariants.{Zero}
-use Rattle.recorder.specs.Writer.{Count, Out, Writer, refuse}
+use Rattle.recorder.specs.Writer.{Writer, refuse}
 use Rattle.wires.specs.Expressions.{vectorBit}
 use Rattle.address_mux.specs.Address.{at_most}
 

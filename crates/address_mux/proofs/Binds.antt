@@ -1,7 +1,6 @@
 -- Writers in a row, regrouped.
-use mathlib.Core.Path.{◌≡◌, refl, ap, sym, ◌∙◌, fun_ext}
-use Prim.Native.Nat.{ℕ}
-use Rattle.recorder.specs.Writer.{Count, Out, Writer, pure, ◌>>=◌}
+use mathlib.Core.Path.{◌≡◌, ap, ◌∙◌, fun_ext}
+use Rattle.recorder.specs.Writer.{Writer, pure, ◌>>=◌}
 use Rattle.recorder.proofs.Events.{bind-pure, bind_assoc}
 
 -- the same first, and then the same

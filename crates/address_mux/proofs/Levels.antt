@@ -2,19 +2,19 @@
 use mathlib.Core.Path.{◌≡◌, refl, ap, ap₂, sym, ◌∙◌, subst}
 use mathlib.Core.List.{List, [], ◌∷◌, ◌++◌}
 use Prim.Native.Nat.{ℕ, zero, suc, ◌+◌, ◌-◌, ◌/◌, ◌≤◌, ◌<◌}
-use native.Mathlib.Nat.{add-zero, zero-add, add-suc, suc-add}
+use native.Mathlib.Nat.{add-zero, zero-add}
 use native.Mathlib.Numerals.{add-one}
 use native.Mathlib.Omega.{arith}
-use lib.ListN.{length, get_or, set, length-set}
+use lib.ListN.{length, get_or, set}
 use lib.Seq.{get_or-set_same, get_or-set_other}
 use Rattle.recorder.specs.declared.Tapes.{Tapes}
-use Rattle.recorder.specs.Record.{Expr.or, Expr.mux}
-use Rattle.recorder.specs.Writer.{Count, Out, Writer, pure, refuse, emit, ◌>>=◌}
-use Rattle.recorder.specs.Lists.{lists, Wrote, WroteExprs, Answer, Answer.Done, Answer.Failed}
-use Rattle.recorder.proofs.Wrote.{wrote_as, wrote-pure, Going, going_start, going_step, going-stop, going-same, going_end}
+use Rattle.recorder.specs.Record.{Expr.mux}
+use Rattle.recorder.specs.Writer.{Writer, pure, refuse, emit, ◌>>=◌}
+use Rattle.recorder.specs.Lists.{lists, WroteExprs, Answer, Answer.Done, Answer.Failed}
+use Rattle.recorder.proofs.Wrote.{wrote-pure, Going, going_start, going_step, going-stop, going_end}
 use Rattle.wires.specs.Expressions.{roomy}
 use Rattle.wires.proofs.Laws.{roomy-yes, roomy-no}
-use Rattle.address_mux.specs.AddressMux.{Node, muxLevel, topLevel, muxLevels}
+use Rattle.address_mux.specs.AddressMux.{Node, muxLevel, muxLevels}
 use Rattle.address_mux.specs.Candidates.{nodeAt, nodesFrom, joinNodes}
 use Rattle.address_mux.proofs.Binds.{bind-two}
 

@@ -2,7 +2,7 @@
 use Rattle.std.specs.Prelude.{ℕ, leb}
 use Rattle.bits.specs.Bits.{pick}
 use Rattle.recorder.specs.Record.{Expr.const, Expr.eq}
-use Rattle.recorder.specs.Writer.{Count, Out, Writer, refuse, emit, ◌>>=◌}
+use Rattle.recorder.specs.Writer.{Writer, refuse, emit, ◌>>=◌}
 
 -- the address's expression and its width, the index
 unfoldable pub matchAddress : ℕ → ℕ → ℕ → Writer ℕ

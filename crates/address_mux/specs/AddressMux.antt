@@ -1,7 +1,7 @@
 -- The balanced mux of an address's candidates.
 use Rattle.std.specs.Prelude.{List, [], ◌∷◌, ◌++◌, ℕ, zero, suc, length}
 use Rattle.recorder.specs.Record.{Expr.or, Expr.mux}
-use Rattle.recorder.specs.Writer.{Count, Out, Writer, pure, emit, ◌>>=◌}
+use Rattle.recorder.specs.Writer.{Writer, pure, emit, ◌>>=◌}
 
 -- a candidate of an address: the expression that says it is the one, and the word's
 pub record Node : Type 0 where

@@ -1,13 +1,12 @@
 -- Candidates in two work slices, and the code's answers that hand them over.
 use Rattle.std.specs.Prelude.{List, [], ◌∷◌, ℕ, zero, suc, ◌+◌, ◌/◌, get_or}
-use Rattle.recorder.specs.declared.ExprId.{ExprId}
 use Rattle.recorder.specs.declared.Tapes.{Tapes}
 use Rattle.recorder.specs.declared.Stated.{Stated}
 use Rattle.recorder.specs.declared.Stated.TheVariants as S
 use Rattle.refusal.specs.Refusal.{number_of, place_of}
 use Rattle.recorder.specs.Record.{Expr.or, Expr.mux}
-use Rattle.recorder.specs.Writer.{Count, Out, Writer, pure, emit, ◌>>=◌}
-use Rattle.recorder.specs.Lists.{lists, Wrote, WroteExprs, Answer, Answer.Done, Answer.Failed}
+use Rattle.recorder.specs.Writer.{Writer, pure, emit, ◌>>=◌}
+use Rattle.recorder.specs.Lists.{WroteExprs, Answer, Answer.Done, Answer.Failed}
 use Rattle.address_mux.specs.declared.AddressMuxNode.{AddressMuxNode}
 use Rattle.address_mux.specs.declared.Joined.{Joined}
 use Rattle.address_mux.specs.declared.Joined.TheVariants as J
