@@ -20,7 +20,7 @@ use Rattle.reader.specs.declared.walk.Walk.{Walk}
 use Rattle.reader.specs.declared.walk.Walk.TheVariants.{At, Refused}
 use Rattle.reader.specs.declared.sections.Found as fo
 use Rattle.reader.specs.declared.sections.Cells.{Cells}
-use Rattle.netlist.specs.Netlist.{bit_of, Cell, Port, Netlist}
+use Rattle.netlist.specs.Netlist.{bit_of, Cell, Port}
 use Rattle.netlist.specs.Reader
 use Rattle.netlist.specs.Reader.{netlist, refused, Step, got, fault, Parser, and_then, ◌>>=◌, many, closed, sameBit, clocksAgree, oneClock, firstNot, clocked, withCells, withPorts, trailerFits, sections, withTrailer, readWords}
 use Rattle.netlist.specs.declared.Limits.{Limits}
