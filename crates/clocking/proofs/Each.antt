@@ -2,11 +2,11 @@
 use mathlib.Core.Path.{◌≡◌, refl, ap, sym, ◌∙◌, subst}
 use mathlib.Core.Bool.{◌||◌}
 use mathlib.Core.List.{List, [], ◌∷◌, ◌++◌}
-use Prim.Native.Nat.{ℕ, zero, suc, ◌+◌, ◌≤◌, ◌<◌, min}
+use Prim.Native.Nat.{ℕ, suc, ◌+◌, ◌<◌, min}
 use native.Mathlib.Numerals.{add-one}
 use native.Mathlib.Omega.{arith}
 use lib.Dec.{eqb}
-use lib.ListN.{length, get_or, take, drop}
+use lib.ListN.{length, get_or, drop}
 use lib.Seq.{drop-cons, drop-length}
 use Rattle.bits.specs.Bits.{pick}
 use Rattle.netlist.specs.Fields.{recordsAt, word_at, wiresAt}
@@ -14,7 +14,7 @@ use Rattle.netlist.proofs.RecordLaws.{wires-length, wires-get}
 use Rattle.netlist.proofs.WordLaws.{word-ahead}
 use Rattle.recorder.specs.declared.Tapes.{Tapes}
 use Rattle.recorder.specs.Writer.{Writer, pure, ◌>>=◌}
-use Rattle.recorder.specs.Lists.{lists, Answer, Answer.Done, Answer.Failed, Wrote, WroteStmts}
+use Rattle.recorder.specs.Lists.{lists, Answer, Answer.Done, Answer.Failed, WroteStmts}
 use Rattle.recorder.proofs.Wrote.{wrote-pure, Going, going_start, going_step, going-same, going_end}
 use Rattle.recorder.proofs.Events.{bind-pure, bind_assoc}
 use Rattle.wires.specs.Wires.{Wires}
