@@ -5,7 +5,7 @@ use Prim.Native.Nat.{ℕ, zero, suc, ◌≤◌, ◌<◌}
 use native.Mathlib.Nat.{not-suc-le-zero, le_of_suc-le-suc}
 use native.Mathlib.Omega.{arith}
 use lib.ListN.{length, length-set, take, drop, get_or, set}
-use Rattle.recorder.specs.Writer.{Count, Out, Writer, refuse}
+use Rattle.recorder.specs.Writer.{Writer}
 use Rattle.wires.specs.Expressions.{roomy}
 use Rattle.wires.proofs.Laws.{roomy-yes, roomy-no}
 use Rattle.address_mux.specs.declared.AddressMuxNode.{AddressMuxNode}
@@ -102,9 +102,18 @@ module _ (ns : List AddressMuxNode) (xs zs : List ℕ) (width e : ℕ) where
   abbrev vs : ℕ → List ℕ
   vs i = putUpto (value_of ns) i zs
 
-  pub copied-mux : roomy n (ms m) (roomy n (vs m) (balancedAddressMux width (nodesFrom (ms m) (vs m) 0 n) e)) ≡ muxOfNodes xs zs width ns e
+  copied-mux : roomy n (ms m) (roomy n (vs m) (balancedAddressMux width (nodesFrom (ms m) (vs m) 0 n) e)) ≡ muxOfNodes xs zs width ns e
   copied-mux =
       roomy-as n (ms m) xs _ (length-put (matchedOf ns) m xs)
       ∙ ap (λ (u : Writer ℕ). roomy n xs u) (roomy-as n (vs m) zs _ (length-put (value_of ns) m zs))
       ∙ roomy-both n xs zs _ _ (λ h k.
       ap (λ (l : List Node). balancedAddressMux width l e) (ap (λ (i : ℕ). nodesFrom (ms i) (vs i) 0 n) (sym (copy-all n (length xs) (length zs) h k)) ∙ nodes-copied ns xs zs h k))
+
+-- the two lists as they are once all nodes to copy are copied
+pub mux-copied : (ns : List AddressMuxNode) (xs zs : List ℕ) (width e : ℕ) {i : ℕ} {ps us : List ℕ}
+    → i ≡ toCopy (length ns) (length xs) (length zs) → ps ≡ putUpto (matchedOf ns) i xs → us ≡ putUpto (value_of ns) i zs
+    → muxOfNodes xs zs width ns e ≡ roomy (length ns) ps (roomy (length ns) us (balancedAddressMux width (nodesFrom ps us 0 (length ns)) e))
+mux-copied ns xs zs width e {i} {ps} {us} h p q =
+    sym (ap₂ (λ (l k : List ℕ). roomy (length ns) l (roomy (length ns) k (balancedAddressMux width (nodesFrom l k 0 (length ns)) e)))
+    (p ∙ ap (λ (j : ℕ). putUpto (matchedOf ns) j xs) h) (q ∙ ap (λ (j : ℕ). putUpto (value_of ns) j zs) h)
+    ∙ copied-mux ns xs zs width e)

@@ -1,14 +1,13 @@
 -- How many nodes are copied, the first ones of a list, the bytes of an element, and tests.
-use mathlib.Core.Path.{◌≡◌, refl, sym, ◌∙◌, ap, subst}
-use Prim.Native.Nat.{ℕ, zero, suc, ◌+◌, ◌*◌, ◌≤◌, ◌<◌, ◌^◌}
-use native.Mathlib.Nat.{le_antisymm, not-suc-le-zero, le_of_suc-le-suc}
+use mathlib.Core.Path.{◌≡◌, refl, sym, ap, subst}
+use Prim.Native.Nat.{ℕ, zero, suc, ◌≤◌, ◌<◌}
+use native.Mathlib.Nat.{not-suc-le-zero, le_of_suc-le-suc}
 use native.Mathlib.Omega.{arith}
 use mathlib.Core.Bool.{Bool, true, false, not}
 use mathlib.Core.List.{List, [], ◌∷◌}
 use lib.ListN.{length, take}
-use lib.Dec.{ltb, leb, ltb→lt, nltb→le, T as Holds}
+use lib.Dec.{ltb, ltb→lt, nltb→le, T as Holds}
 use borrow.Author.Tests.{le-leb, lt-leb}
-use Rattle.bits.specs.Bits.{pick}
 use Rattle.nodes.specs.Nodes.{toCopy}
 
 -- ---- how many are copied
@@ -40,9 +39,6 @@ not-of false e = tt
 pub least-of : (i n : ℕ) → ltb i n ≡ false → n ≤ i
 least-of i n e = nltb→le i n (not-of (ltb i n) e)
 
-pub end_of : (i n : ℕ) → i ≤ n → ltb i n ≡ false → i ≡ n
-end_of i n le e = le_antisymm le (least-of i n e)
-
 -- the first number is less than the second, or not
 pub by_size {ℓ} : {X : Type ℓ} (a n : ℕ) → (a < n → X) → (n ≤ a → X) → X
 by_size a n f g = by-test (ltb a n) (λ e. f (less-of a n e)) (λ e. g (least-of a n e))
@@ -54,17 +50,6 @@ copy-fits n a b =
     (λ h. by_size b n
     (λ k. let e = copy-none-2 n a b h k in (omega (arith, e), (omega (arith, e), omega (arith, e))))
     (λ k. let e = copy-all n a b h k in (omega (arith, e), (omega (arith, e, h), omega (arith, e, k)))))
-
--- ---- the byte offset of element i of n elements of 8 bytes fits, and that of a word
-
-pub byte_fits : (i n : ℕ) → i < n → n * 8 < 2 ^ 63 → i * 8 < 2 ^ 64
-byte_fits i n l g = omega (arith, l, g)
-
-pub word_fits : (i n : ℕ) → i < n → n * 8 < 2 ^ 63 → i * 4 < 2 ^ 64
-word_fits i n l g = omega (arith, l, g)
-
-pub one_more : (i : ℕ) → i + 1 ≡ suc i
-one_more i = omega arith
 
 -- ---- the first ones
 

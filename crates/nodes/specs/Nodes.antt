@@ -1,7 +1,7 @@
 -- The balanced mux of a list of candidates, with two work slices.
 use Rattle.std.specs.Prelude.{List, map, ℕ, leb, length}
 use Rattle.bits.specs.Bits.{pick}
-use Rattle.recorder.specs.Writer.{Count, Out, Writer}
+use Rattle.recorder.specs.Writer.{Writer}
 use Rattle.wires.specs.Expressions.{roomy}
 use Rattle.address_mux.specs.declared.AddressMuxNode.{AddressMuxNode}
 use Rattle.address_mux.specs.AddressMux.{balancedAddressMux}
