@@ -1,5 +1,5 @@
 -- The form of an expression, by its kind, shows its value. Assumes nothing.
-use Prim.Native.Nat.{ℕ, zero, suc, ◌+◌, ◌*◌, ◌%◌, ◌≤◌, ◌<◌}
+use Prim.Native.Nat.{ℕ, suc, ◌+◌, ◌*◌, ◌%◌, ◌≤◌, ◌<◌}
 use mathlib.Core.Path.{◌≡◌, refl, sym, ◌∙◌, ap, ap₂, subst}
 use mathlib.Core.Logic.{◌⊎◌, inl, inr}
 use mathlib.Core.Bool.{Bool, true, false}
@@ -20,7 +20,7 @@ use Rattle.simulation.specs.declared.Driver.{Driver}
 use Rattle.simulation.specs.declared.Driver.TheVariants.{None, By}
 use Rattle.simulation.specs.Run.{flat}
 use Rattle.simulation.specs.Tick.{given, assigns, become}
-use Rattle.simulation.specs.Index.{recordsIn, widthsIn, offset, start_of, clipped, stmtsIn, driverOf, driverBy, Indexed, Starts, Driven}
+use Rattle.simulation.specs.Index.{recordsIn, widthsIn, offset, start_of, clipped, stmtsIn, driverOf, driverBy, Indexed, Starts}
 use Rattle.simulation.proofs.Flat.{Wide, flat-part}
 use Rattle.simulation.proofs.Tables.{indexed-read, starts-read, driver-right}
 use Rattle.simulation.proofs.Steps.{length-widths}

@@ -8,7 +8,7 @@ use native.Mathlib.Nat.{pow-succ', zero-add, add-zero}
 use lib.Dec.{eqb}
 use lib.Pow.{pow_mono}
 use borrow.Author.Tests.{eqb-true, eq-eqb, ne_eqb}
-use Rattle.bits.specs.Bits.{pick, Bits, digit, binary, same, sameBits, tableBit}
+use Rattle.bits.specs.Bits.{pick, digit, binary, same, sameBits, tableBit}
 use Rattle.bits.proofs.TableBits.{bit-first, bit-next, bit-none, bit-ones}
 use Rattle.settle.specs.Tests.{and_left, and_right}
 use Rattle.fusing.specs.declared.join.Lut.{Lut}
