@@ -3,7 +3,7 @@
 use mathlib.Core.Path.{◌≡◌, refl, sym, ◌∙◌, ap, ap₂, subst}
 use mathlib.Core.Bool.{Bool, true, false}
 use mathlib.Core.List.{List, [], ◌∷◌, ◌++◌}
-use Prim.Native.Nat.{ℕ, zero, suc, ◌+◌, ◌-◌, ◌≤◌, ◌<◌}
+use Prim.Native.Nat.{ℕ, zero, suc, ◌-◌, ◌≤◌, ◌<◌}
 use native.Mathlib.Omega.{arith}
 use lib.Dec.{eqb, ltb}
 use lib.ListN.{length, get_or, drop, take}
@@ -15,7 +15,7 @@ use Rattle.text.specs.Decimal.{decimal}
 use Rattle.text.specs.Text.{Appended}
 use Rattle.text.proofs.Appending.{then-text, then-full, appended-as}
 use Rattle.lines.specs.Names.{named}
-use Rattle.lines.specs.Lines.{fieldsText, recordText, ownerMark, owned, signalFields, exprFields, optional, regMarks, stmtFields}
+use Rattle.lines.specs.Lines.{fieldsText, recordText, ownerMark, owned, signalFields, exprFields, regMarks, stmtFields}
 
 -- A LINE
 

@@ -1,13 +1,12 @@
 -- Laws of names and fields.
 -- Assumes nothing.
 use mathlib.Core.Path.{◌≡◌, refl, sym, ◌∙◌, ap, ap₂}
-use mathlib.Core.Bool.{Bool, true, false}
+use mathlib.Core.Bool.{Bool}
 use mathlib.Core.List.{List, [], ◌∷◌, ◌++◌}
 use Prim.Native.Nat.{ℕ, zero, suc, ◌+◌, ◌≤◌, ◌<◌}
 use native.Mathlib.Nat.{add-zero, not-suc-le-zero}
 use native.Mathlib.Numerals.{add-one}
 use native.Mathlib.Omega.{arith}
-use lib.Dec.{eqb}
 use lib.ListN.{length, get_or, drop, get_or-eq_default, drop_of_length-le}
 use lib.Seq.{drop-cons, drop-drop, get_or-drop}
 use borrow.Author.Tests.{eq-eqb, ne_eqb}
@@ -29,18 +28,6 @@ module _ (names : List (List ℕ)) {k : ℕ} {out : List ℕ} {at : ℕ} {r : Pl
   pub number_put : length names ≤ k → Appended out at (32 ∷ decimal k) r out' → Appended out at (32 ∷ named names k) r out'
   unfolding named
   number_put h a = appended-as (sym (ap (λ (l : List ℕ). 32 ∷ l) (get_or-eq_default names (decimal k) h))) a
-
--- a number that is none of those below n is not below n
-abbrev pub NoneBelow : ℕ → ℕ → Type 0
-NoneBelow k zero = Unit {0}
-NoneBelow k (suc n) = NoneBelow k n × (k ≡ n → ⊥)
-
-pub none_below : (k n : ℕ) → NoneBelow k n → n ≤ k
-none_below k zero h = omega arith
-none_below k (suc n) h = up (none_below k n h.0) h.1
-  where
-    up : n ≤ k → (k ≡ n → ⊥) → suc n ≤ k
-    up g f = omega arith
 
 -- ONE FIELD
 

@@ -1,7 +1,7 @@
 -- The text of a model's records, one line each, without the line's end.
 -- A line is the record's letter and number, the name of its first field, then its other fields as they stand, each behind a
 -- space and its mark. Every record has a text: what is missing prints nothing, and a field past the marks has the last one.
-use Rattle.std.specs.Prelude.{List, [], ◌∷◌, ◌++◌, ℕ, zero, suc, eqb, ltb, length, get_or, take}
+use Rattle.std.specs.Prelude.{List, [], ◌∷◌, ◌++◌, ℕ, zero, suc, eqb, ltb, get_or, take}
 use Rattle.bits.specs.Bits.{pick}
 use Rattle.text.specs.Decimal.{decimal}
 use Rattle.lines.specs.Ascii.{space, dash, b, c, e, p, s, t}
