@@ -1,6 +1,6 @@
 -- Code: expressions to evaluate, in order, each from what is known by then. One with a form is looked up in its table. A table of words has
 -- first an order of all n expressions, then six words for each one's form; code stands somewhere behind them.
-use Rattle.std.specs.Prelude.{ℕ, ◌+◌, ◌*◌, ◌/◌, ◌%◌, ◌^◌, ◌≤◌, ◌<◌, ◌≡◌, ◌⊎◌, length, get_or, take, drop, set}
+use Rattle.std.specs.Prelude.{ℕ, ◌+◌, ◌*◌, ◌/◌, ◌%◌, ◌^◌, ◌≤◌, ◌<◌, ◌≡◌, ◌⊎◌, length, get_or, drop, set}
 use mathlib.Core.List.{List, [], Memᴰ as Mem}
 use Rattle.bits.specs.Bits.{Bits}
 use Rattle.simulation.specs.Index.{recordsIn, widthsIn, offset}
@@ -9,7 +9,7 @@ use Rattle.ordering.specs.Order.{needs}
 use Rattle.evaluation.specs.Bytes.{Holds}
 use Rattle.evaluation.specs.Ready.{modelIn}
 use Rattle.evaluation.specs.Late.{Among}
-use Rattle.fusing.specs.Form.{Form, formAt, Formed}
+use Rattle.fusing.specs.Form.{Formed}
 
 -- all bits of the records of a list
 abbrev pub bitsIn : List ℕ → ℕ

@@ -1,4 +1,3 @@
 // Theory only: see specs/ and proofs/.
 
 #![tactic(auto)]
-
