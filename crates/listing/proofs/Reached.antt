@@ -1,15 +1,14 @@
 -- Laws of a loop over the records of a list.
 -- Assumes nothing.
 use mathlib.Core.Path.{◌≡◌, refl, sym, ◌∙◌, ap}
-use mathlib.Core.List.{List, [], ◌∷◌, ◌++◌}
-use Prim.Native.Nat.{ℕ, zero, suc, ◌+◌, ◌-◌, ◌≤◌, ◌<◌}
-use native.Mathlib.Numerals.{add-one}
+use mathlib.Core.List.{List, [], ◌++◌}
+use Prim.Native.Nat.{ℕ, suc, ◌+◌, ◌-◌, ◌≤◌}
 use native.Mathlib.Omega.{arith}
 use lib.ListN.{length, take, drop}
 use Rattle.recorder.specs.declared.Cut.{Cut}
 use Rattle.recorder.specs.declared.Cut.TheVariants.{Record, End, Broken}
 use Rattle.recorder.specs.Read as read
-use Rattle.recorder.specs.Standing.{cut_at, splitBy, size_of, size_at}
+use Rattle.recorder.specs.Standing.{cut_at, size_of, size_at}
 use Rattle.recorder.proofs.Reading.{split-as, record-within}
 use Rattle.listing.specs.Listing.{lineText, lines_from, lines_of}
 
