@@ -34,7 +34,7 @@ fn take_answer(exprs: &[u32], from: Tape, r: Emitted, h: u32) -> u32 {
     match r {
         Emitted::Done(e, t) => {
             let last = t.exprs;
-            let k = take_in(h, std::num::wrapping_sub_u32(last.count, from.count));
+            let k = take_in(h, last.count.wrapping_sub(from.count));
             let m = take_words(exprs, from.used, last.used, k);
             take_in(m, e.0)
         }
@@ -64,7 +64,7 @@ fn luts(
     let mut j = 0;
     while j < count {
         h = one_lut(exprs, t, inputs, table, h);
-        table = std::num::wrapping_add_u16(table, step);
+        table = table.wrapping_add(step);
         j += 1;
     }
     h
@@ -149,7 +149,7 @@ fn all_tables(exprs: &mut [u32], t: Tapes, out: &mut [u8]) -> usize {
     while k < 256 {
         let h = luts(exprs, t, inputs, first, 1, 256);
         at = two_numbers(out, at, k, h);
-        first = std::num::wrapping_add_u16(first, 256);
+        first = first.wrapping_add(256);
         k += 1;
     }
     at
@@ -229,9 +229,10 @@ fn run(exprs: &mut [u32], out: &mut [u8]) -> usize {
     all_xors(exprs, t, out, c)
 }
 
-fn main() {
+fn main(rt: HostRuntime) {
     let mut exprs = [0u32; 256];
     let mut out = [0u8; 32768];
     let at = run(&mut exprs, &mut out);
-    flush(&out, at);
+    let mut to = rt.stdout();
+    flush(&mut to, &out, at);
 }
