@@ -122,9 +122,10 @@ fn run(out: &mut [u8], exprs: &mut [u32]) -> usize {
     both(out, d, exprs, nodes, 9)
 }
 
-fn main() {
+fn main(rt: HostRuntime) {
     let mut exprs = [0u32; 256];
     let mut out = [0u8; 4096];
     let at = run(&mut out, &mut exprs);
-    flush(&out, at);
+    let mut to = rt.stdout();
+    flush(&mut to, &out, at);
 }
