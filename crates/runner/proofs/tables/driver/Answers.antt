@@ -1,0 +1,5 @@
+use Rattle.simulation.proofs.Tables.{driver-right}
+use Rattle.runner.proofs.tables.driver.Goals as goal
+
+pub returns : goal.returns
+returns c = driver-right _ _ _ c.driver.ensures c.requires
