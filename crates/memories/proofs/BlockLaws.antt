@@ -2,7 +2,7 @@
 use mathlib.Core.Path.{◌≡◌, refl, ap, ap₂, sym, ◌∙◌}
 use mathlib.Core.Bool.{Bool, true, false}
 use mathlib.Core.List.{List, [], ◌∷◌, ◌++◌}
-use mathlib.Core.Option.{Option, none, some}
+use mathlib.Core.Option.{Option}
 use Prim.Native.Nat.{ℕ, zero, suc, ◌+◌, ◌^◌, ◌≤◌, max}
 use native.Mathlib.Omega.{arith}
 use lib.Dec.{leb}
@@ -11,7 +11,7 @@ use Rattle.netlist.specs.declared.Control.{Control}
 use Rattle.netlist.specs.Netlist.{BlockRam}
 use Rattle.netlist.specs.Reader.{bitsFrom, addressWidth, shift_of}
 use Rattle.behaviour.specs.Behaviour.{shiftIn}
-use Rattle.recorder.specs.Writer.{Count, Out, Writer, pure, ◌>>=◌}
+use Rattle.recorder.specs.Writer.{Writer, ◌>>=◌}
 use Rattle.wires.specs.declared.Constants.{Constants}
 use Rattle.wires.specs.Wires.{Wires}
 use Rattle.wires.specs.Expressions.{bitSignal, vectorExpression, bitsExpression}

@@ -1,17 +1,17 @@
 -- Laws of a distributed RAM.
 use mathlib.Core.Path.{◌≡◌, refl, ap, ap₂, sym, ◌∙◌, subst}
 use mathlib.Core.List.{List, [], ◌∷◌, ◌++◌}
-use mathlib.Core.Option.{Option, none, some}
+use mathlib.Core.Option.{Option, none}
 use Prim.Native.Nat.{ℕ, zero, suc, ◌+◌, ◌-◌, ◌≤◌, ◌<◌}
 use native.Mathlib.Nat.{add-zero}
 use native.Mathlib.Numerals.{add-one}
 use native.Mathlib.Omega.{arith}
-use lib.ListN.{length, get_or}
+use lib.ListN.{get_or}
 use Rattle.netlist.specs.declared.Control.{Control}
 use Rattle.netlist.specs.Netlist.{DistributedRam}
 use Rattle.recorder.specs.declared.Tapes.{Tapes}
 use Rattle.recorder.specs.Record.{Stmt.reg}
-use Rattle.recorder.specs.Writer.{Event, Count, Out, End, End.ok, Writer, pure, state, further, ◌>>=◌}
+use Rattle.recorder.specs.Writer.{Count, End.ok, Writer, pure, state, further, ◌>>=◌}
 use Rattle.recorder.specs.Lists.{Lists, lists, count_of, Wrote, WroteExprs, Answer, Answer.Done, Answer.Failed}
 use Rattle.recorder.proofs.Wrote.{wrote-pure, Going, going_start, going_step, going-stop, going-same, going_end}
 use Rattle.recorder.proofs.Events.{bind_assoc}

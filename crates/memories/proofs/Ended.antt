@@ -1,7 +1,7 @@
 -- What a call that went well says of its writer: its value, and the numbers that its records took.
-use mathlib.Core.Path.{◌≡◌, refl, ap, sym, ◌∙◌, subst}
+use mathlib.Core.Path.{◌≡◌, refl, ap, subst}
 use mathlib.Core.Bool.{Bool, true, false, ◌&&◌}
-use mathlib.Core.List.{List, [], ◌∷◌, ◌++◌}
+use mathlib.Core.List.{List, [], ◌∷◌}
 use Prim.Native.Nat.{ℕ, ◌+◌, ◌≤◌, min}
 use native.Mathlib.Omega.{arith}
 use lib.Dec.{leb}
@@ -10,9 +10,9 @@ use borrow.Author.Tests.{leb-true}
 use Rattle.bits.specs.Bits.{pick}
 use Rattle.recorder.specs.declared.Tape.{Tape}
 use Rattle.recorder.specs.declared.Tapes.{Tapes}
-use Rattle.recorder.specs.Record.{Signal, Expr, Stmt, signalWords, exprWords}
-use Rattle.recorder.specs.Writer.{Event, Event.signal, Event.expr, Event.stmt, Count, further, End, End.ok, End.no, Out, Writer}
-use Rattle.recorder.specs.Lists.{fits, Lists, count_of, Played, Played.going, Played.full, list_of, hasRoom, laid, advanced, put, onward, play, Answer, Answer.Done, Answer.Failed, Left, finish, Wrote}
+use Rattle.recorder.specs.Record.{Signal, Expr, signalWords, exprWords}
+use Rattle.recorder.specs.Writer.{Event, Event.signal, Event.expr, Event.stmt, further, End, End.ok, End.no, Writer}
+use Rattle.recorder.specs.Lists.{fits, Lists, count_of, Played, Played.going, Played.full, list_of, hasRoom, laid, advanced, put, onward, play, Answer.Done, Answer.Failed, Left, finish, Wrote}
 use Rattle.recorder.proofs.Wrote.{play-counts}
 use Rattle.memories.specs.Rams.{Small}
 

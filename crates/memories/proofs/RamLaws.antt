@@ -1,9 +1,9 @@
 -- Laws of a RAM's words.
 use mathlib.Core.Path.{◌≡◌, refl, ap, ap₂, sym, ◌∙◌, subst}
 use mathlib.Core.List.{List, [], ◌∷◌, ◌++◌, map}
-use mathlib.Core.Option.{Option, none, some}
+use mathlib.Core.Option.{Option, none}
 use Prim.Native.Nat.{ℕ, zero, suc, ◌+◌, ◌-◌, ◌≤◌, ◌<◌}
-use native.Mathlib.Nat.{add-zero, zero-add, not-suc-le-zero, le_of_suc-le-suc}
+use native.Mathlib.Nat.{add-zero, not-suc-le-zero, le_of_suc-le-suc}
 use native.Mathlib.Numerals.{add-one}
 use native.Mathlib.Omega.{arith}
 use lib.ListN.{length, take, set}
@@ -11,21 +11,19 @@ use Rattle.refusal.specs.declared.Refusal.{Refusal}
 use Rattle.recorder.specs.declared.Tapes.{Tapes}
 use Rattle.recorder.specs.declared.Stated.{Stated}
 use Rattle.recorder.specs.declared.Stated.TheVariants as S
-use Rattle.recorder.specs.Record.{Expr.const, Expr.and, Expr.mux, Expr.eq, Stmt.reg}
-use Rattle.recorder.specs.Writer.{Event, Count, Out, End, End.ok, Writer, pure, emit, state, further, ◌>>=◌}
+use Rattle.recorder.specs.Record.{Expr.and, Expr.mux, Stmt.reg}
+use Rattle.recorder.specs.Writer.{Count, End.ok, Writer, pure, emit, state, further, ◌>>=◌}
 use Rattle.recorder.specs.Lists.{Lists, lists, count_of, Wrote, WroteExprs, WroteStmts, Answer, Answer.Done, Answer.Failed, stated}
-use Rattle.recorder.proofs.Wrote.{wrote_as, wrote-pure, then-stop, Going, going_start, going_step, going-stop, going-same, going_end}
+use Rattle.recorder.proofs.Wrote.{wrote-pure, then-stop, Going, going_start, going_step, going-stop, going-same, going_end}
 use Rattle.recorder.proofs.Events.{bind_assoc}
-use Rattle.memories.specs.declared.Port.{Port}
 use Rattle.memories.specs.declared.Second.{Second}
 use Rattle.memories.specs.declared.Second.TheVariants as B
-use Rattle.memories.specs.declared.Words.{Words}
 use Rattle.address_mux.specs.AddressMux.{Node}
 use Rattle.address_mux.specs.declared.AddressMuxNode.{AddressMuxNode}
 use Rattle.address_mux.specs.Candidates.{node_of}
-use Rattle.memories.specs.Memories.{Word, PortExprs, writeWord, writeSecond, ramWord, ramWords, candidatesFrom, updateWords}
+use Rattle.memories.specs.Memories.{Word, PortExprs, writeWord, ramWord, ramWords, candidatesFrom, updateWords}
 use Rattle.address_mux.specs.Address.{matchAddress}
-use Rattle.memories.specs.Rams.{WroteWords, secondWriting, lastOf, wordsFrom, reach, words_of, Small, Spaced, filled}
+use Rattle.memories.specs.Rams.{WroteWords, secondWriting, lastOf, wordsFrom, reach, Small, filled}
 use Rattle.memories.proofs.Ended.{ended-value, ended-played, ended-count, small_word}
 
 -- ONE WORD

@@ -1,8 +1,8 @@
 -- Laws of a read port.
 use mathlib.Core.Path.{◌≡◌, refl, ap, ap₂, sym, ◌∙◌, fun_ext}
-use mathlib.Core.List.{List, [], ◌∷◌, map}
+use mathlib.Core.List.{List, [], map}
 use mathlib.Core.Option.{Option, none, some}
-use Prim.Native.Nat.{ℕ, ◌+◌, ◌≤◌, ◌<◌}
+use Prim.Native.Nat.{ℕ, ◌≤◌}
 use native.Mathlib.Nat.{add-zero}
 use native.Mathlib.Omega.{arith}
 use lib.ListN.{length, take, get_or}
@@ -12,7 +12,7 @@ use Rattle.netlist.specs.Fields.{recordsAt, word_at, wiresAt}
 use Rattle.netlist.proofs.RecordLaws.{wires-get}
 use Rattle.recorder.specs.declared.Tapes.{Tapes}
 use Rattle.recorder.specs.Record.{RegEnable, Stmt.reg}
-use Rattle.recorder.specs.Writer.{Count, Out, Writer, pure, refuse, state, ◌>>=◌}
+use Rattle.recorder.specs.Writer.{Writer, pure, refuse, state, ◌>>=◌}
 use Rattle.recorder.specs.Lists.{WroteExprs, Answer, Answer.Done, Answer.Failed}
 use Rattle.recorder.proofs.Wrote.{wrote_as, then-done, then-stop}
 use Rattle.recorder.proofs.Events.{bind-pure, bind-refuse, bind_assoc}
@@ -20,13 +20,13 @@ use Rattle.wires.specs.declared.Constants.{Constants}
 use Rattle.wires.specs.declared.Controlled.{Controlled}
 use Rattle.wires.specs.declared.Controlled.TheVariants.{Signal, Refused}
 use Rattle.wires.specs.Wires.{WireRef, Wires}
-use Rattle.wires.specs.Expressions.{wireRef, roomy, controlled, Reads}
+use Rattle.wires.specs.Expressions.{roomy, controlled, Reads}
 use Rattle.wires.proofs.Laws.{ref-held, ref-missing, roomy-yes}
 use Rattle.memories.specs.declared.ClockEnabled.{ClockEnabled}
 use Rattle.memories.specs.declared.Port.{Port}
 use Rattle.memories.specs.declared.Second.{Second}
 use Rattle.memories.specs.declared.Second.TheVariants as B
-use Rattle.address_mux.specs.AddressMux.{Node, balancedAddressMux}
+use Rattle.address_mux.specs.AddressMux.{balancedAddressMux}
 use Rattle.address_mux.specs.declared.AddressMuxNode.{AddressMuxNode}
 use Rattle.address_mux.specs.Address.{at_most}
 use Rattle.address_mux.specs.Candidates.{node_of}
@@ -34,7 +34,7 @@ use Rattle.address_mux.proofs.Addresses.{at-most-yes}
 use Rattle.nodes.specs.Nodes.{muxOfNodes}
 use Rattle.nodes.proofs.Laws.{length-first}
 use Rattle.memories.specs.Memories.{Word, PortExprs, candidatesFrom, enableOf, nextRead, emitBlockRamReadPort, emitSecondReadPort}
-use Rattle.memories.specs.Rams.{portOf, second_of, reading, wordsFrom, selectWord, readRegister}
+use Rattle.memories.specs.Rams.{portOf, second_of, reading, selectWord, readRegister}
 use Rattle.memories.specs.Steps.{pickWord}
 use Rattle.address_mux.proofs.Binds.{bind-cong}
 

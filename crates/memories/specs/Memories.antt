@@ -6,7 +6,7 @@ use Rattle.netlist.specs.Netlist.{SecondPort, BlockRam, DistributedRam}
 use Rattle.netlist.specs.Reader.{addressWidth, shift_of}
 use Rattle.behaviour.specs.Behaviour.{shiftIn}
 use Rattle.recorder.specs.Record.{Signal, RegEnable, Expr.const, Expr.read, Expr.and, Expr.mux, Expr.eq, Stmt.reg}
-use Rattle.recorder.specs.Writer.{Count, Out, Writer, pure, declare, emit, state, ◌>>=◌, ◌>>◌}
+use Rattle.recorder.specs.Writer.{Writer, pure, declare, emit, state, ◌>>=◌, ◌>>◌}
 use Rattle.wires.specs.declared.Constants.{Constants}
 use Rattle.wires.specs.Wires.{Wires}
 use Rattle.wires.specs.Expressions.{wireRef, bitSignal, assertedExpression, vectorExpression, bitsExpression, assignWire}

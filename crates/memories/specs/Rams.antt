@@ -1,5 +1,5 @@
 -- What the RAMs' functions hand over: the expressions of ports, words by their numbers, and which lists a call writes.
-use Rattle.std.specs.Prelude.{List, [], ◌∷◌, ◌≡◌, ℕ, zero, suc, ◌+◌, ◌≤◌, max, get_or}
+use Rattle.std.specs.Prelude.{List, [], ◌∷◌, ◌≡◌, ℕ, zero, suc, ◌+◌, ◌≤◌, max}
 use Rattle.std.proofs.Math.Option.{Option, none, some}
 use Rattle.refusal.specs.Refusal.{number_of, place_of}
 use Rattle.netlist.specs.declared.Bit.{Bit}
@@ -9,9 +9,9 @@ use Rattle.netlist.specs.Fields.{word_at, bit_at, bits_at, wiresAt, controlAt}
 use Rattle.recorder.specs.declared.Tapes.{Tapes}
 use Rattle.recorder.specs.declared.Stated.{Stated}
 use Rattle.recorder.specs.declared.Stated.TheVariants as S
-use Rattle.recorder.specs.Record.{RegEnable, Expr.const, Expr.eq, Expr.mux, Stmt.reg}
-use Rattle.recorder.specs.Writer.{Count, Out, Writer, pure, refuse, emit, state, ◌>>=◌}
-use Rattle.recorder.specs.Lists.{lists, Wrote, WroteExprs, Answer, Answer.Done, Answer.Failed, stated, enableOf as recorded}
+use Rattle.recorder.specs.Record.{RegEnable, Expr.const, Stmt.reg}
+use Rattle.recorder.specs.Writer.{Writer, pure, refuse, emit, state, ◌>>=◌}
+use Rattle.recorder.specs.Lists.{lists, Wrote, Answer, Answer.Done, Answer.Failed, enableOf as recorded}
 use Rattle.wires.specs.declared.Constants.{Constants}
 use Rattle.wires.specs.Wires.{Wires}
 use Rattle.wires.specs.Expressions.{wireRef, assertedExpression, vectorExpression, bitsExpression, roomy}
@@ -33,8 +33,8 @@ use Rattle.memories.specs.declared.Worded.{Worded}
 use Rattle.memories.specs.declared.Worded.TheVariants as W
 use Rattle.memories.specs.declared.Words.{Words}
 use Rattle.address_mux.specs.Address.{at_most}
-use Rattle.address_mux.specs.AddressMux.{Node, balancedAddressMux}
-use Rattle.memories.specs.Memories.{Word, PortExprs, Gate, gate, writeSecond, ramWord, ramWords, candidatesFrom, enableOf, nextRead, emitBlockRam}
+use Rattle.address_mux.specs.AddressMux.{balancedAddressMux}
+use Rattle.memories.specs.Memories.{Word, PortExprs, Gate, gate, candidatesFrom, enableOf, nextRead, emitBlockRam}
 
 -- ---- which lists a call writes, whatever the others hold
 

@@ -1,5 +1,5 @@
 -- The steps of a block RAM and of a distributed RAM that functions of the code write.
-use Rattle.std.specs.Prelude.{List, [], ◌∷◌, ◌≡◌, ℕ, ◌+◌, ◌≤◌}
+use Rattle.std.specs.Prelude.{List, [], ◌≡◌, ℕ, ◌+◌, ◌≤◌}
 use Rattle.std.proofs.Math.Option.{Option, none}
 use Rattle.netlist.specs.Netlist.{SecondPort}
 use Rattle.netlist.specs.Fields.{word_at, firstSize, secondPortAt}
@@ -7,7 +7,7 @@ use Rattle.recorder.specs.declared.Tapes.{Tapes}
 use Rattle.recorder.specs.declared.Stated.{Stated}
 use Rattle.recorder.specs.declared.Stated.TheVariants as S
 use Rattle.recorder.specs.Record.{Expr.const, Expr.mux, Stmt.reg}
-use Rattle.recorder.specs.Writer.{Count, Out, Writer, pure, emit, state, ◌>>=◌, ◌>>◌}
+use Rattle.recorder.specs.Writer.{Writer, pure, emit, state, ◌>>=◌, ◌>>◌}
 use Rattle.recorder.specs.Lists.{Lists, Wrote}
 use Rattle.wires.specs.declared.Constants.{Constants}
 use Rattle.wires.specs.Wires.{Wires}
