@@ -1,7 +1,6 @@
 -- The P case of document 01 that lowering decides, and small netlists for each refusal, exactly full lists, PLL wires and banks.
 use Rattle.std.specs.Prelude.{◌≡◌, refl, List, [], ◌∷◌, ◌++◌, map, ℕ}
 use Rattle.netlist.specs.Reader.{base}
-use Rattle.recorder.specs.declared.Tapes.{Tapes}
 use Rattle.recorder.specs.Writer.{◌>>=◌}
 use Rattle.recorder.specs.Lists.{play, fits, over}
 use Rattle.behaviour.specs.Banks.{collectFlipFlopBanks, banksFrom, leadersFrom, flipFlopsFrom, bankIn, members_of}
@@ -13,7 +12,7 @@ use Rattle.address_mux.specs.AddressMux.{muxLevel, muxLevels}
 use Rattle.memories.specs.Memories.{gate, writeWord, ramWord, ramWords, candidatesFrom, emitBlockRamReadPort, updateWords, emitBlockRam}
 use Rattle.lowering.specs.Reserve.{insertWire, insertBits, insertWires, reserveScalar, reserveScalars, reserveVector, reserveAbsent, reserveCellOutput, reserveCells, reservePort, reservePorts, reserveFlipFlopBanks}
 use Rattle.lowering.specs.Emit.{nextBit, nextBits, resetBits, emitFlipFlopBank, emitBanks, emitCell, emitCells, emitOutputs}
-use Rattle.lowering.specs.Lower.{Lowered, Accepted, Refused, Lowering, lowered, lowerNetlist, reserveNetlist, emitNetlist, emitConstants, overdrivenFrom, statementsOn, lowerWords}
+use Rattle.lowering.specs.Lower.{Lowered, Accepted, Refused, lowered, lowerNetlist, reserveNetlist, emitNetlist, emitConstants, overdrivenFrom, statementsOn, lowerWords}
 
 -- words; the lengths of the three lists; the counts of an accepted model, or number and place
 pub record Row : Type 0 where

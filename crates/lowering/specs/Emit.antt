@@ -1,5 +1,5 @@
 -- What cells, banks and output ports emit: a definition for each function of lib.rs, in its order of events.
-use Rattle.std.specs.Prelude.{Bool, true, false, List, [], ◌∷◌, ◌++◌, ℕ, zero, suc, eqb}
+use Rattle.std.specs.Prelude.{List, [], ◌∷◌, ℕ, suc, eqb}
 use Rattle.std.proofs.Math.Option.{Option, none, some}
 use Rattle.bits.specs.Bits.{pick}
 use Rattle.netlist.specs.declared.Control.{Control}
@@ -7,9 +7,9 @@ use Rattle.netlist.specs.declared.Reset.{Reset}
 use Rattle.netlist.specs.Netlist.{FlipFlop, Port, Cell, Cell.lut4, Cell.pfumx, Cell.l6mux21, Cell.ccu2c, Cell.multiplier, Cell.flipFlop, Cell.blockRam, Cell.distributedRam, Cell.io, Cell.jtagg, Cell.pll}
 use Rattle.behaviour.specs.Banks.{Member, Bank, asyncReset}
 use Rattle.recorder.specs.Record.{Expr.mux, RegReset, Stmt.assign, Stmt.reg}
-use Rattle.recorder.specs.Writer.{Count, Out, Writer, pure, refuse, emit, state, ◌>>=◌, ◌>>◌}
+use Rattle.recorder.specs.Writer.{Writer, pure, refuse, emit, state, ◌>>=◌, ◌>>◌}
 use Rattle.wires.specs.declared.Constants.{Constants}
-use Rattle.wires.specs.Wires.{WireRef, Wires}
+use Rattle.wires.specs.Wires.{Wires}
 use Rattle.wires.specs.Expressions.{wireRef, readRef, bitExpression, bitSignal, assertedExpression, concatParts, bitsExpression}
 use Rattle.cells.specs.Cells.{emitLut4, emitPfumx, emitL6mux21, emitCcu2c, emitMultiplier, emitIo, emitIdleJtagg, emitCyclePll}
 use Rattle.memories.specs.Memories.{emitBlockRam, emitDistributedRam}

@@ -1,16 +1,16 @@
 -- The lowering: what a netlist gives in lists of so many words, or its refusal.
-use Rattle.std.specs.Prelude.{List, [], ◌∷◌, ◌++◌, ℕ, zero, suc, ◌+◌, eqb, leb, length}
+use Rattle.std.specs.Prelude.{List, [], ◌∷◌, ℕ, suc, ◌+◌, eqb, leb}
 use Rattle.std.proofs.Math.Option.{Option, none, some}
 use Rattle.bits.specs.Bits.{pick}
 use Rattle.netlist.specs.declared.Limits.{Limits}
 use Rattle.netlist.specs.Netlist.{Netlist}
 use Rattle.netlist.specs.Reader.{Read, netlist, refused, readWords}
 use Rattle.behaviour.specs.Banks.{collectFlipFlopBanks}
-use Rattle.recorder.specs.Record.{Signal, Expr.const, Stmt, Stmt.assign, Stmt.reg, Model, target}
+use Rattle.recorder.specs.Record.{Signal, Expr.const, Stmt, Stmt.assign, target}
 use Rattle.recorder.specs.declared.Tape.{Tape}
 use Rattle.recorder.specs.declared.Tapes.{Tapes}
-use Rattle.recorder.specs.Writer.{Count, Out, Writer, pure, declare, emit, state, ◌>>=◌, ◌>>◌, modelOf}
-use Rattle.recorder.specs.Lists.{Lists, lists, tapes, Answer, Answer.Done, Answer.Failed, Left, writing}
+use Rattle.recorder.specs.Writer.{Writer, pure, declare, emit, state, ◌>>=◌, ◌>>◌, modelOf}
+use Rattle.recorder.specs.Lists.{Lists, tapes, Answer, Answer.Done, Answer.Failed, writing}
 use Rattle.recorder.specs.Words.{blank}
 use Rattle.wires.specs.declared.Constants.{Constants}
 use Rattle.wires.specs.Wires.{Wires, noWires}

@@ -1,5 +1,5 @@
 -- The signals that ports, cells and banks reserve, and the wires that they hold: a definition for each function of lib.rs.
-use Rattle.std.specs.Prelude.{Bool, true, false, List, [], ◌∷◌, ◌++◌, ℕ, zero, suc, eqb, length}
+use Rattle.std.specs.Prelude.{List, [], ◌∷◌, ℕ, suc, eqb, length}
 use Rattle.std.proofs.Math.Option.{Option, none, some}
 use Rattle.bits.specs.Bits.{pick}
 use Rattle.netlist.specs.declared.Bit.{Bit}
@@ -7,7 +7,7 @@ use Rattle.netlist.specs.declared.Bit.TheVariants.{Zero, One, Wire}
 use Rattle.netlist.specs.Netlist.{Port, SecondPort, Cell, Cell.lut4, Cell.pfumx, Cell.l6mux21, Cell.ccu2c, Cell.multiplier, Cell.flipFlop, Cell.blockRam, Cell.distributedRam, Cell.io, Cell.jtagg, Cell.pll}
 use Rattle.behaviour.specs.Banks.{Bank, outputsOf}
 use Rattle.recorder.specs.Record.{Signal}
-use Rattle.recorder.specs.Writer.{Count, Out, Writer, pure, refuse, declare, ◌>>=◌}
+use Rattle.recorder.specs.Writer.{Writer, pure, refuse, declare, ◌>>=◌}
 use Rattle.wires.specs.Wires.{WireRef, Wires, put}
 
 abbrev pub insertAt : Option WireRef → Wires → ℕ → WireRef → Writer Wires
