@@ -2,19 +2,19 @@
 -- Assumes nothing.
 use mathlib.Core.Path.{◌≡◌, refl, ap, ap₂, sym, ◌∙◌, subst}
 use mathlib.Core.Bool.{Bool, true, false, not, ◌&&◌}
-use mathlib.Core.List.{List, [], ◌∷◌, ◌++◌, append-nil, append_assoc, map}
+use mathlib.Core.List.{List, [], ◌∷◌, ◌++◌, append-nil, append_assoc}
 use mathlib.Core.Option.{Option, none, some}
 use Prim.Native.Nat.{ℕ, zero, suc, ◌+◌, ◌<◌}
 use lib.Dec.{eqb}
 use lib.ListN.{length, get_or}
 use borrow.Author.Tests.{eqb-true}
-use Rattle.bits.specs.Bits.{pick, Bits, lowest, same}
+use Rattle.bits.specs.Bits.{pick, Bits, same}
 use Rattle.netlist.specs.declared.Bit.{Bit}
 use Rattle.netlist.specs.declared.Bit.TheVariants.{Zero, One, Wire}
 use Rattle.netlist.specs.declared.Control.{Control}
-use Rattle.recorder.specs.Record.{Expr.not as complement, Expr.concat}
+use Rattle.recorder.specs.Record.{Expr.not as complement}
 use Rattle.recorder.specs.Writer.{Writer, emit, pure, ◌>>=◌}
-use Rattle.recorder.specs.Evaluate.{Signals, Values, value_of, joinedParts, evalExpr}
+use Rattle.recorder.specs.Evaluate.{Signals, Values, value_of, joinedParts}
 use Rattle.recorder.specs.Meaning.{Is, Keeps, Base, Makes, Means}
 use Rattle.recorder.proofs.Makes.{base-keeps, makes-pure, makes-refuse, means-emit, makes-bind, makes_so}
 use Rattle.optimize.specs.Claims.{Inputs}

@@ -2,30 +2,30 @@
 -- Assumes nothing.
 use mathlib.Core.Path.{◌≡◌, refl, ap, ap₂, sym, ◌∙◌, subst}
 use mathlib.Core.Bool.{Bool, true, false, ◌||◌}
-use mathlib.Core.List.{List, [], ◌∷◌, ◌++◌, map}
+use mathlib.Core.List.{List, [], ◌∷◌, ◌++◌}
 use mathlib.Core.Option.{Option, none, some}
-use Prim.Native.Nat.{ℕ, zero, suc, ◌+◌, ◌*◌, ◌^◌, ◌≤◌, ◌<◌}
+use Prim.Native.Nat.{ℕ, zero, suc, ◌*◌, ◌^◌, ◌<◌}
 use native.Mathlib.Omega.{arith}
 use lib.Dec.{eqb}
 use lib.ListN.{length, get_or, take, drop, length-map}
 use borrow.Author.Tests.{eqb-true}
-use Rattle.bits.specs.Bits.{pick, Bits, number, binary, differ, tableBit}
+use Rattle.bits.specs.Bits.{pick, Bits, number, binary}
 use Rattle.netlist.specs.declared.Bit.{Bit}
-use Rattle.netlist.specs.declared.Bit.TheVariants.{Zero, One, Wire}
+use Rattle.netlist.specs.declared.Bit.TheVariants.{Wire}
 use Rattle.netlist.specs.Netlist.{Ccu2c, Pll, Port}
-use Rattle.recorder.specs.Record.{Expr.mul, Stmt.assign}
-use Rattle.recorder.specs.Writer.{Writer, pure, refuse, emit, state, ◌>>=◌}
-use Rattle.recorder.specs.Evaluate.{Signals, Values, value_of}
-use Rattle.recorder.specs.Meaning.{Is, Keeps, Base, Makes, Means}
-use Rattle.recorder.proofs.Makes.{base-keeps, makes-pure, makes_so, means-emit}
-use Rattle.optimize.specs.Rewrite.{xorOf, muxOf}
+use Rattle.recorder.specs.Record.{Stmt.assign}
+use Rattle.recorder.specs.Writer.{Writer, pure, state, ◌>>=◌}
+use Rattle.recorder.specs.Evaluate.{Signals, Values}
+use Rattle.recorder.specs.Meaning.{Is, Keeps, Base, Means}
+use Rattle.recorder.proofs.Makes.{base-keeps, means-emit}
+use Rattle.optimize.specs.Rewrite.{muxOf}
 use Rattle.optimize.specs.Lut.{lutCofactor}
 use Rattle.optimize.specs.Claims.{Inputs}
 use Rattle.optimize.proofs.Muxes.{by-test, means-as, mux-means, xor-means}
 use Rattle.optimize.proofs.Luts.{inputs-keep, lut-means}
 use Rattle.behaviour.specs.Behaviour.{Valuation, value, values, lookTable, CcuRow, ccuRow as row_of, level}
 use Rattle.wires.specs.Wires.{WireRef, Wires}
-use Rattle.wires.specs.Expressions.{refOf, wireRef, bitExpression, readBits, vectorExpression, bitsExpression, assignWire}
+use Rattle.wires.specs.Expressions.{bitExpression, bitsExpression, assignWire}
 use Rattle.cells.specs.Cells.{emitLut4, emitPfumx, emitL6mux21, emitIo, emitMultiplier, ccuRow, emitCcu2c, assignAll, emitIdleJtagg, pllClocks, emitCyclePll}
 use Rattle.lowering.specs.Emit.{emitOutputs}
 use Rattle.meaning.specs.Held.{held, valuesAt, Driven}

@@ -1,19 +1,17 @@
 -- Block RAM and distributed RAM, in a tick.
 -- Assumes nothing.
 use mathlib.Core.Path.{◌≡◌, refl, ap, ap₂, sym, ◌∙◌, subst}
-use mathlib.Core.Bool.{Bool, true, false, ◌&&◌}
+use mathlib.Core.Bool.{Bool, true, ◌&&◌}
 use mathlib.Core.List.{List, [], ◌∷◌, ◌++◌, append-nil, append_assoc, map}
 use mathlib.Core.Option.{Option, none, some}
-use Prim.Native.Nat.{ℕ, zero, suc, ◌+◌, ◌≤◌, ◌<◌}
+use Prim.Native.Nat.{ℕ, zero, suc, ◌+◌}
 use native.Mathlib.Omega.{arith}
 use lib.ListN.{length, get_or, length-append, length-map}
-use Rattle.bits.specs.Bits.{pick, Bits, lowest, window, binary, sameBits}
-use Rattle.netlist.specs.declared.Bit.{Bit}
+use Rattle.bits.specs.Bits.{pick, Bits, window, binary, sameBits}
 use Rattle.netlist.specs.declared.Control.{Control}
 use Rattle.netlist.specs.Netlist.{SecondPort, BlockRam, DistributedRam}
 use Rattle.netlist.specs.Reader.{addressWidth, shift_of}
-use Rattle.recorder.specs.Record.{Expr.const, Expr.read, Expr.eq, Stmt.reg, RegEnable}
-use Rattle.recorder.specs.Writer.{Writer, pure, declare, emit, state, ◌>>=◌}
+use Rattle.recorder.specs.Record.{Expr.const, Expr.read, RegEnable}
 use Rattle.recorder.specs.Evaluate.{Signals, Values}
 use Rattle.recorder.specs.Meaning.{Is, Keeps, Base, Makes, Means}
 use Rattle.recorder.proofs.Makes.{base-keeps, makes-pure, makes-bind, makes_so, makes-declare, means-emit}
@@ -21,10 +19,10 @@ use Rattle.optimize.proofs.Muxes.{and-value, mux-value}
 use Rattle.behaviour.specs.Behaviour.{Valuation, asserted, enabled, shiftIn}
 use Rattle.wires.specs.declared.Constants.{Constants}
 use Rattle.wires.specs.Wires.{WireRef, Wires}
-use Rattle.address_mux.specs.AddressMux.{Node, balancedAddressMux}
+use Rattle.address_mux.specs.AddressMux.{Node}
 use Rattle.memories.specs.Memories.{Word, PortExprs, gate, writeWord, writeSecond, ramWord, ramWords, candidatesFrom, enableOf, nextRead, emitBlockRamReadPort, emitSecondReadPort, updateWords, secondExprs, emitBlockRam, dramWords, dramSelect, emitDistributedRam}
 use Rattle.meaning.specs.Held.{held, valuesAt, Driven, Choice, lastChoice}
-use Rattle.meaning.specs.Settles.{Tick, enableNow, RegOn, Holds, Settles, Gets}
+use Rattle.meaning.specs.Settles.{Tick, enableNow, RegOn, Settles, Gets}
 use Rattle.meaning.proofs.Settling.{gets-pure, gets-bind, gets_so, gets-any, settles-both, settles-makes, settles-gets, settles-state, settles-pure, settles-bind, settles-so}
 use Rattle.meaning.proofs.BitReads.{ref-gets, IsSignal, signal-gets, asserted-means, bits-means, vector-means}
 use Rattle.meaning.proofs.Tree.{Nodes, nodes-keep, nodes-snoc, tree-means}

@@ -1,36 +1,34 @@
 -- Banks of flip-flops, in a tick: each bit takes what the tick rule gives for its flip-flop.
 -- Assumes nothing.
 use mathlib.Core.Path.{◌≡◌, refl, ap, ap₂, sym, ◌∙◌, subst}
-use mathlib.Core.Bool.{Bool, true, false, not, ◌&&◌}
+use mathlib.Core.Bool.{Bool, true, false, ◌&&◌}
 use mathlib.Core.List.{List, [], ◌∷◌, ◌++◌, append-nil, append_assoc}
 use mathlib.Core.Option.{Option, none, some}
-use Prim.Native.Nat.{ℕ, zero, suc, ◌+◌, ◌≤◌, ◌<◌}
+use Prim.Native.Nat.{ℕ, ◌<◌}
 use native.Mathlib.Omega.{arith}
 use lib.Dec.{eqb}
-use lib.ListN.{length, get_or}
 use borrow.Author.Tests.{eqb-true, eqb-false, eq-eqb, ne_eqb}
-use Rattle.bits.specs.Bits.{pick, Bits, lowest}
-use Rattle.netlist.specs.declared.Bit.{Bit}
+use Rattle.bits.specs.Bits.{pick, Bits}
 use Rattle.netlist.specs.declared.Control.{Control}
 use Rattle.netlist.specs.declared.Reset.{Reset}
 use Rattle.netlist.specs.Netlist.{FlipFlop}
 use Rattle.recorder.specs.Record.{Expr.mux, Stmt.reg, RegReset}
-use Rattle.recorder.specs.Writer.{Writer, pure, emit, state, ◌>>=◌}
+use Rattle.recorder.specs.Writer.{pure, emit, ◌>>=◌}
 use Rattle.recorder.specs.Evaluate.{Signals, Values}
 use Rattle.recorder.specs.Meaning.{Is, Keeps, Base, Makes, Means}
 use Rattle.recorder.proofs.Makes.{base-keeps, makes-pure, makes-refuse, makes-bind, makes_so, means-emit}
 use Rattle.optimize.proofs.Muxes.{means-as, mux-value}
 use Rattle.behaviour.specs.Banks.{Member, Bank, asyncReset}
-use Rattle.behaviour.specs.Behaviour.{value, level, asserted, enabled, resetting, resetValue, loadedFlop}
+use Rattle.behaviour.specs.Behaviour.{asserted, enabled, resetting, resetValue, loadedFlop}
 use Rattle.wires.specs.declared.Constants.{Constants}
 use Rattle.wires.specs.Wires.{WireRef, Wires}
-use Rattle.wires.specs.Expressions.{refOf, wireRef, readRef, bitSignal, assertedExpression, concatParts}
+use Rattle.wires.specs.Expressions.{refOf, wireRef, assertedExpression}
 use Rattle.lowering.specs.Emit.{withEnable, resetBit, withReset, nextBit, nextBits, resetBits, bankReset, emitFlipFlopBank}
 use Rattle.meaning.specs.Held.{refBit, held}
-use Rattle.meaning.specs.Settles.{Tick, asserts, RegOn, Holds, Settles, Gets}
-use Rattle.meaning.proofs.Settling.{gets-pure, settles-makes, settles-gets, settles-state, settles-bind, settles-so, settles-pure}
+use Rattle.meaning.specs.Settles.{Tick, asserts, RegOn, Holds, Settles}
+use Rattle.meaning.proofs.Settling.{settles-makes, settles-gets, settles-state, settles-bind, settles-pure}
 use Rattle.meaning.proofs.BitReads.{bit-means, asserted-means, ref-gets, IsSignal, signal-gets, Parts, parts-keep, parts-cons, concat-means}
-use Rattle.meaning.proofs.Equations.{now, Bases, bases-keep}
+use Rattle.meaning.proofs.Equations.{Bases, bases-keep}
 
 -- ONE FLIP-FLOP
 

@@ -1,36 +1,33 @@
 -- The wire map that lowering reserves is the tick rule's: slot by slot, with the same signal numbers.
 -- Assumes nothing.
 use mathlib.Core.Path.{◌≡◌, refl, ap, ap₂, sym, ◌∙◌, subst}
-use mathlib.Core.Bool.{Bool, true, false, false≢true, true≢false}
+use mathlib.Core.Bool.{Bool, true, false}
 use mathlib.Core.List.{List, [], ◌∷◌, ◌++◌, append-nil, append_assoc, map}
-use mathlib.Core.Option.{Option, none, some, none-ne-some, some-ne-none}
-use Prim.Native.Nat.{ℕ, zero, suc, ◌+◌, ◌≤◌, ◌<◌}
+use mathlib.Core.Option.{Option, none, some, some-ne-none}
+use Prim.Native.Nat.{ℕ, suc, ◌+◌, ◌≤◌, ◌<◌}
 use native.Mathlib.Nat.{not-suc-le-zero}
 use native.Mathlib.Omega.{arith}
 use native.Mathlib.Decide.{dec_lt}
 use lib.Dec.{eqb}
 use lib.ListN.{length, get_or, length-append, length-map, get_or-append}
 use lib.Seq.{get_or-append_seam}
-use borrow.Author.Tests.{eqb-true, eq-eqb, ne_eqb}
+use borrow.Author.Tests.{eqb-true, eq-eqb}
 use Rattle.bits.specs.Bits.{pick}
 use Rattle.netlist.specs.declared.Bit.{Bit}
 use Rattle.netlist.specs.declared.Bit.TheVariants.{Zero, One, Wire}
-use Rattle.netlist.specs.Netlist.{Port, SecondPort, Pll, Netlist, Cell, lut4, pfumx, l6mux21, ccu2c, multiplier, flipFlop, blockRam, distributedRam, io, jtagg, pll}
+use Rattle.netlist.specs.Netlist.{Port, SecondPort, Netlist, Cell, lut4, pfumx, l6mux21, ccu2c, multiplier, flipFlop, blockRam, distributedRam, io, jtagg, pll}
 use Rattle.netlist.specs.Reader.{sameBit}
-use Rattle.netlist.specs.Shape.{FitsCell, FitsBlockRam, Each}
 use Rattle.recorder.specs.Record.{Signal, Expr, Stmt}
-use Rattle.recorder.specs.Writer.{Event, Event.signal, signalsOf, exprsOf, stmtsOf, Count, further, End.ok, Out, Writer, pure, refuse, declare, ◌>>=◌}
-use Rattle.recorder.proofs.Events.{signals-append, exprs-append, stmts-append, bind-pure}
-use Rattle.behaviour.specs.Banks.{Member, Bank, cells_of, outputsOf, collectFlipFlopBanks}
-use Rattle.behaviour.specs.WireMap.{Source, inputs, shown, pins, bank, Slot, WireRef, portSlots, tickBits, place_of, held_at, find, is_some, single, together, secondSlot, pllWires, reserveFresh, reserve, reserveAll, bankSlot, slots}
-use Rattle.behaviour.proofs.MapLaws.{or_else, find-one-more, place_is, PlaceIs}
-use Rattle.behaviour.proofs.BankLaws.{same-bit-self, same-bit-is}
+use Rattle.recorder.specs.Writer.{Event, Event.signal, signalsOf, exprsOf, stmtsOf, Count, further, End.ok, Writer, pure, declare, ◌>>=◌}
+use Rattle.recorder.proofs.Events.{signals-append, exprs-append, stmts-append}
+use Rattle.behaviour.specs.Banks.{Bank, outputsOf, collectFlipFlopBanks}
+use Rattle.behaviour.specs.WireMap.{inputs, shown, pins, Slot, WireRef, portSlots, place_of, held_at, find, is_some, single, together, secondSlot, pllWires, reserveFresh, reserve, reserveAll, bankSlot}
+use Rattle.behaviour.proofs.MapLaws.{or_else, find-one-more}
 use Rattle.wires.specs.Wires.{Wires, noWires, put, WireRef as Ref}
-use Rattle.optimize.proofs.Muxes.{by-test}
 use Rattle.lowering.specs.Reserve.{insertAt, insertWire, insertBits, insertWires, reserveScalar, reserveVector, signalOf, reserveScalars, reserveUnless, reserveAbsent, reserveSecond, reserveCellOutput, reserveCells, reservePort, reservePorts, reserveFlipFlopBanks}
 use Rattle.lowering.specs.Lower.{reserveNetlist}
 use Rattle.meaning.specs.Writes.{Writes}
-use Rattle.meaning.specs.Mapped.{refOf, LabelFits, WidthFits, SignalFits, SignalsFit, no_slot, entry_of, Mapping, portSignals, Reserved}
+use Rattle.meaning.specs.Mapped.{refOf, LabelFits, WidthFits, SignalFits, SignalsFit, no_slot, Mapping, portSignals, Reserved}
 use Rattle.meaning.proofs.Writing.{writes-pure, writes-refuse, writes-declare, writes-bind, writes-so, written}
 
 -- PLACES
@@ -176,7 +173,7 @@ unfolding insertBits
 insert-bits m s width lsb done [] m₁ e h = writes-pure (subst (λ (l : List Bit). Inserted m s width l m₁) (sym (append-nil done)) h, only_none)
 insert-bits {n} m s width lsb done (b ∷ bits) m₁ e h =
     writes-bind (subst (λ (k : ℕ). Writes n (insertWire m₁ b (record { signal = s; lsb = k; width = width })) (λ m₂ es. Inserted m s width (done ++ (b ∷ [])) m₂ × Only [] es)) (sym e) (insert-one m s width done b m₁ h)) (λ m₂ es p.
-    writes-so (insert-bits m s width (suc lsb) (done ++ (b ∷ [])) bits m₂ (omega (arith, e, length-append done (b ∷ []))) p.0) (λ m₃ fs q.
+    writes-so (insert-bits {n = further n es} m s width (suc lsb) (done ++ (b ∷ [])) bits m₂ (omega (arith, e, length-append done (b ∷ []))) p.0) (λ m₃ fs q.
     (subst (λ (l : List Bit). Inserted m s width l m₃) (append_assoc done (b ∷ []) bits) q.0, only-append p.1 q.1)))
 
 insert-wires : {n : Count} (m : Wires) (s width lsb : ℕ) (done : List Bit) (ws : List ℕ) (m₁ : Wires) → lsb ≡ length done → Inserted m s width done m₁
@@ -185,7 +182,7 @@ unfolding insertWires
 insert-wires m s width lsb done [] m₁ e h = writes-pure (subst (λ (l : List Bit). Inserted m s width l m₁) (sym (append-nil done)) h, only_none)
 insert-wires {n} m s width lsb done (w ∷ ws) m₁ e h =
     writes-bind (subst (λ (k : ℕ). Writes n (insertWire m₁ (Wire w) (record { signal = s; lsb = k; width = width })) (λ m₂ es. Inserted m s width (done ++ (Wire w ∷ [])) m₂ × Only [] es)) (sym e) (insert-one m s width done (Wire w) m₁ h)) (λ m₂ es p.
-    writes-so (insert-wires m s width (suc lsb) (done ++ (Wire w ∷ [])) ws m₂ (omega (arith, e, length-append done (Wire w ∷ []))) p.0) (λ m₃ fs q.
+    writes-so (insert-wires {n = further n es} m s width (suc lsb) (done ++ (Wire w ∷ [])) ws m₂ (omega (arith, e, length-append done (Wire w ∷ []))) p.0) (λ m₃ fs q.
     (subst (λ (l : List Bit). Inserted m s width l m₃) (append_assoc done (Wire w ∷ []) (map Wire ws)) q.0, only-append p.1 q.1)))
 
 -- ONE SLOT MORE

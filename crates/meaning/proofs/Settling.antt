@@ -1,14 +1,13 @@
 -- Laws of what writers settle and of what they get.
 -- Assumes nothing.
-use mathlib.Core.Path.{◌≡◌, refl, ap, sym, ◌∙◌, subst, fun_ext}
-use mathlib.Core.Bool.{Bool, true, false}
+use mathlib.Core.Path.{◌≡◌, ap, sym, ◌∙◌, subst, fun_ext}
 use mathlib.Core.List.{List, [], ◌∷◌, ◌++◌}
-use Prim.Native.Nat.{ℕ, ◌+◌}
+use Prim.Native.Nat.{ℕ}
 use native.Mathlib.Omega.{arith}
 use lib.ListN.{length}
-use Rattle.bits.specs.Bits.{pick, Bits}
+use Rattle.bits.specs.Bits.{Bits}
 use Rattle.recorder.specs.Record.{Stmt, Stmt.assign}
-use Rattle.recorder.specs.Writer.{Event, exprsOf, stmtsOf, Count, further, End, End.ok, End.no, Out, Writer, pure, refuse, state, after, ◌>>=◌}
+use Rattle.recorder.specs.Writer.{Event, exprsOf, stmtsOf, Count, further, End, End.ok, End.no, Writer, pure, refuse, state, after, ◌>>=◌}
 use Rattle.recorder.specs.Evaluate.{Values, evalAll}
 use Rattle.recorder.specs.Meaning.{Is, Keeps, Ends, Makes}
 use Rattle.recorder.proofs.Events.{exprs-append, stmts-append}

@@ -1,15 +1,13 @@
 -- What the tree of an address makes: the word of the last candidate that is the one, or zero.
 -- Assumes nothing.
-use mathlib.Core.Path.{◌≡◌, refl, ap, ap₂, sym, ◌∙◌, subst}
+use mathlib.Core.Path.{◌≡◌, refl, ap, sym, ◌∙◌}
 use mathlib.Core.Bool.{Bool, true, false, ◌||◌}
 use mathlib.Core.List.{List, [], ◌∷◌, ◌++◌, append-nil, append_assoc}
-use Prim.Native.Nat.{ℕ, zero, suc, ◌+◌, ◌*◌, ◌≤◌, ◌<◌}
+use Prim.Native.Nat.{ℕ, zero, suc, ◌+◌, ◌*◌, ◌≤◌}
 use native.Mathlib.Omega.{arith}
-use lib.ListN.{length, get_or, length-append}
-use Rattle.recorder.specs.Record.{Expr.or, Expr.mux}
+use lib.ListN.{length, length-append}
 use Rattle.bits.specs.Bits.{pick, Bits}
-use Rattle.recorder.specs.Writer.{Writer, emit, pure, ◌>>=◌}
-use Rattle.address_mux.specs.AddressMux.{Node, muxLevel, topLevel, muxLevels, balancedAddressMux}
+use Rattle.address_mux.specs.AddressMux.{Node, muxLevel, muxLevels, balancedAddressMux}
 use Rattle.recorder.specs.Evaluate.{Signals, Values}
 use Rattle.recorder.specs.Meaning.{Is, Keeps, Makes, Means}
 use Rattle.meaning.specs.Held.{Choice, lastChoice}

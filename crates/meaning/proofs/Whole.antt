@@ -1,42 +1,40 @@
 -- The whole: in ticks in which every statement of the model holds, each cell, bank and output port of the netlist does its part.
 -- Assumes nothing.
-use mathlib.Core.Path.{◌≡◌, refl, ap, ap₂, sym, ◌∙◌, subst, fun_ext}
-use mathlib.Core.Bool.{Bool, true, false}
+use mathlib.Core.Path.{◌≡◌, refl, ap, sym, ◌∙◌, subst}
+use mathlib.Core.Bool.{true, false}
 use mathlib.Core.List.Memᴰ.{head as here}
 use mathlib.Core.List.Memᴰ.{tail as there}
 use mathlib.Core.List.{List, [], ◌∷◌, ◌++◌, Memᴰ as Mem}
 use mathlib.Core.Option.{Option, none, some}
-use Prim.Native.Nat.{ℕ, zero, suc, ◌+◌, ◌*◌, ◌^◌, ◌<◌}
+use Prim.Native.Nat.{ℕ, suc, ◌+◌, ◌*◌}
 use native.Mathlib.Omega.{arith}
 use lib.Dec.{eqb}
 use lib.ListN.{length, get_or, take, drop}
-use Rattle.bits.specs.Bits.{pick, Bits, number, binary}
+use Rattle.bits.specs.Bits.{pick, number, binary}
 use Rattle.netlist.specs.declared.Bit.TheVariants.{Wire}
 use Rattle.netlist.specs.declared.Limits.{Limits}
 use Rattle.netlist.specs.declared.Reset.{Reset}
 use Rattle.netlist.specs.Netlist.{Netlist, FlipFlop, Cell, Cell.lut4, Cell.pfumx, Cell.l6mux21, Cell.ccu2c, Cell.multiplier, Cell.flipFlop, Cell.blockRam, Cell.distributedRam, Cell.io, Cell.jtagg, Cell.pll}
-use Rattle.netlist.specs.Shape.{Each, each_at, FitsCell, FitsOption, FitsReset, Fits}
+use Rattle.netlist.specs.Shape.{Each, each_at, FitsCell, FitsOption, FitsReset}
 use Rattle.recorder.specs.Record.{Expr, Expr.const, Stmt}
-use Rattle.recorder.specs.Writer.{Event, exprsOf, stmtsOf, Count, further, End, End.ok, End.no, Out, Writer, pure, refuse, declare, emit, state, ◌>>=◌}
+use Rattle.recorder.specs.Writer.{Event, exprsOf, stmtsOf, Count, further, End, End.ok, Out, Writer, declare, emit, ◌>>=◌}
 use Rattle.recorder.specs.Evaluate.{Values, evalExpr, evalAll}
-use Rattle.recorder.specs.Meaning.{Is, Keeps, Base, Ends, Makes}
+use Rattle.recorder.specs.Meaning.{Is, Base, Ends}
 use Rattle.recorder.proofs.Events.{exprs-append, stmts-append, bind_ok}
 use Rattle.recorder.proofs.Makes.{makes-emit, makes-declare}
 use Rattle.optimize.proofs.Muxes.{by-test}
 use Rattle.behaviour.specs.Banks.{Member, Bank, collectFlipFlopBanks}
 use Rattle.behaviour.specs.WireMap.{wordSignals, slots}
-use Rattle.behaviour.specs.Behaviour.{Valuation, value, values, lookTable, absent}
+use Rattle.behaviour.specs.Behaviour.{value, values, lookTable, absent}
 use Rattle.behaviour.proofs.BankLaws.{IsBank, IsCell, banks-are}
 use Rattle.wires.specs.declared.Constants.{Constants}
 use Rattle.wires.specs.Wires.{Wires}
-use Rattle.memories.specs.Memories.{emitDistributedRam}
 use Rattle.lowering.specs.Emit.{emitCell, emitCells, emitBanks, emitOutputs}
 use Rattle.lowering.specs.Lower.{emitConstants, reserveNetlist, emitNetlist, lowerNetlist}
-use Rattle.meaning.specs.Held.{held, valuesAt, Driven}
-use Rattle.meaning.specs.Settles.{Tick, AllHold, valuesAfter, Settles}
-use Rattle.meaning.specs.Mapped.{Reserved}
+use Rattle.meaning.specs.Held.{valuesAt, Driven}
+use Rattle.meaning.specs.Settles.{Tick, AllHold, Settles}
 use Rattle.meaning.specs.Runs.{Laid}
-use Rattle.meaning.proofs.Settling.{hold-right, settles-makes, settles-assign, settles-pure, settles-refuse, settles-bind, settles-bind-at, settles-so}
+use Rattle.meaning.proofs.Settling.{settles-makes, settles-assign, settles-pure, settles-refuse, settles-bind, settles-bind-at, settles-so}
 use Rattle.meaning.proofs.Equations.{now, Bases, bases-keep, AllDriven, Added, Locked, Shown, lut4-equation, pfumx-equation, l6mux21-equation, io-equation, multiplier-equation, ccu2c-equation, jtagg-equation, pll-equation, outputs-equation}
 use Rattle.meaning.proofs.Registers.{Banked, PlainReset, PlainResets, bank-equation}
 use Rattle.meaning.proofs.Memories.{Remembered, Distributed, Stored, block-ram-equation, distributed-ram-equation}

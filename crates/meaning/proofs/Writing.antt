@@ -1,10 +1,10 @@
 -- Laws of what a writer writes.
 -- Assumes nothing.
-use mathlib.Core.Path.{◌≡◌, refl, ap, sym, ◌∙◌, subst}
+use mathlib.Core.Path.{◌≡◌, subst}
 use mathlib.Core.List.{List, [], ◌∷◌, ◌++◌}
 use Prim.Native.Nat.{ℕ}
 use Rattle.recorder.specs.Record.{Signal, Stmt}
-use Rattle.recorder.specs.Writer.{Event, Event.signal, Event.expr, Event.stmt, Count, further, End, End.ok, End.no, Out, Writer, pure, refuse, declare, state, after, ◌>>=◌}
+use Rattle.recorder.specs.Writer.{Event, Event.signal, Event.stmt, Count, further, End, End.ok, End.no, Writer, pure, refuse, declare, state, after, ◌>>=◌}
 use Rattle.recorder.specs.Meaning.{Ends}
 use Rattle.meaning.specs.Settles.{Gets}
 use Rattle.meaning.specs.Writes.{Writes}

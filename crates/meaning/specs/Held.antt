@@ -1,9 +1,9 @@
 -- What the wires hold when the signals hold σ: each wire the bit that the wire map finds for it.
-use Rattle.std.specs.Prelude.{◌≡◌, Bool, true, false, List, [], ◌∷◌, ◌++◌, ℕ, zero, suc, ◌+◌, get_or}
+use Rattle.std.specs.Prelude.{◌≡◌, Bool, false, List, [], ◌∷◌, ◌++◌, ℕ, zero, suc, ◌+◌, get_or}
 use Rattle.std.proofs.Math.Option.{Option, none, some}
 use Rattle.bits.specs.Bits.{pick, Bits}
 use Rattle.netlist.specs.declared.Bit.{Bit}
-use Rattle.netlist.specs.declared.Bit.TheVariants.{Zero, One, Wire}
+use Rattle.netlist.specs.declared.Bit.TheVariants.{Zero}
 use Rattle.recorder.specs.Evaluate.{Signals}
 use Rattle.behaviour.specs.Behaviour.{Valuation, value}
 use Rattle.wires.specs.Wires.{WireRef, Wires}

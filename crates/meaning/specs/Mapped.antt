@@ -2,8 +2,7 @@
 use Rattle.std.specs.Prelude.{◌≡◌, List, [], ◌∷◌, ◌++◌, ℕ, suc, ◌<◌, ◌≤◌, eqb, length, get_or}
 use Rattle.std.proofs.Math.Option.{Option, none, some}
 use Rattle.bits.specs.Bits.{pick}
-use Rattle.netlist.specs.declared.Bit.{Bit}
-use Rattle.netlist.specs.declared.Bit.TheVariants.{Zero, One, Wire}
+use Rattle.netlist.specs.declared.Bit.TheVariants.{Zero, Wire}
 use Rattle.netlist.specs.Netlist.{Port, Netlist}
 use Rattle.recorder.specs.Record.{Signal}
 use Rattle.recorder.specs.Writer.{Event, signalsOf, exprsOf, stmtsOf}

@@ -1,5 +1,5 @@
 -- What every part of a netlist does in a tick, on the signals of its wires.
-use Rattle.std.specs.Prelude.{◌≡◌, true, false, List, [], ◌∷◌, ℕ, length}
+use Rattle.std.specs.Prelude.{◌≡◌, List, [], ◌∷◌, ℕ, length}
 use Rattle.netlist.specs.Netlist.{Cell}
 use Rattle.behaviour.specs.WireMap.{wordSignals}
 

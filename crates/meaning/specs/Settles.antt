@@ -1,10 +1,10 @@
 -- What it is for statements to hold in a tick, and what a writer settles where its statements hold.
-use Rattle.std.specs.Prelude.{◌≡◌, Bool, true, false, not, ◌&&◌, ℕ, eqb, length}
+use Rattle.std.specs.Prelude.{◌≡◌, Bool, true, false, ◌&&◌, ℕ, eqb, length}
 use mathlib.Core.List.{List, [], ◌∷◌, Memᴰ as Mem}
 use Rattle.std.proofs.Math.Option.{Option, none, some}
 use Rattle.bits.specs.Bits.{pick, Bits, lowest, same}
 use Rattle.recorder.specs.Record.{Stmt, Stmt.assign, Stmt.reg, RegReset, RegEnable}
-use Rattle.recorder.specs.Writer.{Event, exprsOf, stmtsOf, Count, End, Out, Writer}
+use Rattle.recorder.specs.Writer.{Event, exprsOf, stmtsOf, Count, Writer}
 use Rattle.recorder.specs.Evaluate.{Signals, Values, value_of, evalAll}
 use Rattle.recorder.specs.Meaning.{Keeps, Ends}
 

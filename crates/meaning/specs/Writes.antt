@@ -1,6 +1,6 @@
 -- What a writer writes from a count on: its result and its events.
-use Rattle.std.specs.Prelude.{List, ℕ}
-use Rattle.recorder.specs.Writer.{Event, Count, Out, Writer}
+use Rattle.std.specs.Prelude.{List}
+use Rattle.recorder.specs.Writer.{Event, Count, Writer}
 use Rattle.recorder.specs.Meaning.{Ends}
 
 -- unless it refuses, its result and its events are as P says
