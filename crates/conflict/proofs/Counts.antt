@@ -1,22 +1,22 @@
 -- The steps of the three loops, and of what they call. Assumes nothing.
-use Prim.Native.Nat.{ℕ, zero, suc, ◌+◌, ◌-◌, ◌*◌, ◌≤◌, ◌<◌}
-use mathlib.Core.Path.{◌≡◌, refl, sym, ◌∙◌, ap, ap₂, subst}
+use Prim.Native.Nat.{ℕ, suc, ◌+◌, ◌-◌, ◌*◌, ◌≤◌, ◌<◌}
+use mathlib.Core.Path.{◌≡◌, refl, sym, ◌∙◌, ap, ap₂}
 use mathlib.Core.Bool.{Bool, true, false}
 use mathlib.Core.List.{List, [], ◌∷◌, ◌++◌, append_assoc}
-use mathlib.Core.Option.{Option, none, some}
-use native.Mathlib.Nat.{add-zero, not-suc-le-zero, le_of_suc-le-suc}
+use mathlib.Core.Option.{none, some}
+use native.Mathlib.Nat.{add-zero}
 use native.Mathlib.Numerals.{add-one}
 use native.Mathlib.Omega.{arith}
-use lib.Dec.{eqb, ltb}
+use lib.Dec.{ltb}
 use lib.ListN.{length, get_or, set, take, drop, length-take, length-drop, drop_of_length-le, take-append-drop, get_or-eq_default}
 use lib.Seq.{drop-cons, set_out, set-get_or, take-set-le, drop-set-lt, drop-set-add, take-add}
-use borrow.Author.Tests.{lt-ltb, le-ltb, eq-eqb, ne_eqb}
+use borrow.Author.Tests.{lt-ltb, le-ltb, ne_eqb}
 use Rattle.bits.specs.Bits.{pick}
 use Rattle.recorder.specs.declared.Cut.{Cut}
 use Rattle.recorder.specs.declared.Cut.TheVariants.{Record, End, Broken}
 use Rattle.recorder.specs.Read as read
 use Rattle.recorder.specs.Read.{split}
-use Rattle.recorder.specs.Standing.{cut_at, splitBy, size_of, size_at, fields_at}
+use Rattle.recorder.specs.Standing.{cut_at, size_of, size_at, fields_at}
 use Rattle.recorder.proofs.Reading.{split-as, record-within, field_at}
 use Rattle.conflict.specs.Counting.{more, raised, tally, exceeds, lowestFrom, restored}
 

@@ -1,21 +1,21 @@
 -- The signals of a model with the statements on each counted in their first words. Assumes nothing.
-use Prim.Native.Nat.{ℕ, zero, suc, ◌+◌, ◌-◌, ◌*◌, ◌≤◌, ◌<◌}
-use mathlib.Core.Path.{◌≡◌, refl, sym, ◌∙◌, ap, ap₂, subst, fun_ext}
+use Prim.Native.Nat.{ℕ, zero, suc, ◌+◌, ◌-◌, ◌*◌, ◌<◌}
+use mathlib.Core.Path.{◌≡◌, refl, sym, ◌∙◌, ap, ap₂, fun_ext}
 use mathlib.Core.Bool.{Bool, true, false}
 use mathlib.Core.List.{List, [], ◌∷◌, ◌++◌, map, tail, append_assoc}
 use mathlib.Core.Option.{Option, none, some}
-use native.Mathlib.Nat.{add-zero, zero-add, add-suc, suc-add, add_assoc}
+use native.Mathlib.Nat.{add-zero, zero-add, add_assoc}
 use native.Mathlib.Omega.{arith}
 use lib.Dec.{eqb, ltb, leb}
-use lib.ListN.{length, get_or, set, replicate, get_or-eq_default, length-replicate, get_or-replicate}
-use lib.Seq.{set_out, set-get_or}
-use borrow.Author.Tests.{lt-ltb, le-ltb, eq-eqb, ne_eqb, le-leb, lt-leb}
+use lib.ListN.{length, get_or, set, replicate}
+use lib.Seq.{set-get_or}
+use borrow.Author.Tests.{eq-eqb, ne_eqb, lt-leb}
 use Rattle.bits.specs.Bits.{pick}
-use Rattle.recorder.specs.Record.{Signal, Stmt, Stmt.assign, Stmt.reg, signalWords, stmtWords, sized, target}
+use Rattle.recorder.specs.Record.{Signal, Stmt, Stmt.assign, Stmt.reg, signalWords, stmtWords, target}
 use Rattle.recorder.specs.Read as read
 use Rattle.recorder.specs.Read.{split}
 use Rattle.recorder.specs.Words.{listWords, holding}
-use Rattle.recorder.proofs.Roundtrip.{Kind, stmt-kind, split-sized, split-nil, split-zero}
+use Rattle.recorder.proofs.Roundtrip.{stmt-kind, split-sized, split-nil, split-zero}
 use Rattle.lowering.specs.Lower.{statementsOn, allowed, overdrivenFrom}
 use Rattle.conflict.specs.Conflicts.{Judges}
 use Rattle.conflict.specs.Counting.{more, raised, tally, counted, exceeds, lowestFrom, restored}

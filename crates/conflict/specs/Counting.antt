@@ -1,5 +1,5 @@
 -- How the statements are counted: in the first words of the signals' records. What `overdriven` answers and leaves, whatever the words.
-use Rattle.std.specs.Prelude.{Bool, true, false, List, [], ◌∷◌, ℕ, zero, suc, ◌*◌, eqb, ltb, get_or, set}
+use Rattle.std.specs.Prelude.{Bool, List, [], ◌∷◌, ℕ, suc, ◌*◌, eqb, ltb, get_or, set}
 use Rattle.std.proofs.Math.Option.{Option, none, some}
 use Rattle.bits.specs.Bits.{pick}
 use Rattle.recorder.specs.Read.{split}
