@@ -1,8 +1,8 @@
 -- The signals and the statements' targets of every emitter, exactly.
 -- Assumes nothing.
-use mathlib.Core.Path.{◌≡◌, refl, ap, ap₂, sym, ◌∙◌, subst}
+use mathlib.Core.Path.{◌≡◌, refl, ap, ap₂, sym, ◌∙◌}
 use mathlib.Core.Bool.{Bool, true, false, ◌||◌}
-use mathlib.Core.List.{List, [], ◌∷◌, ◌++◌, append-nil, append_assoc, map}
+use mathlib.Core.List.{List, [], ◌∷◌, ◌++◌, append-nil, append_assoc}
 use mathlib.Core.Option.{Option, none, some}
 use Prim.Native.Nat.{ℕ, zero, suc, ◌+◌}
 use native.Mathlib.Omega.{arith}
@@ -10,32 +10,31 @@ use lib.Dec.{eqb}
 use lib.ListN.{length, get_or, take, drop, replicate, length-replicate}
 use Rattle.bits.specs.Bits.{pick}
 use Rattle.netlist.specs.declared.Bit.{Bit}
-use Rattle.netlist.specs.declared.Bit.TheVariants.{Zero, One, Wire}
+use Rattle.netlist.specs.declared.Bit.TheVariants.{Wire}
 use Rattle.netlist.specs.Netlist.{Port, SecondPort, BlockRam, DistributedRam, Ccu2c, Pll, Netlist, Cell, lut4, pfumx, l6mux21, ccu2c, multiplier, flipFlop, blockRam, distributedRam, io, jtagg, pll}
 use Rattle.netlist.specs.Reader.{addressWidth, shift_of}
 use Rattle.recorder.specs.Record.{Signal, Stmt, Stmt.assign, target}
-use Rattle.recorder.specs.Writer.{Event, signalsOf, stmtsOf, Count, further, Out, Writer, pure, refuse, declare, emit, state, ◌>>=◌, ◌>>◌}
+use Rattle.recorder.specs.Writer.{Event, stmtsOf, Count, further, Writer, pure, declare, state, ◌>>=◌}
 use Rattle.recorder.proofs.Events.{signals-append, stmts-append}
 use Rattle.optimize.proofs.Muxes.{by-test}
-use Rattle.behaviour.specs.Banks.{Member, Bank, asyncReset, collectFlipFlopBanks}
+use Rattle.behaviour.specs.Banks.{Bank, asyncReset, collectFlipFlopBanks}
 use Rattle.behaviour.specs.WireMap.{wordSignals}
 use Rattle.behaviour.specs.Behaviour.{shiftIn}
 use Rattle.wires.specs.declared.Constants.{Constants}
 use Rattle.wires.specs.Wires.{WireRef, Wires}
-use Rattle.wires.specs.Expressions.{wireRef, assignWire, bitsExpression}
+use Rattle.wires.specs.Expressions.{assignWire, bitsExpression}
 use Rattle.cells.specs.Cells.{emitLut4, emitPfumx, emitL6mux21, emitIo, emitMultiplier, ccuRow, emitCcu2c, assignAll, emitIdleJtagg, pllClocks, emitCyclePll}
 use Rattle.memories.specs.Memories.{wordSignal, Word, PortExprs, ramWord, ramWords, emitBlockRamReadPort, emitSecondReadPort, updateWords, emitBlockRam, dramWords, emitDistributedRam}
 use Rattle.lowering.specs.Reserve.{signalOf}
 use Rattle.lowering.specs.Emit.{emitFlipFlopBank, emitBanks, emitCell, emitCells, emitOutputs}
 use Rattle.lowering.specs.Lower.{emitConstants, emitNetlist}
-use Rattle.meaning.specs.Writes.{Writes}
 use Rattle.meaning.specs.Settles.{Gets}
 use Rattle.meaning.proofs.Writing.{writes-pure, writes-refuse, writes-declare, writes-state, writes-bind, writes-so, writes-both, writes-always, writes-gets}
 use Rattle.meaning.proofs.Settling.{gets-any}
 use Rattle.meaning.proofs.BitReads.{ref-gets}
 use Rattle.meaning.proofs.Memories.{signalsIn}
 use Rattle.forms.specs.Acts.{Quiet, targets, Done, Acts, aim, range, secondAim, aims, clockAims, cellAims, cellWords, allAims, allWords, bankAims, portAims, netlistWords, netlistAims}
-use Rattle.forms.proofs.Quiets.{quiet-pure, quiet-emit, quiet_bind, quiet-ref, quiet-bit, quiet-signal, quiet-asserted, quiet-concat, quiet-vector, quiet-reads, quiet-mux, quiet-xor, quiet-lut, quiet-levels, quiet-gate, quiet_write, quiet-second, quiet-candidates, quiet-enable, quiet-next-read, quiet-exprs, quiet-select, quiet-nexts, quiet-bank-reset}
+use Rattle.forms.proofs.Quiets.{quiet-emit, quiet-ref, quiet-bit, quiet-signal, quiet-asserted, quiet-concat, quiet-vector, quiet-reads, quiet-mux, quiet-xor, quiet-lut, quiet-levels, quiet-gate, quiet_write, quiet-second, quiet-candidates, quiet-enable, quiet-next-read, quiet-exprs, quiet-select, quiet-nexts, quiet-bank-reset}
 
 -- THE LOGIC
 

@@ -2,7 +2,7 @@
 -- Assumes nothing.
 use mathlib.Core.Path.{◌≡◌, refl, ap, ap₂, sym, ◌∙◌, subst}
 use mathlib.Core.Logic.{◌⊎◌, inl, inr}
-use mathlib.Core.Bool.{Bool, true, false, ◌||◌, false≢true, true≢false}
+use mathlib.Core.Bool.{Bool, true, false, ◌||◌}
 use mathlib.Core.List.Memᴰ.{append_cases}
 use mathlib.Core.List.Memᴰ.{append_left as mem-left}
 use mathlib.Core.List.Memᴰ.{append_right as mem-right}
@@ -10,40 +10,38 @@ use mathlib.Core.List.Memᴰ.{cases_cons}
 use mathlib.Core.List.Memᴰ.{head as here}
 use mathlib.Core.List.Memᴰ.{not-nil}
 use mathlib.Core.List.Memᴰ.{tail as there}
-use mathlib.Core.List.{List, [], ◌∷◌, ◌++◌, map, append_assoc, Memᴰ as Mem}
+use mathlib.Core.List.{List, [], ◌∷◌, ◌++◌, map, Memᴰ as Mem}
 use mathlib.Core.Option.{Option, none, some, some-ne-none}
 use Prim.Native.Nat.{ℕ, zero, suc, ◌+◌, ◌≤◌, ◌<◌}
 use native.Mathlib.Nat.{not-suc-le-zero}
 use native.Mathlib.Omega.{arith}
 use native.Mathlib.Decide.{dec_lt, ℕ_discrete}
 use lib.Dec.{eqb, leb}
-use lib.ListN.{length, get_or, take, drop, replicate, length-append, length-map, length-replicate, get_or-append}
-use lib.Seq.{get_or-append-add}
-use borrow.Author.Tests.{eqb-true, eq-eqb, leb-true, leb-false}
+use lib.ListN.{length, get_or, take, drop, length-append, length-map, get_or-append}
+use borrow.Author.Tests.{eqb-true, eq-eqb, leb-true}
 use Rattle.bits.specs.Bits.{pick}
-use Rattle.netlist.specs.declared.Bit.{Bit}
-use Rattle.netlist.specs.declared.Bit.TheVariants.{Zero, One, Wire}
+use Rattle.netlist.specs.declared.Bit.TheVariants.{Zero, Wire}
 use Rattle.netlist.specs.declared.Limits.{Limits}
 use Rattle.netlist.specs.Netlist.{Port, SecondPort, Pll, Netlist, Cell, lut4, pfumx, l6mux21, ccu2c, multiplier, flipFlop, blockRam, distributedRam, io, jtagg, pll}
-use Rattle.netlist.specs.Shape.{Each, each_at, FitsOption, FitsSecond, FitsCell, Fits}
-use Rattle.recorder.specs.Record.{Signal, Stmt, Model, target}
-use Rattle.recorder.specs.Writer.{Event, signalsOf, stmtsOf, Count, further, End, End.ok, Out}
+use Rattle.netlist.specs.Shape.{Each, each_at, FitsOption, FitsSecond, FitsCell}
+use Rattle.recorder.specs.Record.{Signal, Stmt, target}
+use Rattle.recorder.specs.Writer.{signalsOf, further, Out}
 use Rattle.recorder.proofs.Events.{signals-append}
 use Rattle.behaviour.specs.Banks.{Member, Bank, outputsOf, collectFlipFlopBanks}
-use Rattle.behaviour.specs.WireMap.{Source, inputs, shown, pins, bank, Slot, WireRef, find, portSlots, pllWires, bankSlot, slots, total, wordSignals, signalCount}
+use Rattle.behaviour.specs.WireMap.{Source, inputs, shown, pins, Slot, WireRef, find, portSlots, pllWires, bankSlot, slots, total, wordSignals, signalCount}
 use Rattle.behaviour.specs.Behaviour.{absent}
 use Rattle.behaviour.proofs.BankLaws.{IsBank, banks-are, Begins}
 use Rattle.behaviour.proofs.MapLaws.{FoundIs, FoundAt, found-is}
 use Rattle.wires.specs.Wires.{Wires, WireRef as Ref}
-use Rattle.lowering.specs.Lower.{statementsOn, allowed, overdrivenFrom, reserveNetlist, emitNetlist, lowerNetlist}
-use Rattle.meaning.specs.Mapped.{refOf, LabelFits, SignalFits, SignalsFit, no_slot, entry_of, Mapping, portSignals, Reserved}
+use Rattle.lowering.specs.Lower.{statementsOn, allowed, overdrivenFrom, reserveNetlist, emitNetlist}
+use Rattle.meaning.specs.Mapped.{refOf, LabelFits, SignalFits, SignalsFit, no_slot, Mapping, portSignals, Reserved}
 use Rattle.meaning.proofs.Writing.{written}
 use Rattle.meaning.proofs.Reserving.{mapping-count, reserved-is}
 use Rattle.meaning.proofs.Whole.{lowering-is, stmts-are}
-use Rattle.forms.specs.Groups.{Group, apiece, secondGroup, groups, slot_of, isPll}
+use Rattle.forms.specs.Groups.{Group, apiece, secondGroup, groups, slot_of}
 use Rattle.forms.specs.Acts.{targets, Done, aim, range, secondAim, aims, clockAims, cellAims, cellWords, allAims, allWords, bankAims, portAims, netlistWords, netlistAims}
 use Rattle.forms.specs.Lowered.{none_yet, loweredModel, Lowered}
-use Rattle.forms.proofs.Slots.{Placed, slot-there, OfGroup, OfCell, group-slot, bank-slot, Late, of-cell, of-bank, ports-first, ports-within, slot-late}
+use Rattle.forms.proofs.Slots.{Placed, Late, of-cell, of-bank, ports-first, ports-within, slot-late}
 use Rattle.forms.proofs.Aims.{netlist-acts, words_count}
 
 -- HOW OFTEN A NUMBER OCCURS

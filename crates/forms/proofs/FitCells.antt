@@ -1,8 +1,8 @@
 -- The small cells and the banks of flip-flops make good records.
 -- Assumes nothing.
-use mathlib.Core.Path.{◌≡◌, refl, ap, ap₂, sym, ◌∙◌, subst}
+use mathlib.Core.Path.{◌≡◌, refl, ap, sym, subst}
 use mathlib.Core.Logic.{◌⊎◌, inl, inr}
-use mathlib.Core.Bool.{Bool, true, false, not, ◌&&◌, ◌||◌, false≢true}
+use mathlib.Core.Bool.{Bool, true, false, ◌&&◌, ◌||◌, false≢true}
 use mathlib.Core.List.Memᴰ.{append_cases}
 use mathlib.Core.List.Memᴰ.{append_left as mem-left}
 use mathlib.Core.List.Memᴰ.{append_right as mem-right}
@@ -12,7 +12,7 @@ use mathlib.Core.List.Memᴰ.{not-nil}
 use mathlib.Core.List.Memᴰ.{tail as there}
 use mathlib.Core.List.{List, [], ◌∷◌, ◌++◌, Memᴰ as Mem}
 use mathlib.Core.Option.{Option, none, some}
-use Prim.Native.Nat.{ℕ, zero, suc, ◌+◌, ◌^◌, ◌≤◌, ◌<◌}
+use Prim.Native.Nat.{ℕ, zero, suc, ◌+◌, ◌≤◌, ◌<◌}
 use native.Mathlib.Omega.{arith}
 use lib.Dec.{eqb}
 use lib.Bits.{bit_xor}
@@ -23,25 +23,23 @@ use Rattle.netlist.specs.declared.Bit.{Bit}
 use Rattle.netlist.specs.declared.Bit.TheVariants.{Zero, One, Wire}
 use Rattle.netlist.specs.declared.Control.{Control}
 use Rattle.netlist.specs.declared.Reset.{Reset}
-use Rattle.netlist.specs.declared.Limits.{Limits}
 use Rattle.netlist.specs.Netlist.{Ccu2c, FlipFlop, Pll}
-use Rattle.recorder.specs.Record.{Expr, Expr.not as complement, Stmt, RegReset}
-use Rattle.recorder.specs.Writer.{Writer, pure, refuse, emit, state, ◌>>=◌}
+use Rattle.recorder.specs.Record.{RegReset}
+use Rattle.recorder.specs.Writer.{Writer, pure, ◌>>=◌}
 use Rattle.optimize.specs.declared.optimizer.Rewrite.{Rewrite}
-use Rattle.optimize.specs.declared.optimizer.Rewrite.TheVariants.{Value, Not, And, Or, Xor, AndNot, OrNot, Mux}
-use Rattle.optimize.specs.Rewrite.{simplifyXor, simplifyMux, emitRewrite, xorOf, muxOf}
+use Rattle.optimize.specs.Rewrite.{emitRewrite, xorOf, muxOf}
 use Rattle.optimize.specs.Lut.{low_of, high_of, fullTable, joinCofactors, lutCofactor}
 use Rattle.optimize.proofs.Muxes.{by-test}
-use Rattle.behaviour.specs.Banks.{Member, Bank, asyncReset, filterAsync}
+use Rattle.behaviour.specs.Banks.{Member, Bank, asyncReset}
 use Rattle.behaviour.specs.Behaviour.{wiresOf}
 use Rattle.wires.specs.declared.Constants.{Constants}
 use Rattle.wires.specs.Wires.{WireRef, Wires}
-use Rattle.wires.specs.Expressions.{refOf, wireRef, readRef, bitExpression, whole, bitSignal, assertedExpression, concatParts, vectorParts, vectorExpression, bitsExpression, readBits, assignWire}
+use Rattle.wires.specs.Expressions.{refOf, wireRef, readRef, bitExpression, whole, bitSignal, assertedExpression, concatParts, vectorParts, vectorExpression, readBits, assignWire}
 use Rattle.cells.specs.Cells.{emitMultiplier, emitLut4, emitPfumx, emitL6mux21, emitIo, ccuRow, emitCcu2c, assignAll, emitIdleJtagg, pllClocks, emitCyclePll}
 use Rattle.lowering.specs.Emit.{withEnable, resetBit, withReset, nextBit, nextBits, resetBits, bankReset, emitFlipFlopBank}
 use Rattle.forms.specs.Typed.{Context, At, Sig, Exp, Parts, no_part, part, Grows, Wide, Fit, None, Any, Wired, Based, GoodReset}
 use Rattle.forms.specs.Suits.{From, WideAs, Suits, AllSuit}
-use Rattle.forms.proofs.Fits.{grows-trans, grow-exp, exp-so, grow-sig, grow-parts, parts-snoc, fit-pure, fit-refuse, fit-state, fit-bind, fit-so, emit-read, emit-concat, emit-not, emit-and, emit-or, emit-xor, emit-mux, emit-mul}
+use Rattle.forms.proofs.Fits.{grow-exp, exp-so, grow-sig, grow-parts, parts-snoc, fit-pure, fit-refuse, fit-state, fit-bind, fit-so, emit-read, emit-concat, emit-not, emit-and, emit-or, emit-xor, emit-mux, emit-mul}
 
 -- BITS OF A LIST
 

@@ -1,19 +1,19 @@
 -- The emission of a netlist makes good records, where the wire map suits it.
 -- Assumes nothing.
-use mathlib.Core.Path.{◌≡◌, refl, ap, ap₂, sym, ◌∙◌, subst}
+use mathlib.Core.Path.{◌≡◌, refl, ap, ◌∙◌, subst}
 use mathlib.Core.Bool.{Bool, true, false}
 use mathlib.Core.List.{List, [], ◌∷◌, ◌++◌}
-use mathlib.Core.Option.{Option, none, some}
-use Prim.Native.Nat.{ℕ, zero, suc, ◌+◌, ◌^◌, ◌≤◌, ◌<◌}
+use mathlib.Core.Option.{some}
+use Prim.Native.Nat.{ℕ, suc, ◌≤◌, ◌<◌}
 use native.Mathlib.Omega.{arith}
 use lib.Dec.{eqb}
-use lib.ListN.{length, get_or, length-append}
+use lib.ListN.{length}
 use Rattle.bits.specs.Bits.{pick}
 use Rattle.netlist.specs.declared.Limits.{Limits}
 use Rattle.netlist.specs.Netlist.{Port, Netlist, Cell, lut4, pfumx, l6mux21, ccu2c, multiplier, flipFlop, blockRam, distributedRam, io, jtagg, pll}
-use Rattle.netlist.specs.Shape.{Each, FitsCell, FitsPort}
+use Rattle.netlist.specs.Shape.{Each, FitsCell}
 use Rattle.recorder.specs.Record.{Stmt.assign, Expr.const}
-use Rattle.recorder.specs.Writer.{Writer, pure, refuse, declare, emit, state, ◌>>=◌, ◌>>◌}
+use Rattle.recorder.specs.Writer.{Writer, pure, state, ◌>>=◌}
 use Rattle.optimize.proofs.Muxes.{by-test}
 use Rattle.behaviour.specs.Banks.{Bank, asyncReset, collectFlipFlopBanks}
 use Rattle.wires.specs.declared.Constants.{Constants}
@@ -21,9 +21,9 @@ use Rattle.wires.specs.Wires.{WireRef, Wires}
 use Rattle.wires.specs.Expressions.{bitsExpression}
 use Rattle.lowering.specs.Emit.{emitCell, emitCells, emitBanks, emitOutputs}
 use Rattle.lowering.specs.Lower.{emitConstants, emitNetlist}
-use Rattle.forms.specs.Typed.{Context, At, Sig, Exp, Grows, Wide, Fit, None, Wired, Based}
-use Rattle.forms.specs.Suits.{From, WideAs, CellSuits, BankSuits, PortSuits, PortsSuit}
-use Rattle.forms.proofs.Fits.{New, grows-trans, grow-exp, exp-so, grow-sig, fit-pure, fit-refuse, fit-new, fit-declare, fit-state, fit-bind, fit-so}
+use Rattle.forms.specs.Typed.{Context, Sig, Exp, Grows, Wide, Fit, None, Wired}
+use Rattle.forms.specs.Suits.{CellSuits, BankSuits, PortsSuit}
+use Rattle.forms.proofs.Fits.{grows-trans, grow-exp, exp-so, grow-sig, fit-pure, fit-refuse, fit-new, fit-declare, fit-state, fit-bind}
 use Rattle.forms.proofs.FitCells.{Ready, grow-ready, one-wide, Levelled, fit-vector, fit-multiplier, fit-lut4, fit-pfumx, fit-l6mux21, fit-io, fit-ccu2c, fit-jtagg, fit-pll, fit-bank}
 use Rattle.forms.proofs.FitRams.{fit-block-ram, fit-distributed-ram}
 

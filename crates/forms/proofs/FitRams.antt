@@ -1,33 +1,31 @@
 -- Both RAM kinds make good records.
 -- Assumes nothing.
-use mathlib.Core.Path.{◌≡◌, refl, ap, ap₂, sym, ◌∙◌, subst}
+use mathlib.Core.Path.{◌≡◌, refl, subst}
 use mathlib.Core.Logic.{◌⊎◌, inl, inr}
 use mathlib.Core.Bool.{Bool, true, false, false≢true}
 use mathlib.Core.List.{List, [], ◌∷◌, ◌++◌}
 use mathlib.Core.Option.{Option, none, some}
 use Prim.Native.Nat.{ℕ, zero, suc, ◌+◌, ◌^◌, ◌≤◌, ◌<◌}
 use native.Mathlib.Omega.{arith}
-use lib.Dec.{eqb, leb}
-use lib.Pow.{pow_mono, pow_pos}
+use lib.Dec.{leb}
+use lib.Pow.{pow_pos}
 use lib.ListN.{length, get_or, length-append}
 use borrow.Author.Tests.{leb-true}
-use Rattle.bits.specs.Bits.{pick}
 use Rattle.netlist.specs.declared.Control.{Control}
 use Rattle.netlist.specs.declared.Limits.{Limits}
 use Rattle.netlist.specs.Netlist.{SecondPort, BlockRam, DistributedRam}
 use Rattle.netlist.specs.Reader.{bitsFrom, addressWidth, shift_of, shiftFits}
-use Rattle.netlist.specs.Shape.{FitsOption, FitsControl, FitsSecond, FitsBlockRam, FitsDistributedRam}
-use Rattle.recorder.specs.Record.{Expr.const, RegEnable}
-use Rattle.recorder.specs.Writer.{Writer, pure, emit, state, ◌>>=◌}
+use Rattle.netlist.specs.Shape.{FitsOption, FitsControl, FitsSecond, FitsBlockRam}
+use Rattle.recorder.specs.Record.{RegEnable}
 use Rattle.behaviour.specs.Behaviour.{shiftIn}
 use Rattle.wires.specs.declared.Constants.{Constants}
-use Rattle.wires.specs.Wires.{WireRef, Wires}
-use Rattle.address_mux.specs.AddressMux.{Node, muxLevel, topLevel, muxLevels, balancedAddressMux}
+use Rattle.wires.specs.Wires.{Wires}
+use Rattle.address_mux.specs.AddressMux.{Node, muxLevel, muxLevels}
 use Rattle.memories.specs.Memories.{Word, PortExprs, gate, writeWord, writeSecond, ramWord, ramWords, candidatesFrom, enableOf, nextRead, emitBlockRamReadPort, emitSecondReadPort, updateWords, secondExprs, emitBlockRam, dramWords, dramSelect, emitDistributedRam}
-use Rattle.forms.specs.Typed.{Context, At, Sig, Exp, Grows, Wide, Fit, Any, GoodEnable}
+use Rattle.forms.specs.Typed.{Context, Sig, Exp, Grows, Wide, Fit, Any, GoodEnable}
 use Rattle.forms.specs.Suits.{From, WideAs, Suits, SecondSuits}
 use Rattle.forms.proofs.Fits.{grow-exp, exp-so, grow-sig, fit-pure, fit-declare, fit-state, fit-bind, fit-so, emit-const, emit-read, emit-and, emit-or, emit-mux, emit-eq}
-use Rattle.forms.proofs.FitCells.{Ready, grow-ready, small, one-wide, fit-ref, fit-signal, fit-asserted, fit-vector, fit-assign}
+use Rattle.forms.proofs.FitCells.{Ready, grow-ready, fit-ref, fit-signal, fit-asserted, fit-vector, fit-assign}
 
 -- THE ADDRESS'S WIDTH
 

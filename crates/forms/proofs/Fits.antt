@@ -1,21 +1,21 @@
 -- Laws of writers that make good records.
 -- Assumes nothing.
-use mathlib.Core.Path.{◌≡◌, refl, ap, ap₂, sym, ◌∙◌, subst}
+use mathlib.Core.Path.{◌≡◌, refl, ap, sym, ◌∙◌, subst}
 use mathlib.Core.Logic.{◌⊎◌, inl, inr}
 use mathlib.Core.List.Memᴰ.{append_cases}
 use mathlib.Core.List.Memᴰ.{cases_cons}
 use mathlib.Core.List.Memᴰ.{not-nil}
-use mathlib.Core.List.{List, [], ◌∷◌, ◌++◌, append-nil, append_assoc, Memᴰ as Mem}
-use Prim.Native.Nat.{ℕ, zero, suc, ◌+◌, ◌^◌, ◌≤◌, ◌<◌}
+use mathlib.Core.List.{List, [], ◌∷◌, ◌++◌, Memᴰ as Mem}
+use Prim.Native.Nat.{ℕ, suc, ◌+◌, ◌^◌, ◌≤◌, ◌<◌}
 use native.Mathlib.Omega.{arith}
 use lib.ListN.{length, get_or, length-append, get_or-append}
 use lib.Seq.{get_or-append_seam}
 use Rattle.recorder.specs.Record.{Signal, Expr, Expr.const, Expr.read, Expr.concat, Expr.not, Expr.and, Expr.or, Expr.xor, Expr.mux, Expr.eq, Expr.mul, Stmt}
-use Rattle.recorder.specs.Writer.{Event, Event.signal, Event.expr, Event.stmt, signalsOf, exprsOf, Count, further, End, End.ok, End.no, Out, Writer, pure, refuse, declare, emit, state, after, ◌>>=◌}
+use Rattle.recorder.specs.Writer.{Event, Event.signal, Event.expr, Event.stmt, Count, further, End, End.ok, End.no, Writer, pure, refuse, declare, emit, state, after, ◌>>=◌}
 use Rattle.recorder.specs.Meaning.{Ends}
 use Rattle.simulation.specs.Tick.{readsExpr, joinedReads}
 use Rattle.simulation.specs.Run.{exprWidth}
-use Rattle.forms.specs.Typed.{Context, grow, growAll, At, Sig, Exp, Parts, no_part, part, Typed₁, Grows, Numbered, Wide, GoodExpr, GoodStmt, Good, GoodAll, Fit}
+use Rattle.forms.specs.Typed.{Context, grow, growAll, At, Sig, Exp, Parts, no_part, part, Typed₁, Grows, Numbered, Wide, GoodExpr, GoodStmt, GoodAll, Fit}
 
 -- CONTEXTS
 

@@ -1,21 +1,19 @@
 -- Writers that make neither signals nor statements.
 -- Assumes nothing.
-use mathlib.Core.Path.{◌≡◌, refl, ap, ap₂, sym, ◌∙◌, subst}
-use mathlib.Core.Bool.{Bool, true, false, ◌&&◌, ◌||◌}
+use mathlib.Core.Path.{◌≡◌, refl, ap₂, ◌∙◌}
 use mathlib.Core.List.{List, [], ◌∷◌, ◌++◌}
 use mathlib.Core.Option.{Option, none, some}
 use Prim.Native.Nat.{ℕ, zero, suc, ◌+◌}
 use lib.Dec.{eqb}
 use lib.Bits.{bit_xor}
 use lib.ListN.{length, get_or}
-use Rattle.bits.specs.Bits.{pick}
 use Rattle.netlist.specs.declared.Bit.{Bit}
 use Rattle.netlist.specs.declared.Bit.TheVariants.{Zero, One, Wire}
 use Rattle.netlist.specs.declared.Control.{Control}
 use Rattle.netlist.specs.declared.Reset.{Reset}
 use Rattle.netlist.specs.Netlist.{SecondPort}
-use Rattle.recorder.specs.Record.{Signal, Expr, Stmt, Expr.mux}
-use Rattle.recorder.specs.Writer.{Event, signalsOf, stmtsOf, Count, further, End, End.ok, End.no, Out, Writer, pure, refuse, emit, after, ◌>>=◌}
+use Rattle.recorder.specs.Record.{Signal, Expr, Stmt}
+use Rattle.recorder.specs.Writer.{signalsOf, stmtsOf, Count, further, End, End.ok, End.no, Writer, pure, refuse, emit, after, ◌>>=◌}
 use Rattle.recorder.proofs.Events.{signals-append, stmts-append}
 use Rattle.optimize.proofs.Muxes.{by-test}
 use Rattle.optimize.specs.declared.optimizer.Rewrite.{Rewrite}
@@ -25,10 +23,10 @@ use Rattle.optimize.specs.Lut.{low_of, high_of, fullTable, joinCofactors, lutCof
 use Rattle.behaviour.specs.Banks.{Member}
 use Rattle.wires.specs.declared.Constants.{Constants}
 use Rattle.wires.specs.Wires.{WireRef, Wires}
-use Rattle.wires.specs.Expressions.{refOf, wireRef, readRef, bitExpression, whole, bitSignal, assertedExpression, concatParts, vectorParts, vectorExpression, bitsExpression, readBits}
-use Rattle.address_mux.specs.AddressMux.{Node, muxLevel, topLevel, muxLevels, balancedAddressMux}
+use Rattle.wires.specs.Expressions.{refOf, wireRef, bitExpression, whole, bitSignal, assertedExpression, concatParts, vectorParts, vectorExpression, readBits}
+use Rattle.address_mux.specs.AddressMux.{Node, muxLevel, muxLevels}
 use Rattle.memories.specs.Memories.{Word, PortExprs, gate, writeWord, writeSecond, candidatesFrom, enableOf, nextRead, secondExprs, dramSelect}
-use Rattle.lowering.specs.Emit.{withEnable, resetBit, withReset, nextBit, nextBits, resetBits, bankReset}
+use Rattle.lowering.specs.Emit.{withEnable, withReset, nextBit, nextBits, resetBits, bankReset}
 use Rattle.forms.specs.Acts.{Quiet}
 
 pub quiet-pure : {A : Type 0} {a : A} → Quiet (pure a)

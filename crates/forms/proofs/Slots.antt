@@ -16,16 +16,14 @@ use Prim.Native.Nat.{ℕ, zero, suc, ◌+◌, ◌-◌, ◌≤◌, ◌<◌}
 use native.Mathlib.Nat.{not-suc-le-zero}
 use native.Mathlib.Omega.{arith}
 use lib.Dec.{eqb}
-use lib.ListN.{length, get_or, length-append, get_or-append, length-map}
+use lib.ListN.{length, get_or, length-append, get_or-append}
 use lib.Seq.{get_or-append-add}
 use Rattle.bits.specs.Bits.{pick}
-use Rattle.netlist.specs.declared.Bit.{Bit}
-use Rattle.netlist.specs.declared.Bit.TheVariants.{Zero, One, Wire}
+use Rattle.netlist.specs.declared.Bit.TheVariants.{Wire}
 use Rattle.netlist.specs.Netlist.{Port, SecondPort, Netlist, Cell, lut4, pfumx, l6mux21, ccu2c, multiplier, flipFlop, blockRam, distributedRam, io, jtagg, pll}
 use Rattle.behaviour.specs.Banks.{Bank, collectFlipFlopBanks}
 use Rattle.behaviour.specs.WireMap.{Source, Slot, pins, WireRef, portSlots, find, is_some, single, together, secondSlot, pllWires, reserveFresh, reserve, reserveAll, bankSlot, slots}
 use Rattle.behaviour.specs.Behaviour.{absent}
-use Rattle.behaviour.proofs.MapLaws.{find-append, or_else}
 use Rattle.meaning.specs.Mapped.{no_slot}
 use Rattle.forms.specs.Groups.{Group, apiece, secondGroup, groups, slot_of, isPll}
 

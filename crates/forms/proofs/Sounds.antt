@@ -6,43 +6,41 @@ use mathlib.Core.Bool.{Bool, true, false, ◌&&◌}
 use mathlib.Core.List.Memᴰ.{cases_cons}
 use mathlib.Core.List.Memᴰ.{head as here}
 use mathlib.Core.List.Memᴰ.{not-nil}
-use mathlib.Core.List.Memᴰ.{tail as there}
 use mathlib.Core.List.{List, [], ◌∷◌, ◌++◌, map, append-nil, append_assoc, Memᴰ as Mem}
 use mathlib.Core.Option.{Option, none, some}
 use Prim.Native.Nat.{ℕ, zero, suc, ◌+◌, ◌^◌, ◌≤◌, ◌<◌}
 use native.Mathlib.Nat.{not-suc-le-zero}
 use native.Mathlib.Omega.{arith}
 use native.Mathlib.Decide.{dec_lt}
-use lib.Dec.{eqb, leb, ltb}
-use lib.ListN.{length, get_or, replicate, length-append, length-map, get_or-append, get_or-map}
-use borrow.Author.Tests.{eqb-true, eq-eqb, ne_eqb, le-leb, lt-ltb}
+use lib.Dec.{eqb}
+use lib.ListN.{length, get_or, replicate, length-append, length-map, get_or-map}
+use borrow.Author.Tests.{eq-eqb, ne_eqb, le-leb, lt-ltb}
 use Rattle.bits.specs.Bits.{pick}
 use Rattle.netlist.specs.declared.Bit.TheVariants.{Wire}
 use Rattle.netlist.specs.declared.Limits.{Limits}
 use Rattle.netlist.specs.declared.Reset.{Reset}
 use Rattle.netlist.specs.Netlist.{Port, SecondPort, FlipFlop, Netlist, Cell, lut4, pfumx, l6mux21, ccu2c, multiplier, flipFlop, blockRam, distributedRam, io, jtagg, pll}
-use Rattle.netlist.specs.Shape.{Each, each_at, FitsOption, FitsReset, FitsSecond, FitsCell, FitsPort, Fits}
-use Rattle.recorder.specs.Record.{Signal, Expr, Expr.const, Expr.read, Expr.concat, Expr.not, Expr.and, Expr.or, Expr.xor, Expr.mux, Expr.eq, Expr.mul, RegReset, RegEnable, Stmt, Stmt.assign, Stmt.reg, Model, target}
-use Rattle.recorder.specs.Writer.{Event, Event.signal, Event.expr, Event.stmt, signalsOf, exprsOf, stmtsOf, Count, further, Out}
+use Rattle.netlist.specs.Shape.{Each, each_at, FitsOption, FitsReset, FitsSecond, FitsCell, FitsPort}
+use Rattle.recorder.specs.Record.{Signal, Expr, Expr.const, Expr.read, Expr.concat, Expr.not, Expr.and, Expr.or, Expr.xor, Expr.mux, Expr.eq, Expr.mul, RegReset, RegEnable, Stmt, Stmt.assign, Stmt.reg, target}
+use Rattle.recorder.specs.Writer.{Event, Event.signal, Event.expr, Event.stmt, signalsOf, exprsOf, stmtsOf, further, Out}
 use Rattle.behaviour.specs.Banks.{Member, Bank, outputsOf, asyncReset, filterAsync, collectFlipFlopBanks}
 use Rattle.behaviour.specs.WireMap.{Source, inputs, shown, pins, bank, Slot, bankSlot, slots}
 use Rattle.behaviour.specs.Behaviour.{absent}
-use Rattle.behaviour.proofs.BankLaws.{IsBank, IsCell, Begins}
-use Rattle.wires.specs.Wires.{Wires, WireRef as Ref}
+use Rattle.behaviour.proofs.BankLaws.{Begins}
 use Rattle.lowering.specs.Lower.{allowed, reserveNetlist, emitNetlist, lowerNetlist}
 use Rattle.simulation.specs.Wellformed.{count_of, statements, in_range, wide, broad, earlier, widthSum, exprFits, suits, resetFits, enableFits, stmtFits, signalFits}
-use Rattle.simulation.specs.Tick.{readsExpr, readsAll}
+use Rattle.simulation.specs.Tick.{readsAll}
 use Rattle.simulation.specs.Run.{exprWidth}
 use Rattle.simulation.specs.Sound.{AllFrom, signalWidths, exprWidths, on, drivers, Sound}
-use Rattle.meaning.specs.Mapped.{LabelFits, WidthFits, SignalFits, no_slot, Mapping, portSignals, Reserved}
+use Rattle.meaning.specs.Mapped.{LabelFits, WidthFits, no_slot, portSignals}
 use Rattle.meaning.proofs.Whole.{lowering-is}
-use Rattle.forms.specs.Groups.{Group, secondGroup, groups, slot_of}
+use Rattle.forms.specs.Groups.{Group, secondGroup, groups}
 use Rattle.forms.specs.Acts.{targets, cellWords, allWords, netlistWords}
-use Rattle.forms.specs.Typed.{Context, grow, growAll, At, Sig, Exp, Typed₁, Grows, Numbered, Wide, GoodExpr, GoodReset, GoodEnable, GoodStmt, GoodAll, Wired}
+use Rattle.forms.specs.Typed.{Context, grow, growAll, At, Sig, Typed₁, Grows, Numbered, Wide, GoodExpr, GoodReset, GoodEnable, GoodStmt, GoodAll, Wired}
 use Rattle.forms.specs.Lowered.{none_yet, loweredModel, Lowered, Roomy}
 use Rattle.forms.specs.Dependent.{first_word, MayRead}
-use Rattle.forms.proofs.Slots.{Late, of-cell, of-bank, ports-first, ports-within, slot-late, OfCell, OfGroup}
-use Rattle.forms.proofs.Counting.{noSignal, occurs, kept, slot-signals, slot-count, mapping, signals-are, targets-are, on-signal, one-statement, slot-fits, slot-signal, PortSlot, gives, shows, port-slot, bank-is, apiece-wire, group-some, leader-there, Located, port-signal, only_one}
+use Rattle.forms.proofs.Slots.{Late, of-cell, of-bank, ports-first, ports-within, slot-late}
+use Rattle.forms.proofs.Counting.{noSignal, occurs, kept, slot-signals, slot-count, signals-are, targets-are, on-signal, one-statement, slot-fits, slot-signal, PortSlot, gives, shows, port-slot, bank-is, apiece-wire, group-some, leader-there, port-signal, only_one}
 use Rattle.forms.proofs.Fits.{grows-trans, grows_all, good-append}
 use Rattle.forms.proofs.FitCells.{Levelled}
 use Rattle.forms.proofs.FitLower.{FitsBank, PortsThere, Suited, fit-netlist}

@@ -2,48 +2,37 @@
 -- Assumes nothing.
 use mathlib.Core.Path.{◌≡◌, refl, ap, ap₂, sym, ◌∙◌, subst}
 use mathlib.Core.Logic.{◌⊎◌, inl, inr}
-use mathlib.Core.Bool.{Bool, true, false, false≢true, true≢false}
-use mathlib.Core.List.Memᴰ.{append_left as mem-left}
-use mathlib.Core.List.Memᴰ.{append_right as mem-right}
+use mathlib.Core.Bool.{Bool, true, false}
 use mathlib.Core.List.Memᴰ.{cases_cons}
 use mathlib.Core.List.Memᴰ.{head as here}
 use mathlib.Core.List.Memᴰ.{not-nil}
 use mathlib.Core.List.Memᴰ.{tail as there}
-use mathlib.Core.List.{List, [], ◌∷◌, ◌++◌, map, append-nil, Memᴰ as Mem}
-use mathlib.Core.Option.{Option, none, some, some-ne-none}
+use mathlib.Core.List.{List, [], ◌∷◌, ◌++◌, map, Memᴰ as Mem}
+use mathlib.Core.Option.{Option, none, some}
 use Prim.Native.Nat.{ℕ, zero, suc, ◌+◌, ◌-◌, ◌≤◌, ◌<◌}
 use native.Mathlib.Nat.{not-suc-le-zero}
 use native.Mathlib.Omega.{arith}
-use native.Mathlib.Decide.{dec_lt, ℕ_discrete}
 use lib.Dec.{eqb}
-use lib.ListN.{length, get_or, length-append, length-map, get_or-append}
-use borrow.Author.Tests.{eqb-true, eq-eqb, ne_eqb}
+use lib.ListN.{length, get_or, length-map}
+use borrow.Author.Tests.{ne_eqb}
 use Rattle.bits.specs.Bits.{pick}
 use Rattle.netlist.specs.declared.Bit.{Bit}
-use Rattle.netlist.specs.declared.Bit.TheVariants.{Zero, One, Wire}
+use Rattle.netlist.specs.declared.Bit.TheVariants.{Zero, Wire}
 use Rattle.netlist.specs.declared.Limits.{Limits}
-use Rattle.netlist.specs.declared.Reset.{Reset}
-use Rattle.netlist.specs.Netlist.{Port, SecondPort, FlipFlop, Pll, Netlist, Cell, lut4, pfumx, l6mux21, ccu2c, multiplier, flipFlop, blockRam, distributedRam, io, jtagg, pll}
-use Rattle.netlist.specs.Shape.{Each, each_at, FitsOption, FitsReset, FitsSecond, FitsCell, FitsPort, FitsFlipFlop, Fits}
-use Rattle.recorder.specs.Record.{Signal}
-use Rattle.recorder.specs.Writer.{Event, Event.signal, Event.expr, Event.stmt, signalsOf, exprsOf, stmtsOf}
-use Rattle.behaviour.specs.Banks.{Member, Bank, outputsOf, asyncReset, filterAsync, collectFlipFlopBanks}
-use Rattle.behaviour.specs.WireMap.{Source, inputs, shown, pins, bank, Slot, WireRef, find, portSlots, pllWires, bankSlot, slots}
+use Rattle.netlist.specs.Netlist.{Port, SecondPort, Pll, Netlist, Cell, lut4, pfumx, l6mux21, ccu2c, multiplier, flipFlop, blockRam, distributedRam, io, jtagg, pll}
+use Rattle.netlist.specs.Shape.{Each, each_at, FitsOption, FitsSecond, FitsCell}
+use Rattle.behaviour.specs.Banks.{Member, Bank, outputsOf, collectFlipFlopBanks}
+use Rattle.behaviour.specs.WireMap.{inputs, shown, pins, Slot, portSlots, pllWires, slots}
 use Rattle.behaviour.specs.Behaviour.{Driver, pin, driver, driverIn, bitSource, driverReads, depends, wiresOf, absent, Depends}
-use Rattle.behaviour.proofs.BankLaws.{IsBank, IsCell, Begins}
 use Rattle.wires.specs.Wires.{Wires, WireRef as Ref}
-use Rattle.lowering.specs.Lower.{reserveNetlist}
-use Rattle.meaning.specs.Mapped.{WidthFits, SignalFits, no_slot, Mapping, portSignals, Reserved}
-use Rattle.meaning.proofs.Reserving.{mapping-count}
+use Rattle.meaning.specs.Mapped.{no_slot}
 use Rattle.forms.specs.Groups.{Group, apiece, secondGroup, groups, slot_of, isPll}
-use Rattle.forms.specs.Typed.{Context, growAll, grow, At, Sig, Wide, GoodAll, None}
+use Rattle.forms.specs.Typed.{None}
 use Rattle.forms.specs.Suits.{From, WideAs, Suits, AllSuit, SecondSuits, CellSuits, BankSuits, PortSuits, PortsSuit}
-use Rattle.forms.specs.Lowered.{none_yet, loweredModel, Lowered, Roomy}
+use Rattle.forms.specs.Lowered.{Lowered}
 use Rattle.forms.specs.Dependent.{first_word, MayRead, a_word, a-wire}
-use Rattle.forms.proofs.Slots.{Placed, OfGroup, OfCell, group-slot, bank-slot, Late, of-cell, of-bank, ports-first, ports-within, slot-late}
-use Rattle.forms.proofs.Counting.{noSignal, kept, slot-signals, mapping, wire-at, bank-is, Located, located, PortSlot, gives, shows, port-slot, slot-fits, slot-signal, OwnSlot, pll-own, pll-apart, apiece-wire, group-some, leader-first, leader-there}
-use Rattle.forms.proofs.FitCells.{Levelled}
-use Rattle.forms.proofs.FitLower.{FitsBank, PortsThere, Suited}
+use Rattle.forms.proofs.Slots.{Placed, group-slot, bank-slot, ports-first, ports-within}
+use Rattle.forms.proofs.Counting.{slot-signals, mapping, wire-at, bank-is, Located, located, OwnSlot, pll-own, pll-apart, apiece-wire, group-some, leader-first, leader-there}
 
 module _ {limits : Limits} {n : Netlist} (a : Lowered limits n) where
   abbrev m : Wires

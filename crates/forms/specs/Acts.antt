@@ -1,10 +1,10 @@
 -- Which signals and which statements' targets a netlist's emission writes, in order.
-use Rattle.std.specs.Prelude.{◌≡◌, Bool, true, false, ◌||◌, List, [], ◌∷◌, ◌++◌, map, ℕ, zero, suc, ◌+◌, eqb, length, get_or, take, drop, replicate}
+use Rattle.std.specs.Prelude.{◌≡◌, ◌||◌, List, [], ◌∷◌, ◌++◌, map, ℕ, zero, suc, ◌+◌, eqb, get_or, take, drop, replicate}
 use Rattle.std.proofs.Math.Option.{Option, none, some}
 use Rattle.bits.specs.Bits.{pick}
 use Rattle.netlist.specs.Netlist.{Port, SecondPort, Netlist, Cell, lut4, pfumx, l6mux21, ccu2c, multiplier, flipFlop, blockRam, distributedRam, io, jtagg, pll}
 use Rattle.recorder.specs.Record.{Signal, Stmt, target}
-use Rattle.recorder.specs.Writer.{Event, signalsOf, stmtsOf, Count, Out, Writer}
+use Rattle.recorder.specs.Writer.{Event, signalsOf, stmtsOf, Count, Writer}
 use Rattle.behaviour.specs.Banks.{Bank, collectFlipFlopBanks}
 use Rattle.behaviour.specs.WireMap.{wordSignals}
 use Rattle.wires.specs.Wires.{Wires, WireRef}

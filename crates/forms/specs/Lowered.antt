@@ -1,11 +1,11 @@
 -- A netlist that lowering accepts, and its model.
-use Rattle.std.specs.Prelude.{◌≡◌, List, ℕ, ◌≤◌}
-use Rattle.std.proofs.Math.Option.{Option, none}
+use Rattle.std.specs.Prelude.{◌≡◌, ℕ, ◌≤◌}
+use Rattle.std.proofs.Math.Option.{none}
 use Rattle.netlist.specs.declared.Limits.{Limits}
 use Rattle.netlist.specs.Netlist.{Netlist}
 use Rattle.netlist.specs.Shape.{Fits}
 use Rattle.recorder.specs.Record.{Model}
-use Rattle.recorder.specs.Writer.{Count, End.ok, Out, modelOf}
+use Rattle.recorder.specs.Writer.{Count, End.ok, modelOf}
 use Rattle.wires.specs.Wires.{Wires}
 use Rattle.lowering.specs.Lower.{overdrivenFrom, reserveNetlist, lowerNetlist}
 

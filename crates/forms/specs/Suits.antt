@@ -1,12 +1,12 @@
 -- What the form of a netlist's records asks of the wire map: each target has its value's width, and may depend on what its cell reads.
-use Rattle.std.specs.Prelude.{◌≡◌, ◌⊎◌, Bool, true, ℕ, suc, ◌≤◌, ◌<◌, eqb, length, get_or}
+use Rattle.std.specs.Prelude.{◌≡◌, ◌⊎◌, true, ℕ, suc, ◌≤◌, ◌<◌, eqb, length, get_or}
 use mathlib.Core.List.{List, [], ◌∷◌, ◌++◌, Memᴰ as Mem}
 use Rattle.std.proofs.Math.Option.{Option, none, some}
 use Rattle.netlist.specs.declared.Bit.{Bit}
 use Rattle.netlist.specs.declared.Bit.TheVariants.{Wire}
 use Rattle.netlist.specs.Netlist.{Port, SecondPort, Cell, lut4, pfumx, l6mux21, ccu2c, multiplier, flipFlop, blockRam, distributedRam, io, jtagg, pll}
 use Rattle.behaviour.specs.Banks.{Bank}
-use Rattle.behaviour.specs.Behaviour.{wiresOf, depends}
+use Rattle.behaviour.specs.Behaviour.{wiresOf}
 use Rattle.wires.specs.Wires.{WireRef, Wires}
 use Rattle.forms.specs.Typed.{None}
 

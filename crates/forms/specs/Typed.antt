@@ -3,8 +3,8 @@
 use Rattle.std.specs.Prelude.{◌≡◌, ℕ, ◌+◌, ◌^◌, ◌<◌, ◌≤◌, length, get_or}
 use mathlib.Core.List.{List, [], ◌∷◌, ◌++◌, Memᴰ as Mem}
 use Rattle.std.proofs.Math.Option.{Option, none, some}
-use Rattle.recorder.specs.Record.{Signal, Expr, Expr.const, Expr.read, Expr.concat, Expr.not, Expr.and, Expr.or, Expr.xor, Expr.mux, Expr.eq, Expr.mul, RegReset, RegEnable, Stmt, Stmt.assign, Stmt.reg}
-use Rattle.recorder.specs.Writer.{Event, Event.signal, Event.expr, Event.stmt, Count, End, Out, Writer}
+use Rattle.recorder.specs.Record.{Expr, Expr.const, Expr.read, Expr.concat, Expr.not, Expr.and, Expr.or, Expr.xor, Expr.mux, Expr.eq, Expr.mul, RegReset, RegEnable, Stmt, Stmt.assign, Stmt.reg}
+use Rattle.recorder.specs.Writer.{Event, Event.signal, Event.expr, Event.stmt, Count, Writer}
 use Rattle.recorder.specs.Meaning.{Ends}
 use Rattle.wires.specs.Wires.{WireRef, Wires}
 use Rattle.simulation.specs.Tick.{readsExpr}
