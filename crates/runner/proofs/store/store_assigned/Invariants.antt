@@ -1,0 +1,9 @@
+use Rattle.std.proofs.Common.{◌-◌}
+use Rattle.evaluation.proofs.Storing.{Storing}
+use Rattle.runner.proofs.store.store_assigned.Given as goal
+
+abbrev pub invariant-loop-s : goal.invariant-loop-s
+invariant-loop-s l = Storing l.signals l.exprs l.stmts l.values l.fn.bytes l.bytes l.s
+
+abbrev pub decreases-loop-s : goal.decreases-loop-s
+decreases-loop-s l = l.count - l.s
