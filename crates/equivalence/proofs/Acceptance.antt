@@ -1,28 +1,26 @@
 -- What an accepting answer of lowering says: the netlist is lowered, and the used words are its model's.
 -- Assumes nothing.
 use mathlib.Core.Path.{◌≡◌, refl, ap, ap₂, sym, ◌∙◌, subst}
-use mathlib.Core.Bool.{Bool, true, false}
-use mathlib.Core.List.{List, [], ◌∷◌, ◌++◌}
+use mathlib.Core.List.{List}
 use mathlib.Core.Option.{Option, none, some}
-use Prim.Native.Nat.{ℕ, ◌+◌, ◌-◌, ◌≤◌}
+use Prim.Native.Nat.{ℕ, ◌-◌}
 use native.Mathlib.Omega.{arith}
 use lib.ListN.{length, take, replicate}
 use lib.Seq.{take_at}
 use Rattle.netlist.specs.declared.Limits.{Limits}
 use Rattle.netlist.specs.Netlist.{Netlist}
-use Rattle.netlist.specs.Reader.{Read, netlist, refused, readWords}
+use Rattle.netlist.specs.Reader.{netlist, readWords}
 use Rattle.netlist.specs.Shape.{Fits, Answer as ReadAnswer}
 use Rattle.netlist.specs.ReaderFits.{answer}
 use Rattle.recorder.specs.declared.Tapes.{Tapes}
 use Rattle.recorder.specs.Record.{Model}
-use Rattle.recorder.specs.Writer.{Event, Count, further, End, End.ok, End.no, Out, Writer, modelOf, ◌>>=◌}
-use Rattle.recorder.specs.Lists.{Lists, lists, count_of, Played, going, full, play, Answer, Answer.Done, Answer.Failed, Left, finish, writing}
-use Rattle.recorder.specs.Words.{words_of, holding, holdingAll, tapesOf, nothing, blank}
-use Rattle.recorder.proofs.Events.{bind_ok, bind-no}
+use Rattle.recorder.specs.Writer.{End, End.ok, End.no, Out}
+use Rattle.recorder.specs.Lists.{Lists, lists, Played, going, full, play, finish}
+use Rattle.recorder.specs.Words.{words_of, holding, blank}
+use Rattle.recorder.proofs.Events.{bind-no}
 use Rattle.recorder.proofs.Played.{going-fit}
 use Rattle.wires.specs.Wires.{Wires}
-use Rattle.lowering.specs.Lower.{overdrivenFrom, reserveNetlist, emitNetlist, lowerNetlist, start, Accepted, Refused, Lowering, judged, ended, lowered, loweredRead, lowerWords}
-use Rattle.lowering.specs.Lower.{Lowered as Verdict}
+use Rattle.lowering.specs.Lower.{overdrivenFrom, reserveNetlist, emitNetlist, lowerNetlist, start, Accepted, Refused, Lowering, ended, lowered}
 use Rattle.forms.specs.Lowered.{none_yet, loweredModel, Lowered}
 use Rattle.equivalence.specs.Demand.{usedLists}
 

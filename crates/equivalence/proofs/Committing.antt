@@ -7,7 +7,7 @@ use mathlib.Core.List.Memᴰ.{cases_cons}
 use mathlib.Core.List.Memᴰ.{head as here}
 use mathlib.Core.List.Memᴰ.{not-nil}
 use mathlib.Core.List.Memᴰ.{tail as there}
-use mathlib.Core.List.{List, [], ◌∷◌, ◌++◌, map, Memᴰ as Mem}
+use mathlib.Core.List.{List, [], ◌∷◌, map, Memᴰ as Mem}
 use mathlib.Core.Option.{Option, none, some}
 use Prim.Native.Nat.{ℕ, zero, suc, ◌+◌, ◌^◌, ◌≤◌, ◌<◌}
 use native.Mathlib.Nat.{not-suc-le-zero}
@@ -22,31 +22,31 @@ use Rattle.netlist.specs.declared.Reset.{Reset}
 use Rattle.netlist.specs.declared.Limits.{Limits}
 use Rattle.netlist.specs.Netlist.{FlipFlop, SecondPort, BlockRam, DistributedRam, Netlist, Cell, lut4, pfumx, l6mux21, ccu2c, multiplier, flipFlop, blockRam, distributedRam, io, jtagg, pll}
 use Rattle.netlist.specs.Reader.{addressWidth, shift_of}
-use Rattle.netlist.specs.Shape.{Each, each_at, FitsOption, FitsSecond, FitsCell, FitsBlockRam, FitsDistributedRam}
+use Rattle.netlist.specs.Shape.{each_at, FitsOption, FitsSecond, FitsCell, FitsBlockRam, FitsDistributedRam}
 use Rattle.recorder.specs.Record.{RegEnable}
 use Rattle.recorder.specs.Evaluate.{Signals}
 use Rattle.behaviour.specs.Banks.{Member, Bank, outputsOf, asyncReset, filterAsync, flipFlopsOf, leadersOf, bankIn, members_of, collectFlipFlopBanks}
-use Rattle.behaviour.specs.WireMap.{bankSlot, slots, wordSignals}
-use Rattle.behaviour.specs.Behaviour.{Valuation, Registers, value, values, zeros, level, asserted, enabled, resetting, resetValue, loadedFlop, nextFlop, shiftIn, address, written, loaded, writtenA, writtenB, loadedA, loadedB, nextRam, nextDistributed, next, commit, absent}
-use Rattle.behaviour.proofs.BankLaws.{Mates, mates-reset, flop-banked, is_member, cell-is-flop, IsCell, IsBank, bank-at, bank-count}
-use Rattle.simulation.proofs.Bounds.{length-binary, length-window}
+use Rattle.behaviour.specs.WireMap.{wordSignals}
+use Rattle.behaviour.specs.Behaviour.{Valuation, Registers, value, values, zeros, asserted, enabled, resetting, resetValue, loadedFlop, nextFlop, shiftIn, address, written, loaded, writtenA, writtenB, loadedA, loadedB, nextRam, nextDistributed, next, commit, absent}
+use Rattle.behaviour.proofs.BankLaws.{Mates, mates-reset, flop-banked, is_member, cell-is-flop, bank-at, bank-count}
+use Rattle.simulation.proofs.Bounds.{length-window}
 use Rattle.wires.specs.declared.Constants.{Constants}
 use Rattle.wires.specs.Wires.{Wires, WireRef as Ref}
 use Rattle.meaning.specs.Held.{refBit, held, valuesAt, lastChoice}
 use Rattle.meaning.specs.Settles.{Tick, asserts, enableNow}
 use Rattle.meaning.specs.Runs.{Laid}
-use Rattle.meaning.proofs.BitReads.{Alone, IsSignal}
+use Rattle.meaning.proofs.BitReads.{IsSignal}
 use Rattle.meaning.proofs.Equations.{some_is}
 use Rattle.meaning.proofs.Registers.{loadedAll, resetValues, ResetNow, Banked}
-use Rattle.meaning.proofs.Memories.{PortValue, choices, EnableIs, ReadPort, Updated, shiftFor, firstValue, portValue, secondValue, SecondRead, Remembered, dramValue, Distributed}
-use Rattle.meaning.proofs.Whole.{Does, AllDo, AllBanked, Runs}
+use Rattle.meaning.proofs.Memories.{PortValue, choices, EnableIs, ReadPort, shiftFor, firstValue, secondValue, SecondRead, Remembered, dramValue, Distributed}
+use Rattle.meaning.proofs.Whole.{Does, AllDo, AllBanked}
 use Rattle.forms.specs.Acts.{aim}
 use Rattle.forms.specs.Lowered.{Lowered}
 use Rattle.forms.proofs.Slots.{bank-slot}
 use Rattle.forms.proofs.Counting.{wire-at, bank-is, leader-first, leader-there}
-use Rattle.forms.proofs.FitRams.{Addressed, addressed}
+use Rattle.forms.proofs.FitRams.{addressed}
 use Rattle.equivalence.specs.Registers.{bits_of, read_of, secondRead, registersOf, registersAll}
-use Rattle.equivalence.proofs.Vectors.{values-at, values-all, window-all, window-at, pick_at, pick-map}
+use Rattle.equivalence.proofs.Vectors.{values-at, values-all, window-all, pick_at, pick-map}
 use Rattle.equivalence.proofs.Words.{word-chosen, writtenSecond, SecondSized, words-after}
 use Rattle.equivalence.proofs.Driving.{laid-at, does_at}
 

@@ -1,14 +1,11 @@
 -- Demand 3 and each call's answer, by induction over the list: the signal bytes hold what the cells hold.
 -- Assumes nothing.
 use mathlib.Core.Path.{◌≡◌, refl, ap, ap₂, sym, ◌∙◌, subst}
-use mathlib.Core.Logic.{◌⊎◌, inl, inr}
-use mathlib.Core.Bool.{Bool, true, false, ◌&&◌}
+use mathlib.Core.Bool.{Bool, true, false}
 use mathlib.Core.List.{List, [], ◌∷◌, ◌++◌, map}
 use mathlib.Core.Option.{Option, none, some}
 use Prim.Native.Nat.{ℕ, zero, suc, ◌+◌, ◌≤◌, ◌<◌}
-use native.Mathlib.Nat.{not-suc-le-zero}
 use native.Mathlib.Omega.{arith}
-use lib.Dec.{eqb}
 use lib.ListN.{length, get_or, take, drop, replicate, length-append, length-replicate, length-map, length-take}
 use lib.Seq.{get_or-append-add, drop_at}
 use borrow.Author.Tests.{ne_eqb}
@@ -18,42 +15,39 @@ use Rattle.netlist.specs.declared.Limits.{Limits}
 use Rattle.netlist.specs.Netlist.{SecondPort, Netlist, Cell, lut4, pfumx, l6mux21, ccu2c, multiplier, flipFlop, blockRam, distributedRam, io, jtagg, pll}
 use Rattle.netlist.specs.Reader.{netlist, readWords}
 use Rattle.netlist.specs.Shape.{Each}
-use Rattle.recorder.specs.declared.Tapes.{Tapes}
 use Rattle.recorder.specs.Record.{Signal, Model}
 use Rattle.recorder.specs.Evaluate.{Signals}
 use Rattle.recorder.specs.Lists.{Lists}
 use Rattle.recorder.specs.Words.{words_of}
 use Rattle.recorder.proofs.Roundtrip.{model-read}
 use Rattle.wires.specs.Wires.{Wires, WireRef as Ref}
-use Rattle.lowering.specs.Lower.{Accepted, Lowering, lowered, lowerWords, loweredRead}
+use Rattle.lowering.specs.Lower.{Accepted, lowered, loweredRead}
 use Rattle.behaviour.specs.WireMap.{slots, wordSignals}
 use Rattle.behaviour.specs.WireMap.{tickBits as portBits}
 use Rattle.behaviour.specs.Behaviour.{Registers, State, zeros, initial, start, tick, settledBy, committedBy, values, outputPorts, accepts, NoWireLoop, absent}
-use Rattle.simulation.specs.Wellformed.{malformed}
-use Rattle.simulation.specs.Tick.{looped}
 use Rattle.simulation.specs.Tick.{tick as tickModel}
-use Rattle.simulation.specs.Run.{Call, callModel, Outcome, total, inputWidth, signalBytes, perSignal, isOne, firing, verdict, refusal, answer, run, stateAfter, bytesAfter, ticked}
+use Rattle.simulation.specs.Run.{Call, callModel, total, inputWidth, signalBytes, perSignal, isOne, firing, verdict, refusal, answer, run, stateAfter, bytesAfter, ticked}
 use Rattle.simulation.specs.Run.{tickBits as inputBits}
 use Rattle.simulation.specs.Kept.{Fits, AllBits}
 use Rattle.simulation.proofs.Sound.{sound-words}
-use Rattle.simulation.proofs.Kept.{fits_cut, fits-tick, flat-length, accepted-good, after-fits, length-kept, bytes-are-bits, left_behind, refused-keeps}
+use Rattle.simulation.proofs.Kept.{fits_cut, flat-length, accepted-good, after-fits, length-kept, bytes-are-bits, left_behind, refused-keeps}
 use Rattle.meaning.specs.Held.{refBit, held}
-use Rattle.meaning.specs.Mapped.{LabelFits, SignalsFit, SignalFits, no_slot, portSignals}
+use Rattle.meaning.specs.Mapped.{LabelFits, no_slot, portSignals}
 use Rattle.meaning.specs.Runs.{Laid}
 use Rattle.memories.specs.Memories.{wordSignal}
 use Rattle.forms.specs.Acts.{aim, cellWords, allWords, netlistWords}
 use Rattle.forms.specs.Lowered.{loweredModel, Lowered, Roomy}
-use Rattle.forms.proofs.Slots.{Late, of-cell, of-bank, ports-within, slot-late}
-use Rattle.forms.proofs.Counting.{noSignal, kept, slot-signals, slot-count, slot-signal, signals-are, signals-count, slot-fits, ports-long}
+use Rattle.forms.proofs.Slots.{Late, of-cell, of-bank, slot-late}
+use Rattle.forms.proofs.Counting.{noSignal, kept, slot-signals, slot-count, slot-signal, signals-count, slot-fits, ports-long}
 use Rattle.forms.proofs.Suiting.{each_from}
 use Rattle.forms.proofs.Sounds.{lowered-sound, each_append, each_same}
 use Rattle.equivalence.specs.Registers.{bits_of, read_of, secondRead, registersOf, registersAll}
-use Rattle.equivalence.specs.Demand.{usedLists, firedBy, tickBy, enough, made, after, ByCells, bytes_of, shownByCells, Agrees, done, refused, AllAgree, answerTo, Answered, Fresh, Always, Demand3, AllAnswered, BehindKept}
-use Rattle.simulation.specs.Shown.{Entry, entryCall, shownBytes, ByModel, shownByModel, bytesAfterAll}
+use Rattle.equivalence.specs.Demand.{tickBy, made, after, ByCells, bytes_of, shownByCells, Agrees, done, refused, AllAgree, answerTo, Answered, Fresh, Always, Demand3, AllAnswered, BehindKept}
+use Rattle.simulation.specs.Shown.{Entry, entryCall, shownBytes, ByModel, shownByModel}
 use Rattle.equivalence.proofs.Loops.{never-looped}
 use Rattle.equivalence.proofs.Inputs.{port-bits, total-append}
 use Rattle.equivalence.proofs.Ticking.{runs, all-signals, registers-after, wires-after, ports-after}
-use Rattle.equivalence.proofs.Acceptance.{read_fits, Kept, accepted-kept, used-words, is-lowered}
+use Rattle.equivalence.proofs.Acceptance.{read_fits, accepted-kept, used-words, is-lowered}
 use Rattle.equivalence.proofs.Answering.{Tested, passes, fails, refusal_is, answer-tested}
 use Rattle.equivalence.proofs.Shows.{shownBits, BitsIn, bytes-shown, bits-pass, NoneShown, ports-shown, Same, same-split, zero-bytes, zeros-fresh, zero_bits, zeros-shown}
 
@@ -282,6 +276,8 @@ module _ {limits : Limits} {n : Netlist} (a : Lowered limits n) {widest : ℕ} (
     stepped : (o : Option (ℕ × ℕ)) (b : Bool) → Tested o b → answer widest c ≡ o → made n e ≡ b
         → Agrees (record { answer = (run widest c).answer; outputs = shownBytes M.signals bytes' }) (record { made = made n e; outputs = bytes_of (after n S e).outputs }) × Good bytes' (after n S e)
     unfolding run
+    stepped none false x q p = elim x [ ]
+    stepped (some x) true y q p = elim y [ ]
     stepped none true passes q p =
         let s : after n S e ≡ tick n S (tickBy e) = ap (λ (x : Bool). pick x (tick n S (tickBy e)) S) p in
         let k = good-after q in (

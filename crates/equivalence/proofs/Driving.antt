@@ -1,39 +1,36 @@
 -- In a settled state of the model each wire holds what its driver gives, so the wires are the netlist's settled ones.
 -- Assumes nothing.
-use mathlib.Core.Path.{◌≡◌, refl, ap, ap₂, sym, ◌∙◌, subst}
-use mathlib.Core.Logic.{◌⊎◌, inl, inr}
-use mathlib.Core.Bool.{Bool, true, false}
+use mathlib.Core.Path.{◌≡◌, refl, ap, sym, ◌∙◌, subst}
+use mathlib.Core.Bool.{false}
 use mathlib.Core.List.{List, [], ◌∷◌, ◌++◌, map, Memᴰ as Mem}
 use mathlib.Core.Option.{Option, none, some, none-ne-some}
-use Prim.Native.Nat.{ℕ, zero, suc, ◌+◌, ◌-◌, ◌≤◌, ◌<◌}
+use Prim.Native.Nat.{ℕ, zero, suc, ◌+◌, ◌<◌}
 use native.Mathlib.Nat.{not-suc-le-zero}
 use native.Mathlib.Omega.{arith}
 use native.Mathlib.Decide.{dec_lt}
 use lib.ListN.{length, get_or, take, drop, length-map}
 use lib.Seq.{get_or-take, get_or-drop}
-use Rattle.bits.specs.Bits.{pick, Bits}
-use Rattle.netlist.specs.declared.Bit.{Bit}
-use Rattle.netlist.specs.declared.Bit.TheVariants.{Zero, One, Wire}
+use Rattle.bits.specs.Bits.{Bits}
+use Rattle.netlist.specs.declared.Bit.TheVariants.{Wire}
 use Rattle.netlist.specs.declared.Limits.{Limits}
-use Rattle.netlist.specs.Netlist.{Netlist, Cell, flipFlop}
+use Rattle.netlist.specs.Netlist.{Netlist, Cell}
 use Rattle.netlist.specs.Shape.{each_at, FitsCell}
 use Rattle.recorder.specs.Evaluate.{Signals}
-use Rattle.behaviour.specs.Banks.{Member, Bank, collectFlipFlopBanks}
+use Rattle.behaviour.specs.Banks.{Member}
 use Rattle.behaviour.specs.WireMap.{Source, inputs, Slot, WireRef, find, slots, bankSlot, wordSignals}
 use Rattle.behaviour.specs.Behaviour.{Valuation, Registers, unused, absent, output, Driver, driver, driverIn, bitSource, gives as given_by, drive, settle, NoWireLoop}
 use Rattle.behaviour.specs.Settled.{settled_only}
-use Rattle.behaviour.proofs.BankLaws.{IsBank, IsCell}
 use Rattle.behaviour.proofs.MapLaws.{Holds as SlotHolds, BankHolds, bank-holds}
 use Rattle.wires.specs.declared.Constants.{Constants}
 use Rattle.wires.specs.Wires.{Wires, WireRef as Ref}
 use Rattle.meaning.specs.Held.{refBit, held}
 use Rattle.meaning.specs.Settles.{Tick}
-use Rattle.meaning.specs.Mapped.{refOf, no_slot, Mapping}
+use Rattle.meaning.specs.Mapped.{refOf, no_slot}
 use Rattle.meaning.specs.Runs.{Laid}
 use Rattle.meaning.proofs.Whole.{Does, AllDo, Runs}
-use Rattle.forms.specs.Groups.{Group, groups, slot_of}
+use Rattle.forms.specs.Groups.{Group, slot_of}
 use Rattle.forms.specs.Lowered.{Lowered}
-use Rattle.forms.proofs.Slots.{Placed, OfCell, OfGroup, Late, of-cell, of-bank, ports-first, slot-late}
+use Rattle.forms.proofs.Slots.{Placed, Late, of-cell, of-bank, ports-first, slot-late}
 use Rattle.forms.proofs.Counting.{mapping, slot-signals, Located, located, PortSlot, gives, shows, port-slot, wire-at, bank-is, group-some}
 use Rattle.equivalence.specs.Registers.{registersOf, registersAll}
 use Rattle.equivalence.proofs.Outputs.{cell-gives}

@@ -2,30 +2,29 @@
 -- Assumes nothing.
 use mathlib.Core.Path.{◌≡◌, refl, ap, ap₂, sym, ◌∙◌, subst}
 use mathlib.Core.Logic.{◌⊎◌, inl, inr}
-use mathlib.Core.Bool.{Bool, true, false, not, ◌&&◌, false≢true}
+use mathlib.Core.Bool.{Bool, true, false, ◌&&◌, false≢true}
 use mathlib.Core.List.Memᴰ.{cases_cons}
 use mathlib.Core.List.Memᴰ.{head as here}
 use mathlib.Core.List.Memᴰ.{not-nil}
 use mathlib.Core.List.Memᴰ.{tail as there}
 use mathlib.Core.List.{List, [], ◌∷◌, Memᴰ as Mem}
 use mathlib.Core.Option.{Option, none, some}
-use Prim.Native.Nat.{ℕ, zero, suc, ◌+◌, ◌≤◌, ◌<◌}
+use Prim.Native.Nat.{ℕ, zero, suc, ◌≤◌, ◌<◌}
 use native.Mathlib.Nat.{zero-add}
 use native.Mathlib.Omega.{arith}
 use lib.Dec.{eqb, leb, ltb}
 use lib.ListN.{length, get_or, length-map}
-use borrow.Author.Tests.{eqb-true, eq-eqb, ne_eqb, leb-true, ltb-true}
+use borrow.Author.Tests.{eq-eqb, leb-true, ltb-true}
 use Rattle.bits.specs.Bits.{pick, Bits, digit, lowest, same}
 use Rattle.settle.specs.Table.{at, getD-tab}
 use Rattle.recorder.specs.Record.{Signal, Stmt, Stmt.assign, Stmt.reg, RegReset, RegEnable, Model}
 use Rattle.recorder.specs.Read.{only}
 use Rattle.recorder.specs.Evaluate.{Signals, Values, value_of, evalAll}
 use Rattle.simulation.specs.Wellformed.{or_else, count_of, stmtFits, suits, broad, resetFits, enableFits}
-use Rattle.simulation.specs.Tick.{target, given, assigns, asserted, resetLoads, enabled, loads, become, commit, valuesIn, Firing}
+use Rattle.simulation.specs.Tick.{target, given, assigns, asserted, resetLoads, enabled, loads, become, commit, Firing}
 use Rattle.simulation.specs.Sound.{AllFrom, on, drivers, signalWidths, exprWidths, Sound}
-use Rattle.simulation.specs.Settled.{IsSettled, driven}
 use Rattle.simulation.proofs.Stores.{one_each}
-use Rattle.meaning.specs.Settles.{Tick, asserts, resetNow, resetBits, enableNow, IsReg, RegOn, Holds, AllHold}
+use Rattle.meaning.specs.Settles.{asserts, resetNow, resetBits, enableNow, IsReg, Holds, AllHold}
 use Rattle.equivalence.specs.Settled.{Settling, tickOf}
 
 -- THE ONE STATEMENT ON A SIGNAL

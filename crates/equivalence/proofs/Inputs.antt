@@ -1,20 +1,18 @@
 -- The input signals after a tick's bits are set, and what keeps its bits.
 -- Assumes nothing.
-use mathlib.Core.Path.{◌≡◌, refl, ap, ap₂, sym, ◌∙◌, subst}
-use mathlib.Core.Bool.{Bool, true, false, false≢true, true≢false}
+use mathlib.Core.Path.{◌≡◌, refl, ap, sym, ◌∙◌}
+use mathlib.Core.Bool.{Bool, true, false}
 use mathlib.Core.List.{List, [], ◌∷◌, ◌++◌}
-use Prim.Native.Nat.{ℕ, zero, suc, ◌+◌, ◌-◌, ◌≤◌, ◌<◌}
+use Prim.Native.Nat.{ℕ, zero, suc, ◌+◌, ◌<◌}
 use native.Mathlib.Nat.{not-suc-le-zero}
 use native.Mathlib.Omega.{arith}
 use lib.Dec.{eqb}
-use lib.ListN.{length, get_or, take, drop, length-append}
-use lib.Seq.{get_or-drop}
-use borrow.Author.Tests.{eqb-true}
+use lib.ListN.{length, get_or, take, drop}
 use Rattle.bits.specs.Bits.{pick, Bits}
 use Rattle.netlist.specs.Netlist.{Port}
 use Rattle.recorder.specs.Record.{Signal}
 use Rattle.lowering.specs.Reserve.{signalOf}
-use Rattle.behaviour.specs.WireMap.{Source, inputs, shown, Slot, portSlots, tickBits}
+use Rattle.behaviour.specs.WireMap.{inputs, shown, portSlots, tickBits}
 use Rattle.simulation.specs.Tick.{setInputs}
 use Rattle.simulation.specs.Run.{inputWidth, total}
 use Rattle.meaning.specs.Mapped.{no_slot, portSignals}

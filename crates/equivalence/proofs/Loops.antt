@@ -1,7 +1,6 @@
 -- Without a loop in the netlist there is none in the model: 13 never comes.
 -- Assumes nothing.
 use mathlib.Core.Path.{◌≡◌, refl, ap, sym, ◌∙◌, subst}
-use mathlib.Core.Logic.{◌⊎◌, inl, inr}
 use mathlib.Core.Bool.{Bool, true, false}
 use mathlib.Core.List.Memᴰ.{head as here}
 use mathlib.Core.List.Memᴰ.{not-nil}
@@ -11,7 +10,7 @@ use mathlib.Core.Option.{Option, none, some, none-ne-some}
 use Prim.Native.Nat.{ℕ, ◌≤◌, ◌<◌}
 use native.Mathlib.Omega.{arith}
 use lib.Dec.{eqb}
-use lib.ListN.{length, get_or}
+use lib.ListN.{length}
 use borrow.Author.Tests.{eqb-true}
 use Rattle.bits.specs.Bits.{pick}
 use Rattle.settle.specs.Ground.{Grounded, ground, grounded→no-loop}
@@ -21,7 +20,7 @@ use Rattle.netlist.specs.Netlist.{Netlist}
 use Rattle.recorder.specs.Record.{Stmt, Stmt.assign, Stmt.reg, Model}
 use Rattle.behaviour.specs.Behaviour.{Depends, NoWireLoop}
 use Rattle.behaviour.specs.Settled.{wires-grounded}
-use Rattle.wires.specs.Wires.{Wires, WireRef}
+use Rattle.wires.specs.Wires.{WireRef}
 use Rattle.simulation.specs.Wellformed.{or_else}
 use Rattle.simulation.specs.Tick.{target, given, assigns, readsAll, readsBy, depends, looped}
 use Rattle.simulation.proofs.Bounds.{reads-under}

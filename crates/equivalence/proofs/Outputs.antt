@@ -16,10 +16,10 @@ use native.Mathlib.Nat.{not-suc-le-zero, pow-succ'}
 use native.Mathlib.Omega.{arith}
 use native.Mathlib.Decide.{dec_lt, ℕ_discrete}
 use lib.Dec.{eqb}
-use lib.ListN.{length, get_or, take, drop, length-map, length-take, length-drop, get_or-append, get_or-eq_default}
+use lib.ListN.{length, get_or, take, drop, length-map, length-take, length-drop, get_or-append}
 use lib.Seq.{get_or-take, get_or-drop, get_or-append-add}
 use borrow.Author.Tests.{eq-eqb, ne_eqb}
-use Rattle.bits.specs.Bits.{pick, Bits, digit, number, binary, tableBit, window}
+use Rattle.bits.specs.Bits.{pick, Bits, number, binary, tableBit}
 use Rattle.netlist.specs.declared.Bit.{Bit}
 use Rattle.netlist.specs.declared.Limits.{Limits}
 use Rattle.netlist.specs.Netlist.{SecondPort, Pll, Cell, lut4, pfumx, l6mux21, ccu2c, multiplier, flipFlop, blockRam, distributedRam, io, jtagg, pll}
@@ -32,8 +32,8 @@ use Rattle.wires.specs.declared.Constants.{Constants}
 use Rattle.wires.specs.Wires.{Wires, WireRef as Ref}
 use Rattle.meaning.specs.Held.{held, valuesAt, Driven, lastChoice}
 use Rattle.meaning.specs.Settles.{Tick}
-use Rattle.meaning.proofs.Equations.{AllDriven, Locked}
-use Rattle.meaning.proofs.Memories.{Distributed, dramValue, choices}
+use Rattle.meaning.proofs.Equations.{AllDriven}
+use Rattle.meaning.proofs.Memories.{dramValue, choices}
 use Rattle.meaning.proofs.Whole.{Does}
 use Rattle.forms.specs.Groups.{Group, apiece, secondGroup, groups}
 use Rattle.forms.specs.Acts.{aim}

@@ -3,14 +3,13 @@
 use mathlib.Core.Path.{◌≡◌, refl, ap, ap₂, sym, ◌∙◌, subst}
 use mathlib.Core.Bool.{Bool, true, false}
 use mathlib.Core.List.{List, [], ◌∷◌, ◌++◌, map}
-use mathlib.Core.Option.{Option, none, some, some-ne-none}
-use Prim.Native.Nat.{ℕ, zero, suc, ◌+◌, ◌≤◌, ◌<◌}
+use mathlib.Core.Option.{none, some}
+use Prim.Native.Nat.{ℕ, zero, suc, ◌+◌, ◌≤◌}
 use native.Mathlib.Omega.{arith}
-use lib.Dec.{eqb, leb}
-use lib.ListN.{length, get_or, take, drop, replicate, length-drop, length-replicate}
+use lib.Dec.{eqb}
+use lib.ListN.{length, get_or, take, drop, replicate}
 use borrow.Author.Tests.{eq-eqb, ne_eqb, leb-true}
 use Rattle.bits.specs.Bits.{pick, Bits, digit}
-use Rattle.settle.specs.Table.{at}
 use Rattle.netlist.specs.declared.Bit.{Bit}
 use Rattle.netlist.specs.Netlist.{Port}
 use Rattle.netlist.specs.Shape.{Each}

@@ -1,47 +1,41 @@
 -- One tick of the model is one tick of the cells.
 -- Assumes nothing.
 use mathlib.Core.Path.{◌≡◌, refl, ap, ap₂, sym, ◌∙◌, subst, fun_ext}
-use mathlib.Core.Logic.{◌⊎◌, inl, inr}
-use mathlib.Core.Bool.{Bool, true, false, ◌&&◌, false≢true}
-use mathlib.Core.List.{List, [], ◌∷◌, ◌++◌, map, append_assoc, Memᴰ as Mem}
+use mathlib.Core.Bool.{Bool, true, false, ◌&&◌}
+use mathlib.Core.List.{List, [], ◌∷◌, ◌++◌, map, append_assoc}
 use mathlib.Core.Option.{Option, none, some}
-use Prim.Native.Nat.{ℕ, zero, suc, ◌+◌, ◌≤◌, ◌<◌}
-use native.Mathlib.Nat.{not-suc-le-zero}
+use Prim.Native.Nat.{ℕ, suc, ◌≤◌, ◌<◌}
 use native.Mathlib.Omega.{arith}
 use native.Mathlib.Decide.{ℕ_discrete}
 use lib.Dec.{eqb}
 use lib.ListN.{length, get_or, take, drop, length-map}
-use borrow.Author.Tests.{eqb-true, eq-eqb, ne_eqb}
+use borrow.Author.Tests.{eq-eqb, ne_eqb}
 use Rattle.bits.specs.Bits.{pick, Bits}
 use Rattle.settle.specs.Table.{at}
 use Rattle.netlist.specs.declared.Bit.{Bit}
 use Rattle.netlist.specs.declared.Bit.TheVariants.{Zero, One, Wire}
 use Rattle.netlist.specs.declared.Limits.{Limits}
 use Rattle.netlist.specs.Netlist.{SecondPort, Port, Netlist, Cell, lut4, pfumx, l6mux21, ccu2c, multiplier, flipFlop, blockRam, distributedRam, io, jtagg, pll}
-use Rattle.recorder.specs.Record.{Signal, Stmt, Model}
+use Rattle.recorder.specs.Record.{Signal, Model}
 use Rattle.recorder.specs.Evaluate.{Signals}
-use Rattle.behaviour.specs.Banks.{Member, Bank, outputsOf, collectFlipFlopBanks}
+use Rattle.behaviour.specs.Banks.{Member, outputsOf, collectFlipFlopBanks}
 use Rattle.behaviour.specs.WireMap.{Source, inputs, Slot, WireRef, find, signalIn, clockSignal, slots}
-use Rattle.behaviour.specs.Behaviour.{Valuation, Registers, Fired, values, isSignal, onFired, level, absent, settle, commit, settledBy, committedBy, outputPorts, NoWireLoop}
-use Rattle.behaviour.specs.Behaviour.{Tick as CellTick}
-use Rattle.simulation.specs.Wellformed.{count_of}
-use Rattle.simulation.specs.Tick.{Firing, given, assigns, setInputs, tick}
+use Rattle.behaviour.specs.Behaviour.{Valuation, Registers, isSignal, onFired, absent, settle, commit, NoWireLoop}
+use Rattle.simulation.specs.Tick.{Firing, assigns, setInputs, tick}
 use Rattle.simulation.specs.Tick.{settle as settleModel, commit as commitModel}
-use Rattle.simulation.specs.Run.{firing, isOne}
-use Rattle.simulation.specs.Sound.{on, drivers, Sound}
-use Rattle.simulation.specs.Kept.{Fits}
+use Rattle.simulation.specs.Run.{firing}
+use Rattle.simulation.specs.Sound.{drivers, Sound}
 use Rattle.simulation.proofs.Settles.{settle-settled}
-use Rattle.wires.specs.declared.Constants.{Constants}
 use Rattle.wires.specs.Wires.{Wires, WireRef as Ref}
 use Rattle.lowering.specs.Lower.{allowed}
-use Rattle.meaning.specs.Held.{refBit, held, valuesAt}
+use Rattle.meaning.specs.Held.{refBit, held}
 use Rattle.meaning.specs.Settles.{Tick, RegOn}
-use Rattle.meaning.specs.Mapped.{LabelFits, SignalFits, no_slot, portSignals}
+use Rattle.meaning.specs.Mapped.{LabelFits, no_slot, portSignals}
 use Rattle.meaning.specs.Runs.{Laid}
-use Rattle.meaning.proofs.BitReads.{Alone, IsSignal}
+use Rattle.meaning.proofs.BitReads.{IsSignal}
 use Rattle.meaning.proofs.Equations.{some_is, Shown}
-use Rattle.meaning.proofs.Memories.{Updated, ReadPort, SecondRead, Remembered, Distributed, PortValue}
-use Rattle.meaning.proofs.Whole.{Does, AllDo, AllBanked, Runs, model-runs}
+use Rattle.meaning.proofs.Memories.{Updated, ReadPort, SecondRead, PortValue}
+use Rattle.meaning.proofs.Whole.{Does, Runs, model-runs}
 use Rattle.forms.specs.Acts.{aim, netlistWords}
 use Rattle.forms.specs.Lowered.{loweredModel, Lowered, Roomy}
 use Rattle.forms.proofs.Slots.{ports-first, ports-within, bank-slot}
@@ -50,11 +44,10 @@ use Rattle.forms.proofs.Sounds.{lowered-sound, drivers-are}
 use Rattle.equivalence.specs.Settled.{Settling, tickOf}
 use Rattle.equivalence.specs.Registers.{bits_of, read_of, secondRead, registersOf, registersAll}
 use Rattle.equivalence.specs.Demand.{firedBy}
-use Rattle.equivalence.proofs.Vectors.{values-all}
 use Rattle.equivalence.proofs.Holding.{given-none, all_hold, commit-keeps, settle-keeps, register-free}
 use Rattle.equivalence.proofs.Loops.{no-loops, deps-under}
-use Rattle.equivalence.proofs.Driving.{InputsHold, laid-at, does_at, wires-settled}
-use Rattle.equivalence.proofs.Committing.{InBank, in-bank, banked-at, outputs-at, Fires, committed}
+use Rattle.equivalence.proofs.Driving.{InputsHold, does_at, wires-settled}
+use Rattle.equivalence.proofs.Committing.{in-bank, banked-at, outputs-at, Fires, committed}
 use Rattle.equivalence.proofs.Inputs.{not-input-kept, input-set}
 
 eqb_same : (x y : ℕ) → eqb x y ≡ eqb y x

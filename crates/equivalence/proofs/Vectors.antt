@@ -1,20 +1,20 @@
 -- Vectors of bits: reads of places, numbers, windows.
 -- Assumes nothing.
-use mathlib.Core.Path.{◌≡◌, refl, ap, ap₂, sym, ◌∙◌, subst}
-use mathlib.Core.Bool.{Bool, true, false, not, ◌&&◌}
-use mathlib.Core.List.{List, [], ◌∷◌, ◌++◌, map, append-nil, append_assoc}
-use Prim.Native.Nat.{ℕ, zero, suc, ◌+◌, ◌-◌, ◌*◌, ◌/◌, ◌%◌, ◌^◌, ◌≤◌, ◌<◌}
+use mathlib.Core.Path.{◌≡◌, refl, ap, ap₂, sym, ◌∙◌}
+use mathlib.Core.Bool.{Bool, true, false, ◌&&◌}
+use mathlib.Core.List.{List, [], ◌∷◌, ◌++◌, append_assoc}
+use Prim.Native.Nat.{ℕ, zero, suc, ◌+◌, ◌*◌, ◌/◌, ◌%◌, ◌^◌, ◌≤◌, ◌<◌}
 use native.Mathlib.Nat.{not-suc-le-zero, pow-succ'}
 use native.Mathlib.Omega.{arith}
 use native.Mathlib.Decide.{ℕ_discrete}
 use lib.Dec.{eqb}
-use lib.ListN.{length, get_or, take, drop, length-append, length-map, length-drop, get_or-append, get_or-eq_default}
+use lib.ListN.{length, get_or, take, drop, length-append, length-drop, get_or-eq_default}
 use lib.Seq.{take-suc, get_or-drop, get_or-append_seam}
 use borrow.Author.Tests.{eq-eqb, ne_eqb}
 use Rattle.bits.specs.Bits.{pick, Bits, digit, number, binary, tableBit, window, same, sameBits}
 use Rattle.bits.proofs.TableBits.{bit-first, bit-next}
 use Rattle.netlist.specs.declared.Bit.{Bit}
-use Rattle.netlist.specs.declared.Bit.TheVariants.{Zero, One, Wire}
+use Rattle.netlist.specs.declared.Bit.TheVariants.{Zero}
 use Rattle.behaviour.specs.Behaviour.{Valuation, value, values}
 use Rattle.meaning.specs.Held.{valuesAt}
 

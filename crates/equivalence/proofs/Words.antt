@@ -2,9 +2,9 @@
 -- Assumes nothing.
 use mathlib.Core.Path.{◌≡◌, refl, ap, ap₂, sym, ◌∙◌, subst}
 use mathlib.Core.Bool.{Bool, true, false, ◌&&◌}
-use mathlib.Core.List.{List, [], ◌∷◌, ◌++◌, map}
+use mathlib.Core.List.{List, [], ◌∷◌, map}
 use mathlib.Core.Option.{Option, none, some}
-use Prim.Native.Nat.{ℕ, zero, suc, ◌+◌, ◌-◌, ◌^◌, ◌≤◌, ◌<◌}
+use Prim.Native.Nat.{ℕ, suc, ◌+◌, ◌-◌, ◌^◌, ◌≤◌, ◌<◌}
 use native.Mathlib.Omega.{arith}
 use native.Mathlib.Decide.{dec_lt, ℕ_discrete}
 use lib.Dec.{eqb, leb}
@@ -14,7 +14,7 @@ use Rattle.bits.specs.Bits.{pick, Bits, number, binary, window, sameBits}
 use Rattle.recorder.specs.Evaluate.{Signals}
 use Rattle.behaviour.specs.Behaviour.{written}
 use Rattle.simulation.proofs.Bounds.{length-window}
-use Rattle.meaning.specs.Held.{Choice, lastChoice}
+use Rattle.meaning.specs.Held.{lastChoice}
 use Rattle.meaning.specs.Settles.{Tick}
 use Rattle.meaning.proofs.Memories.{PortValue, wrote, wroteSecond, word_of, choices, NewWord, Updated}
 use Rattle.equivalence.proofs.Vectors.{same_number, window-all, pick-map}

@@ -1,16 +1,16 @@
 -- Demand 3: an accepted model shows what the netlist's own cells show, over whole lists of ticks, and refuses the same ticks.
-use Rattle.std.specs.Prelude.{◌≡◌, ◌⊎◌, Bool, true, false, ◌&&◌, List, [], ◌∷◌, map, ℕ, ◌≤◌, eqb, leb, length, take, drop, replicate}
+use Rattle.std.specs.Prelude.{◌≡◌, ◌⊎◌, Bool, true, false, ◌&&◌, List, [], ◌∷◌, map, ℕ, leb, length, take, drop, replicate}
 use Rattle.std.proofs.Math.Option.{Option, none, some}
 use Rattle.bits.specs.Bits.{pick, Bits, digit}
 use Rattle.netlist.specs.declared.Limits.{Limits}
 use Rattle.netlist.specs.Netlist.{Netlist}
 use Rattle.netlist.specs.Reader.{netlist, readWords}
 use Rattle.recorder.specs.declared.Tapes.{Tapes}
-use Rattle.recorder.specs.Record.{Signal, Model}
+use Rattle.recorder.specs.Record.{Model}
 use Rattle.recorder.specs.Lists.{Lists, lists}
 use Rattle.recorder.specs.Read.{modelOf}
 use Rattle.recorder.specs.Words.{rawOf}
-use Rattle.lowering.specs.Lower.{Lowered, Accepted, Lowering, lowerWords}
+use Rattle.lowering.specs.Lower.{Accepted, lowerWords}
 use Rattle.behaviour.specs.Behaviour.{Fired, Tick, State, start, tick, accepts, NoWireLoop}
 use Rattle.simulation.specs.Run.{exprBits, signalBytes, tickBits, short, noBit, wrongCount, wrongFired, first_of}
 use Rattle.simulation.specs.Shown.{Entry, ByModel, shownByModel, bytesAfterAll}

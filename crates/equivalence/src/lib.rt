@@ -1,4 +1,3 @@
 // A lowered model shows what the netlist's own cells show. Definitions and theorems; no code.
 
 #![tactic(auto)]
-
