@@ -9,62 +9,67 @@ use Rattle.recorder.specs.Writer.{Writer, pure, emit, ◌>>=◌, ◌>>◌}
 use Rattle.optimize.specs.Rewrite.{xorOf, muxOf}
 use Rattle.optimize.specs.Lut.{lutCofactor}
 use Rattle.wires.specs.Wires.{Wires}
-use Rattle.wires.specs.Expressions.{bitExpression, vectorExpression, readBits, assignWire}
+use Rattle.wires.specs.Seen.{Seen, Reading, keeping}
+use Rattle.wires.specs.Expressions.{bitExpression, bitOnce, vectorOnce, readBits, assignWire}
 
-unfoldable pub emitMultiplier : Wires → List Bit → List Bit → List ℕ → Writer (Unit {0})
-emitMultiplier m lhs rhs product = do
-  a ← vectorExpression m lhs 0 36
-  b ← vectorExpression m rhs 0 36
-  v ← emit (mul a b)
-  assignWire m (get_or product 0 0) v
+-- Each cell begins with what it has read so far, and ends with what it has read then.
 
-unfoldable pub emitLut4 : Wires → List Bit → ℕ → ℕ → Writer (Unit {0})
-emitLut4 m inputs output init = do
-  es ← readBits m inputs []
-  v ← lutCofactor es init
-  assignWire m output v
+unfoldable pub emitMultiplier : Wires → Seen → List Bit → List Bit → List ℕ → Writer (Reading (Unit {0}))
+emitMultiplier m seen lhs rhs product = do
+  a ← vectorOnce m seen lhs 0 36
+  b ← vectorOnce m a.seen rhs 0 36
+  v ← emit (mul a.value b.value)
+  keeping b.seen (assignWire m (get_or product 0 0) v)
 
-unfoldable pub emitPfumx : Wires → Bit → Bit → Bit → ℕ → Writer (Unit {0})
-emitPfumx m high low select output = do
-  s ← bitExpression m select
-  t ← bitExpression m high
-  f ← bitExpression m low
-  v ← muxOf s t f
-  assignWire m output v
+unfoldable pub emitLut4 : Wires → Seen → List Bit → ℕ → ℕ → Writer (Reading (Unit {0}))
+emitLut4 m seen inputs output init = do
+  es ← readBits m seen inputs []
+  v ← lutCofactor es.value init
+  keeping es.seen (assignWire m output v)
 
-unfoldable pub emitL6mux21 : Wires → Bit → Bit → Bit → ℕ → Writer (Unit {0})
-emitL6mux21 m low high select output = do
-  s ← bitExpression m select
-  f ← bitExpression m low
-  t ← bitExpression m high
-  v ← muxOf s t f
-  assignWire m output v
+unfoldable pub emitPfumx : Wires → Seen → Bit → Bit → Bit → ℕ → Writer (Reading (Unit {0}))
+emitPfumx m seen high low select output = do
+  s ← bitOnce m seen select
+  t ← bitOnce m s.seen high
+  f ← bitOnce m t.seen low
+  v ← muxOf s.value t.value f.value
+  keeping f.seen (assignWire m output v)
 
-unfoldable pub emitIo : Wires → ℕ → Bit → ℕ → Bit → Writer (Unit {0})
-emitIo m pad driven input tristate = do
-  p ← bitExpression m (Wire pad)
-  d ← bitExpression m driven
-  t ← bitExpression m tristate
-  v ← muxOf t p d
-  assignWire m input v
+unfoldable pub emitL6mux21 : Wires → Seen → Bit → Bit → Bit → ℕ → Writer (Reading (Unit {0}))
+emitL6mux21 m seen low high select output = do
+  s ← bitOnce m seen select
+  f ← bitOnce m s.seen low
+  t ← bitOnce m f.seen high
+  v ← muxOf s.value t.value f.value
+  keeping t.seen (assignWire m output v)
+
+unfoldable pub emitIo : Wires → Seen → ℕ → Bit → ℕ → Bit → Writer (Reading (Unit {0}))
+emitIo m seen pad driven input tristate = do
+  p ← bitOnce m seen (Wire pad)
+  d ← bitOnce m p.seen driven
+  t ← bitOnce m d.seen tristate
+  v ← muxOf t.value p.value d.value
+  keeping t.seen (assignWire m input v)
 
 -- a row of a CCU2C: inputs, table, inject, the sum's wire, the carry; the next carry
-unfoldable pub ccuRow : Wires → List Bit → ℕ → ℕ → ℕ → ℕ → Writer ℕ
-ccuRow m inputs init inject sum carry = do
-  es ← readBits m inputs []
-  l ← lutCofactor es init
-  k ← lutCofactor (get_or es 0 0 ∷ get_or es 1 0 ∷ 0 ∷ 0 ∷ []) init
+unfoldable pub ccuRow : Wires → Seen → List Bit → ℕ → ℕ → ℕ → ℕ → Writer (Reading ℕ)
+ccuRow m seen inputs init inject sum carry = do
+  es ← readBits m seen inputs []
+  l ← lutCofactor es.value init
+  k ← lutCofactor (get_or es.value 0 0 ∷ get_or es.value 1 0 ∷ 0 ∷ 0 ∷ []) init
   let g = pick (eqb inject 1) 0 carry
   s ← xorOf l g
   assignWire m sum s
-  muxOf l g k
+  keeping es.seen (muxOf l g k)
 
-unfoldable pub emitCcu2c : Wires → Ccu2c → Writer (Unit {0})
-emitCcu2c m c = do
-  c₀ ← bitExpression m c.carryIn
-  c₁ ← ccuRow m c.row0 c.init0 c.inject0 c.sum0 c₀
-  c₂ ← ccuRow m c.row1 c.init1 c.inject1 c.sum1 c₁
-  assignWire m c.carry c₂
+unfoldable pub emitCcu2c : Wires → Seen → Ccu2c → Writer (Reading (Unit {0}))
+emitCcu2c m seen c = do
+  c₀ ← bitOnce m seen c.carryIn
+  c₁ ← ccuRow m c₀.seen c.row0 c.init0 c.inject0 c.sum0 c₀.value
+  c₂ ← ccuRow m c₁.seen c.row1 c.init1 c.inject1 c.sum1 c₁.value
+  keeping c₂.seen (assignWire m c.carry c₂.value)
+
+-- A JTAGG reads nothing, and a PLL one bit: nothing is shared there.
 
 unfoldable pub assignAll : Wires → List ℕ → ℕ → Writer (Unit {0})
 assignAll m [] e = pure tt

@@ -10,6 +10,7 @@ use Rattle.recorder.specs.Record.{Expr.mux, RegReset, Stmt.assign, Stmt.reg}
 use Rattle.recorder.specs.Writer.{Writer, pure, refuse, emit, state, ◌>>=◌, ◌>>◌}
 use Rattle.wires.specs.declared.Constants.{Constants}
 use Rattle.wires.specs.Wires.{Wires}
+use Rattle.wires.specs.Seen.{nothingSeen, forgetting}
 use Rattle.wires.specs.Expressions.{wireRef, readRef, bitExpression, bitSignal, assertedExpression, concatParts, bitsExpression}
 use Rattle.cells.specs.Cells.{emitLut4, emitPfumx, emitL6mux21, emitCcu2c, emitMultiplier, emitIo, emitIdleJtagg, emitCyclePll}
 use Rattle.memories.specs.Memories.{emitBlockRam, emitDistributedRam}
@@ -74,26 +75,26 @@ emitBanks m z (b ∷ bs) = do
   emitFlipFlopBank m z b
   emitBanks m z bs
 
--- CELLS
+-- CELLS: each shares its reads of so many wires, by itself
 
-unfoldable pub emitCell : Wires → Constants → ℕ → Cell → Writer (Unit {0})
-emitCell m z owner (lut4 inputs output init) = emitLut4 m inputs output init
-emitCell m z owner (pfumx high low select output) = emitPfumx m high low select output
-emitCell m z owner (l6mux21 low high select output) = emitL6mux21 m low high select output
-emitCell m z owner (ccu2c c) = emitCcu2c m c
-emitCell m z owner (multiplier lhs rhs product) = emitMultiplier m lhs rhs product
-emitCell m z owner (flipFlop f) = pure tt
-emitCell m z owner (blockRam r) = emitBlockRam m z owner r
-emitCell m z owner (distributedRam r) = pick (eqb r.second 1) (refuse 10 owner) (emitDistributedRam m z owner r)
-emitCell m z owner (io pad driven input tristate) = emitIo m pad driven input tristate
-emitCell m z owner (jtagg ws) = emitIdleJtagg m ws
-emitCell m z owner (pll p) = emitCyclePll m p
+unfoldable pub emitCell : ℕ → Wires → Constants → ℕ → Cell → Writer (Unit {0})
+emitCell shared m z owner (lut4 inputs output init) = forgetting (emitLut4 m (nothingSeen shared) inputs output init)
+emitCell shared m z owner (pfumx high low select output) = forgetting (emitPfumx m (nothingSeen shared) high low select output)
+emitCell shared m z owner (l6mux21 low high select output) = forgetting (emitL6mux21 m (nothingSeen shared) low high select output)
+emitCell shared m z owner (ccu2c c) = forgetting (emitCcu2c m (nothingSeen shared) c)
+emitCell shared m z owner (multiplier lhs rhs product) = forgetting (emitMultiplier m (nothingSeen shared) lhs rhs product)
+emitCell shared m z owner (flipFlop f) = pure tt
+emitCell shared m z owner (blockRam r) = forgetting (emitBlockRam m z (nothingSeen shared) owner r)
+emitCell shared m z owner (distributedRam r) = pick (eqb r.second 1) (refuse 10 owner) (forgetting (emitDistributedRam m z (nothingSeen shared) owner r))
+emitCell shared m z owner (io pad driven input tristate) = forgetting (emitIo m (nothingSeen shared) pad driven input tristate)
+emitCell shared m z owner (jtagg ws) = emitIdleJtagg m ws
+emitCell shared m z owner (pll p) = emitCyclePll m p
 
-unfoldable pub emitCells : Wires → Constants → ℕ → List Cell → Writer (Unit {0})
-emitCells m z c [] = pure tt
-emitCells m z c (x ∷ xs) = do
-  emitCell m z c x
-  emitCells m z (suc c) xs
+unfoldable pub emitCells : ℕ → Wires → Constants → ℕ → List Cell → Writer (Unit {0})
+emitCells shared m z c [] = pure tt
+emitCells shared m z c (x ∷ xs) = do
+  emitCell shared m z c x
+  emitCells shared m z (suc c) xs
 
 -- OUTPUTS
 

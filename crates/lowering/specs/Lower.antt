@@ -51,17 +51,18 @@ reserveNetlist n = do
   m₂ ← reserveCells m₁ 0 n.cells
   reserveFlipFlopBanks m₂ 0 (collectFlipFlopBanks n.cells)
 
-unfoldable pub emitNetlist : Netlist → Wires → Writer (Unit {0})
-emitNetlist n m = do
+-- cells share their reads of so many wires, each by itself; with 0 every read is recorded
+unfoldable pub emitNetlist : ℕ → Netlist → Wires → Writer (Unit {0})
+emitNetlist shared n m = do
   z ← emitConstants
-  emitCells m z 0 n.cells
+  emitCells shared m z 0 n.cells
   emitBanks m z (collectFlipFlopBanks n.cells)
   emitOutputs m 0 n.ports
 
-unfoldable pub lowerNetlist : Netlist → Writer (Unit {0})
-lowerNetlist n = do
+unfoldable pub lowerNetlist : ℕ → Netlist → Writer (Unit {0})
+lowerNetlist shared n = do
   m ← reserveNetlist n
-  emitNetlist n m
+  emitNetlist shared n m
 
 -- THE CALL: words of a netlist, and three lent lists of these lengths
 
@@ -89,16 +90,20 @@ ended (Done a t) conflict l zeroed = judged conflict t l zeroed
 ended (Failed number place) conflict l zeroed = record { answer = Refused number place; lists = zeroed }
 
 -- a netlist that the reader lets through
-unfoldable pub lowered : Netlist → ℕ → ℕ → ℕ → Lowering
-lowered n s e t =
+unfoldable pub lowered : ℕ → Netlist → ℕ → ℕ → ℕ → Lowering
+lowered shared n s e t =
     let zeroed = blank s e t in
-    let left = writing zeroed start (lowerNetlist n) in
-    let model = modelOf (lowerNetlist n (record { signals = 0; exprs = 0; stmts = 0 })).events in
+    let left = writing zeroed start (lowerNetlist shared n) in
+    let model = modelOf (lowerNetlist shared n (record { signals = 0; exprs = 0; stmts = 0 })).events in
     ended left.answer (overdrivenFrom 0 model.signals model.stmts) left.lists zeroed
 
-abbrev pub loweredRead : Read → ℕ → ℕ → ℕ → Lowering
-loweredRead (netlist n) s e t = lowered n s e t
-loweredRead (refused number place) s e t = record { answer = Refused number place; lists = blank s e t }
+abbrev pub loweredRead : ℕ → Read → ℕ → ℕ → ℕ → Lowering
+loweredRead shared (netlist n) s e t = lowered shared n s e t
+loweredRead shared (refused number place) s e t = record { answer = Refused number place; lists = blank s e t }
 
+abbrev pub lowerSharing : ℕ → Limits → List ℕ → ℕ → ℕ → ℕ → Lowering
+lowerSharing shared limits words s e t = loweredRead shared (readWords limits words) s e t
+
+-- all wires that a netlist can have are shared
 abbrev pub lowerWords : Limits → List ℕ → ℕ → ℕ → ℕ → Lowering
-lowerWords limits words s e t = loweredRead (readWords limits words) s e t
+lowerWords limits words s e t = lowerSharing limits.wires limits words s e t

@@ -9,7 +9,8 @@ use Rattle.recorder.specs.Record.{Signal, RegEnable, Expr.const, Expr.read, Expr
 use Rattle.recorder.specs.Writer.{Writer, pure, declare, emit, state, ◌>>=◌, ◌>>◌}
 use Rattle.wires.specs.declared.Constants.{Constants}
 use Rattle.wires.specs.Wires.{Wires}
-use Rattle.wires.specs.Expressions.{wireRef, bitSignal, assertedExpression, vectorExpression, bitsExpression, assignWire}
+use Rattle.wires.specs.Seen.{Seen, standing, Reading, reading, keeping}
+use Rattle.wires.specs.Expressions.{wireRef, bitSignal, assertedOnce, vectorOnce, bitsOnce, assignWire}
 use Rattle.address_mux.specs.AddressMux.{Node, balancedAddressMux}
 
 abbrev pub wordSignal : ℕ → ℕ → Signal
@@ -38,15 +39,15 @@ pub record Gate : Type 0 where
   pub clockEnabled : Option ℕ
 
 -- with a clock enable (request W1) a port writes where both are asserted
-unfoldable pub gate : Wires → Control → Option Control → Writer Gate
-gate m write none = do
-  y ← assertedExpression m write
-  pure (record { writeAsserted = y; clockEnabled = none })
-gate m write (some enable) = do
-  y ← assertedExpression m write
-  c ← assertedExpression m enable
-  g ← emit (and y c)
-  pure (record { writeAsserted = g; clockEnabled = some c })
+unfoldable pub gate : Wires → Seen → Control → Option Control → Writer (Reading Gate)
+gate m seen write none = do
+  y ← assertedOnce m seen write
+  pure (reading (record { writeAsserted = y.value; clockEnabled = none }) y.seen)
+gate m seen write (some enable) = do
+  y ← assertedOnce m seen write
+  c ← assertedOnce m y.seen enable
+  g ← emit (and y.value c.value)
+  pure (reading (record { writeAsserted = g; clockEnabled = some c.value }) c.seen)
 
 -- what a port makes of a word: its width, the address's width, the index, the expression so far
 unfoldable pub writeWord : PortExprs → ℕ → ℕ → ℕ → ℕ → Writer ℕ
@@ -89,27 +90,37 @@ enableOf m z (some c) = do
   s ← bitSignal m z c.signal
   pure (some (record { signal = s; active = c.active }))
 
--- what a read register takes: the selected word, and with a clock enable its own where that is not asserted
-abbrev pub nextRead : Option ℕ → ℕ → ℕ → ℕ → Writer ℕ
-nextRead none width target word = pure word
-nextRead (some c) width target word = do
-  own ← emit (read width target 0)
-  emit (mux width c word own)
+-- the read of a read register's own signal stands already where the cell has read its wire: then its words have one bit, and it holds one wire
+abbrev pub ownRead : Seen → List ℕ → Option ℕ
+ownRead seen [] = none
+ownRead seen (w ∷ []) = standing seen w
+ownRead seen (w ∷ v ∷ ws) = none
 
--- port, words, their width, the address's width, clock signal, edge
-unfoldable pub emitBlockRamReadPort : Wires → Constants → PortExprs → List Word → ℕ → ℕ → ℕ → ℕ → Writer (Unit {0})
-emitBlockRamReadPort m z p words width aw clock edge = do
+abbrev pub ownExpression : Option ℕ → ℕ → ℕ → Writer ℕ
+ownExpression (some e) width target = pure e
+ownExpression none width target = emit (read width target 0)
+
+-- what a read register takes: the selected word, and with a clock enable its own where that is not asserted
+abbrev pub nextRead : Option ℕ → Option ℕ → ℕ → ℕ → ℕ → Writer ℕ
+nextRead none own width target word = pure word
+nextRead (some c) own width target word = do
+  o ← ownExpression own width target
+  emit (mux width c word o)
+
+-- port, its own read where it stands, words, their width, the address's width, clock signal, edge
+unfoldable pub emitBlockRamReadPort : Wires → Constants → PortExprs → Option ℕ → List Word → ℕ → ℕ → ℕ → ℕ → Writer (Unit {0})
+emitBlockRamReadPort m z p own words width aw clock edge = do
   e ← emit (const width 0)
   nodes ← candidatesFrom p.readAddress aw 0 words []
   v ← balancedAddressMux width nodes e
   r ← wireRef m (get_or p.readData 0 0)
   en ← enableOf m z p.readEnable
-  n ← nextRead p.clockEnabled width r.signal v
+  n ← nextRead p.clockEnabled own width r.signal v
   state (reg r.signal n clock edge none en)
 
-abbrev pub emitSecondReadPort : Wires → Constants → Option PortExprs → List Word → ℕ → ℕ → ℕ → ℕ → Writer (Unit {0})
-emitSecondReadPort m z none words width aw clock edge = pure tt
-emitSecondReadPort m z (some p) words width aw clock edge = emitBlockRamReadPort m z p words width aw clock edge
+abbrev pub emitSecondReadPort : Wires → Constants → Option PortExprs → Option ℕ → List Word → ℕ → ℕ → ℕ → ℕ → Writer (Unit {0})
+emitSecondReadPort m z none own words width aw clock edge = pure tt
+emitSecondReadPort m z (some p) own words width aw clock edge = emitBlockRamReadPort m z p own words width aw clock edge
 
 unfoldable pub updateWords : List Word → ℕ → ℕ → Writer (Unit {0})
 updateWords [] clock edge = pure tt
@@ -118,30 +129,34 @@ updateWords (w ∷ ws) clock edge = do
   updateWords ws clock edge
 
 -- the second port, whose address serves both: the shift, the address's width
-abbrev pub secondExprs : Wires → ℕ → ℕ → Option SecondPort → Writer (Option PortExprs)
-secondExprs m shift aw none = pure none
-secondExprs m shift aw (some p) = do
-  a ← vectorExpression m p.address shift aw
-  d ← bitsExpression m p.input
-  g ← gate m p.write p.clockEnable
-  pure (some (record { writeAddress = a; writeData = d; writeAsserted = g.writeAsserted; readAddress = a; readData = p.output; readEnable = p.readEnable; clockEnabled = g.clockEnabled }))
+abbrev pub secondExprs : Wires → Seen → ℕ → ℕ → Option SecondPort → Writer (Reading (Option PortExprs))
+secondExprs m seen shift aw none = pure (reading none seen)
+secondExprs m seen shift aw (some p) = do
+  a ← vectorOnce m seen p.address shift aw
+  d ← bitsOnce m a.seen p.input
+  g ← gate m d.seen p.write p.clockEnable
+  pure (reading (some (record { writeAddress = a.value; writeData = d.value; writeAsserted = g.value.writeAsserted; readAddress = a.value; readData = p.output; readEnable = p.readEnable; clockEnabled = g.value.clockEnabled })) g.seen)
 
--- cell number `owner`
-unfoldable pub emitBlockRam : Wires → Constants → ℕ → BlockRam → Writer (Unit {0})
-emitBlockRam m z owner r = do
+abbrev pub secondOutput : Option SecondPort → List ℕ
+secondOutput none = []
+secondOutput (some p) = p.output
+
+-- cell number `owner`, after what it has read so far
+unfoldable pub emitBlockRam : Wires → Constants → Seen → ℕ → BlockRam → Writer (Reading (Unit {0}))
+emitBlockRam m z seen owner r = do
   let aw = addressWidth r.depth
   let shift = shiftIn (shift_of r.physical)
-  wa ← vectorExpression m r.writeAddress shift aw
-  ra ← vectorExpression m r.readAddress shift aw
-  d ← bitsExpression m r.input
-  g ← gate m r.write r.clockEnable
-  b ← secondExprs m shift aw r.second
+  wa ← vectorOnce m seen r.writeAddress shift aw
+  ra ← vectorOnce m wa.seen r.readAddress shift aw
+  d ← bitsOnce m ra.seen r.input
+  g ← gate m d.seen r.write r.clockEnable
+  b ← secondExprs m g.seen shift aw r.second
   clock ← bitSignal m z r.clock
-  let a : PortExprs = record { writeAddress = wa; writeData = d; writeAsserted = g.writeAsserted; readAddress = ra; readData = r.output; readEnable = r.readEnable; clockEnabled = g.clockEnabled }
-  words ← ramWords a b owner r.width aw r.depth 0 []
-  emitBlockRamReadPort m z a words r.width aw clock r.edge
-  emitSecondReadPort m z b words r.width aw clock r.edge
-  updateWords words clock r.edge
+  let a : PortExprs = record { writeAddress = wa.value; writeData = d.value; writeAsserted = g.value.writeAsserted; readAddress = ra.value; readData = r.output; readEnable = r.readEnable; clockEnabled = g.value.clockEnabled }
+  words ← ramWords a b.value owner r.width aw r.depth 0 []
+  emitBlockRamReadPort m z a (ownRead b.seen r.output) words r.width aw clock r.edge
+  emitSecondReadPort m z b.value (ownRead b.seen (secondOutput r.second)) words r.width aw clock r.edge
+  keeping b.seen (updateWords words clock r.edge)
 
 -- the words of a distributed RAM that are left, each with its statement, after those in `words`
 unfoldable pub dramWords : PortExprs → ℕ → ℕ → ℕ → ℕ → ℕ → List Word → Writer (List Word)
@@ -159,14 +174,14 @@ dramSelect address index (w ∷ ws) now = do
   v ← emit (mux 4 e w.current now)
   dramSelect address (suc index) ws v
 
-unfoldable pub emitDistributedRam : Wires → Constants → ℕ → DistributedRam → Writer (Unit {0})
-emitDistributedRam m z owner r = do
-  wa ← vectorExpression m r.writeAddress 0 4
-  ra ← vectorExpression m r.readAddress 0 4
-  d ← vectorExpression m r.input 0 4
-  y ← assertedExpression m r.write
+unfoldable pub emitDistributedRam : Wires → Constants → Seen → ℕ → DistributedRam → Writer (Reading (Unit {0}))
+emitDistributedRam m z seen owner r = do
+  wa ← vectorOnce m seen r.writeAddress 0 4
+  ra ← vectorOnce m wa.seen r.readAddress 0 4
+  d ← vectorOnce m ra.seen r.input 0 4
+  y ← assertedOnce m d.seen r.write
   clock ← bitSignal m z r.clock
-  words ← dramWords (record { writeAddress = wa; writeData = d; writeAsserted = y; readAddress = ra; readData = r.output; readEnable = none; clockEnabled = none }) owner clock r.edge 16 0 []
+  words ← dramWords (record { writeAddress = wa.value; writeData = d.value; writeAsserted = y.value; readAddress = ra.value; readData = r.output; readEnable = none; clockEnabled = none }) owner clock r.edge 16 0 []
   e ← emit (const 4 0)
-  v ← dramSelect ra 0 words e
-  assignWire m (get_or r.output 0 0) v
+  v ← dramSelect ra.value 0 words e
+  keeping y.seen (assignWire m (get_or r.output 0 0) v)

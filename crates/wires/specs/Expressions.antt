@@ -12,6 +12,7 @@ use Rattle.wires.specs.declared.Constants.{Constants}
 use Rattle.wires.specs.declared.Controlled.{Controlled}
 use Rattle.wires.specs.declared.Controlled.TheVariants.{Signal, Refused}
 use Rattle.wires.specs.Wires.{WireRef, Wires}
+use Rattle.wires.specs.Seen.{Seen, standing, noted, Reading, reading, keeping, forgetting}
 
 abbrev pub refOf : Option WireRef → ℕ → Writer WireRef
 refOf none w = refuse 8 w
@@ -42,10 +43,40 @@ bitSignal m z (Wire w) = do
   r ← wireRef m w
   pick (whole r) (pure r.signal) (refuse 9 w)
 
+-- a control that is asserted when it is low has a not
+abbrev pub levelled : ℕ → ℕ → Writer ℕ
+levelled active e = pick (eqb active 1) (pure e) (emit (complement e))
+
 unfoldable pub assertedExpression : Wires → Control → Writer ℕ
 assertedExpression m c = do
   e ← bitExpression m c.signal
-  pick (eqb c.active 1) (pure e) (emit (complement e))
+  levelled c.active e
+
+-- ---- in a cell, where a wire is read one time
+
+-- the read that stands; or a new one, which stands from then on
+abbrev pub readOnce : Option ℕ → Wires → Seen → ℕ → Writer (Reading ℕ)
+readOnce (some e) m seen w = pure (reading e seen)
+readOnce none m seen w = bitExpression m (Wire w) >>= λ e. pure (reading e (noted seen w e))
+
+unfoldable pub bitOnce : Wires → Seen → Bit → Writer (Reading ℕ)
+bitOnce m seen Zero = pure (reading 0 seen)
+bitOnce m seen One = pure (reading 1 seen)
+bitOnce m seen (Wire w) = readOnce (standing seen w) m seen w
+
+unfoldable pub assertedOnce : Wires → Seen → Control → Writer (Reading ℕ)
+assertedOnce m seen c = do
+  r ← bitOnce m seen c.signal
+  keeping r.seen (levelled c.active r.value)
+
+-- the bits in order, the lowest first, after those in `done`
+unfoldable pub readBits : Wires → Seen → List Bit → List ℕ → Writer (Reading (List ℕ))
+readBits m seen [] done = pure (reading done seen)
+readBits m seen (b ∷ bs) done = do
+  r ← bitOnce m seen b
+  readBits m r.seen bs (done ++ (r.value ∷ []))
+
+-- ---- vectors
 
 -- one part stands for itself
 unfoldable pub concatParts : List ℕ → Writer ℕ
@@ -58,27 +89,27 @@ abbrev pub vectorBit : List Bit → ℕ → Bit
 vectorBit bits i = get_or bits i Zero
 
 -- the k bits from place `at` on that are still to read, the highest first, after those in `parts`
-unfoldable pub vectorParts : Wires → List Bit → ℕ → ℕ → List ℕ → Writer (List ℕ)
-vectorParts m bits at zero parts = pure parts
-vectorParts m bits at (suc k) parts = do
-  e ← bitExpression m (vectorBit bits (at + k))
-  vectorParts m bits at k (parts ++ (e ∷ []))
+unfoldable pub vectorParts : Wires → Seen → List Bit → ℕ → ℕ → List ℕ → Writer (Reading (List ℕ))
+vectorParts m seen bits at zero parts = pure (reading parts seen)
+vectorParts m seen bits at (suc k) parts = do
+  r ← bitOnce m seen (vectorBit bits (at + k))
+  vectorParts m r.seen bits at k (parts ++ (r.value ∷ []))
 
 -- k bits from place `at` on
+unfoldable pub vectorOnce : Wires → Seen → List Bit → ℕ → ℕ → Writer (Reading ℕ)
+vectorOnce m seen bits at k = do
+  r ← vectorParts m seen bits at k []
+  keeping r.seen (concatParts r.value)
+
+abbrev pub bitsOnce : Wires → Seen → List Bit → Writer (Reading ℕ)
+bitsOnce m seen bits = vectorOnce m seen bits 0 (length bits)
+
+-- the same outside of cells: each bit is read anew
 unfoldable pub vectorExpression : Wires → List Bit → ℕ → ℕ → Writer ℕ
-vectorExpression m bits at k = do
-  parts ← vectorParts m bits at k []
-  concatParts parts
+vectorExpression m bits at k = forgetting (vectorOnce m [] bits at k)
 
 abbrev pub bitsExpression : Wires → List Bit → Writer ℕ
 bitsExpression m bits = vectorExpression m bits 0 (length bits)
-
--- the bits in order, the lowest first, after those in `done`
-unfoldable pub readBits : Wires → List Bit → List ℕ → Writer (List ℕ)
-readBits m [] done = pure done
-readBits m (b ∷ bs) done = do
-  e ← bitExpression m b
-  readBits m bs (done ++ (e ∷ []))
 
 -- the whole signal of a wire is assigned e
 unfoldable pub assignWire : Wires → ℕ → ℕ → Writer (Unit {0})

@@ -1,3 +1,4 @@
 -- The specs of wires.
 pub mod Wires
+pub mod Seen
 pub mod Expressions
