@@ -1,4 +1,5 @@
 -- The specs of wires.
 pub mod Wires
 pub mod Seen
+pub mod Once
 pub mod Expressions

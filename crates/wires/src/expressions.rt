@@ -8,6 +8,7 @@ ghost use Rattle.wires.specs.Wires.{wiresOf};
 ghost use Rattle.wires.specs.Expressions.{bitExpression, bitSignal, assertedExpression, assignWire, concatParts, vectorBit, vectorExpression, roomy, Reads, whole, controlled};
 
 use crate::map::wire_ref;
+use crate::once::bits_once;
 use crate::{Constants, Controlled, Found, WireRef};
 use netlist::fields::{bit_at, wide};
 use netlist::{Bit, Control};
@@ -114,50 +115,7 @@ pub fn concat_parts(exprs: &mut [u32], t: Tapes, parts: &[u32], n: u32) -> Emitt
     builder::concat(exprs, t, n, &parts[..end])
 }
 
-// Bit i of n bits that stand from an index on; zeros behind them.
-fn vector_bit(words: &[u32], at: usize, n: usize, i: usize) -> Bit
-    ensures { result ≡ vectorBit (bits_at words.now at n) i }
-{
-    if i < n {
-        return bit_at(words, at, i);
-    }
-    Bit::Zero
-}
-
-// The vector of the n bits that stand from an index on, widened by zeros; the highest bit is read first. Its parts are left in the work.
-fn vector_expression(
-    exprs: &mut [u32],
-    parts: &mut [u32],
-    wires: &[u32],
-    places: &[u32],
-    t: Tapes,
-    words: &[u32],
-    at: usize,
-    n: usize,
-    width: u32,
-) -> Emitted
-    ensures { WroteExprs exprs.old t (roomy width parts.old (vectorExpression (wiresOf wires.now places.now) (bits_at words.now at n) 0 width)) (emitted result) exprs.new }
-{
-    let end = wide(width);
-    if parts.len() < end {
-        return Emitted::Refused(Refusal::BufferTooShort(end));
-    }
-    let mut now = t;
-    let mut left = end;
-    while left > 0 {
-        left -= 1;
-        let bit = vector_bit(words, at, n, left);
-        let r = bit_expression(exprs, wires, places, now, bit);
-        let Emitted::Done(e, next) = r else {
-            return r;
-        };
-        parts[end - 1 - left] = e.0;
-        now = next;
-    }
-    concat_parts(exprs, now, parts, width)
-}
-
-// The same, with the work cleared again.
+// The vector of the n bits that stand from an index on, widened by zeros, outside of cells: nothing is shared. The work is cleared again.
 pub fn bits_expression(
     exprs: &mut [u32],
     parts: &mut [u32],
@@ -172,7 +130,6 @@ pub fn bits_expression(
     ensures wrote { WroteExprs exprs.old t (roomy width parts.old (vectorExpression (wiresOf wires.now places.now) (bits_at words.now at n) 0 width)) (emitted result) exprs.new }
     ensures work { parts.new ≡ zeroed parts.old }
 {
-    let r = vector_expression(exprs, parts, wires, places, t, words, at, n, width);
-    zero_words(parts);
-    r
+    let mut seen = [0u32; 0];
+    bits_once(exprs, parts, &mut seen, wires, places, t, 0, words, at, n, width)
 }
