@@ -20,7 +20,8 @@ use Rattle.recorder.proofs.Events.{bind-pure, bind-refuse, bind_assoc}
 use Rattle.wires.specs.declared.Constants.{Constants}
 use Rattle.wires.specs.declared.Controlled.{Controlled}
 use Rattle.wires.specs.Wires.{WireRef, Wires, entry, wiresOf}
-use Rattle.wires.specs.Expressions.{refOf, wireRef, readRef, bitExpression, whole, bitSignal, concatParts, vectorBit, vectorParts, vectorExpression, assignWire, roomy, controlled, Reads}
+use Rattle.wires.specs.Seen.{Seen, Reading, reading, keeping}
+use Rattle.wires.specs.Expressions.{bitOnce, vectorOnce, refOf, wireRef, readRef, bitExpression, whole, bitSignal, concatParts, vectorBit, vectorParts, vectorExpression, assignWire, roomy, controlled, Reads}
 
 -- THE TABLES
 
@@ -127,25 +128,25 @@ concat-more l n h e = go (take n l) (length-take-le n l h)
     go (x ∷ y ∷ xs) q = ap (λ (k : ℕ). emit (concat k (x ∷ y ∷ xs))) q
 
 -- what is left of a vector once some parts are done
-abbrev pub vectorLeft : Wires → List Bit → ℕ → ℕ → List ℕ → Writer ℕ
-vectorLeft m bits at k parts = vectorParts m bits at k parts >>= concatParts
+abbrev pub vectorLeft : Wires → Seen → List Bit → ℕ → ℕ → List ℕ → Writer (Reading ℕ)
+vectorLeft m seen bits at k parts = vectorParts m seen bits at k parts >>= λ r. keeping r.seen (concatParts r.value)
 
 module _ (m : Wires) (bits : List Bit) (at : ℕ) where
-  pub vector-start : (k : ℕ) (parts : List ℕ) → vectorExpression m bits at k ≡ vectorLeft m bits at k (take (k - k) parts)
-  unfolding vectorExpression
-  vector-start k parts = let z : k - k ≡ 0 = omega arith in ap (λ (i : ℕ). vectorLeft m bits at k (take i parts)) (sym z)
+  pub vector-start : (seen : Seen) (k : ℕ) (parts : List ℕ) → vectorOnce m seen bits at k ≡ vectorLeft m seen bits at k (take (k - k) parts)
+  unfolding vectorOnce
+  vector-start seen k parts = let z : k - k ≡ 0 = omega arith in ap (λ (i : ℕ). vectorLeft m seen bits at k (take i parts)) (sym z)
 
-  pub vector-more : (left : ℕ) (parts : List ℕ) → 1 ≤ left
-      → vectorLeft m bits at left parts ≡ (bitExpression m (vectorBit bits (at + (left - 1))) >>= λ e. vectorLeft m bits at (left - 1) (parts ++ (e ∷ [])))
+  pub vector-more : (seen : Seen) (left : ℕ) (parts : List ℕ) → 1 ≤ left
+      → vectorLeft m seen bits at left parts ≡ (bitOnce m seen (vectorBit bits (at + (left - 1))) >>= λ r. vectorLeft m r.seen bits at (left - 1) (parts ++ (r.value ∷ [])))
   unfolding vectorParts
-  vector-more left parts h =
+  vector-more seen left parts h =
       let i : left ≡ suc (left - 1) = omega arith in
-      ap (λ (k : ℕ). vectorLeft m bits at k parts) i
-      ∙ bind_assoc (bitExpression m (vectorBit bits (at + (left - 1)))) (λ e. vectorParts m bits at (left - 1) (parts ++ (e ∷ []))) concatParts
+      ap (λ (k : ℕ). vectorLeft m seen bits at k parts) i
+      ∙ bind_assoc (bitOnce m seen (vectorBit bits (at + (left - 1)))) (λ r. vectorParts m r.seen bits at (left - 1) (parts ++ (r.value ∷ []))) (λ r. keeping r.seen (concatParts r.value))
 
-  pub vector-done : {left : ℕ} (parts : List ℕ) → left ≡ 0 → vectorLeft m bits at left parts ≡ concatParts parts
+  pub vector-done : (seen : Seen) {left : ℕ} (parts : List ℕ) → left ≡ 0 → vectorLeft m seen bits at left parts ≡ keeping seen (concatParts parts)
   unfolding vectorParts
-  vector-done parts z = ap (λ (k : ℕ). vectorLeft m bits at k parts) z ∙ bind-pure parts concatParts
+  vector-done seen parts z = ap (λ (k : ℕ). vectorLeft m seen bits at k parts) z ∙ bind-pure (reading parts seen) (λ r. keeping r.seen (concatParts r.value))
 
 back_one : (a b : ℕ) → 1 ≤ b → b ≤ a → a - 1 - (b - 1) ≡ a - b
 back_one a b h g = omega arith

@@ -1,4 +1,4 @@
 -- The laws of wires that other crates cite.
 pub mod Laws
-pub mod Once
+pub mod OnceLaws
 pub mod Vectors

@@ -7,36 +7,43 @@ use Rattle.netlist.specs.declared.Bit.{Bit}
 use Rattle.recorder.specs.declared.Tapes.{Tapes}
 use Rattle.recorder.specs.Writer.{Writer, ◌>>=◌}
 use Rattle.recorder.specs.Lists.{lists, WroteExprs, Answer, Answer.Done, Answer.Failed}
-use Rattle.recorder.proofs.Wrote.{Going, going_start, going_step, going-same, going_end}
 use Rattle.wires.specs.Wires.{Wires}
-use Rattle.wires.specs.Expressions.{bitExpression, vectorBit, vectorExpression, concatParts, roomy}
+use Rattle.wires.specs.Seen.{Seen, Reading, reading, keeping}
+use Rattle.wires.specs.Once.{seenOf, Once, OnceAt}
+use Rattle.wires.specs.Expressions.{bitOnce, vectorBit, vectorOnce, concatParts, roomy}
 use Rattle.wires.proofs.Laws.{vectorLeft, vector-start, vector-more, vector-done, parts-step, parts_all, roomy-yes}
+use Rattle.wires.proofs.OnceLaws.{once-as, once-keep, GoingOnce, going-once, once-more, once-no-more}
 
 -- left bits of end, from place at on, are still to read; the others stand in parts
-pub record Doing (m : Wires) (bits : List Bit) (at : ℕ) (whole : Writer ℕ) (end : ℕ) (e₀ : List ℕ) (t₀ : Tapes) (e : List ℕ) (t : Tapes) (left : ℕ) (parts : List ℕ) : Type 0 where
-  pub does : (s k : List ℕ) → Going (lists s e₀ k) t₀ whole (lists s e k) t (vectorLeft m bits at left (take (end - left) parts))
+pub record Doing (m : Wires) (bits : List Bit) (at : ℕ) (first : ℕ) (seen₀ : List ℕ) (whole : Writer (Reading ℕ)) (end : ℕ) (e₀ : List ℕ) (t₀ : Tapes) (e : List ℕ) (seen : List ℕ) (t : Tapes) (left : ℕ) (parts : List ℕ) : Type 0 where
+  pub does : (s k : List ℕ) → GoingOnce (lists s e₀ k) t₀ first seen₀ whole (lists s e k) t seen (vectorLeft m (seenOf first seen) bits at left (take (end - left) parts))
 
-module _ {m : Wires} {bits : List Bit} {at : ℕ} {whole : Writer ℕ} {end : ℕ} {e₀ : List ℕ} {t₀ : Tapes} where
-  pub doing-start : (parts : List ℕ) → whole ≡ vectorExpression m bits at end → Doing m bits at whole end e₀ t₀ e₀ t₀ end parts
-  doing-start parts w = record { does = λ s k. going_start (w ∙ vector-start m bits at end parts) }
+module _ {m : Wires} {bits : List Bit} {at first : ℕ} {seen₀ : List ℕ} {whole : Writer (Reading ℕ)} {end : ℕ} {e₀ : List ℕ} {t₀ : Tapes} where
+  pub doing-start : (parts : List ℕ) → whole ≡ vectorOnce m (seenOf first seen₀) bits at end → Doing m bits at first seen₀ whole end e₀ t₀ e₀ seen₀ t₀ end parts
+  doing-start parts w = record { does = λ s k. going-once (w ∙ vector-start m bits at (seenOf first seen₀) end parts) }
 
-  module _ {e : List ℕ} {t : Tapes} {left : ℕ} {parts : List ℕ} (doing : Doing m bits at whole end e₀ t₀ e t left parts) where
-    module _ (some : 1 ≤ left) (i : ℕ) (here : i ≡ at + (left - 1)) {bit : Bit} (is : bit ≡ vectorBit bits i) {a : Answer ℕ} {e₁ : List ℕ} (h : WroteExprs e t (bitExpression m bit) a e₁) where
-      more : vectorLeft m bits at left (take (end - left) parts) ≡ (bitExpression m bit >>= λ x. vectorLeft m bits at (left - 1) (take (end - left) parts ++ (x ∷ [])))
-      more = vector-more m bits at left (take (end - left) parts) some ∙ ap (λ (b : Bit). bitExpression m b >>= λ x. vectorLeft m bits at (left - 1) (take (end - left) parts ++ (x ∷ []))) (sym (is ∙ ap (λ (j : ℕ). vectorBit bits j) here))
+  module _ {e seen : List ℕ} {t : Tapes} {left : ℕ} {parts : List ℕ} (doing : Doing m bits at first seen₀ whole end e₀ t₀ e seen t left parts) where
+    module _ (some : 1 ≤ left) (i : ℕ) (here : i ≡ at + (left - 1)) {bit : Bit} (is : bit ≡ vectorBit bits i) {a : Answer ℕ} {e₁ seen₁ : List ℕ} (h : OnceAt e t first seen (λ x. bitOnce m x bit) a e₁ seen₁) where
+      abbrev next : Reading ℕ → Writer (Reading ℕ)
+      next r = vectorLeft m r.seen bits at (left - 1) (take (end - left) parts ++ (r.value ∷ []))
 
-      pub doing_step : left ≤ end → end ≤ length parts → {x : ℕ} {u : Tapes} → a ≡ Done x u → Doing m bits at whole end e₀ t₀ e₁ u (left - 1) (set parts (end - 1 - (left - 1)) x)
+      more : vectorLeft m (seenOf first seen) bits at left (take (end - left) parts) ≡ (bitOnce m (seenOf first seen) bit >>= next)
+      more = vector-more m bits at (seenOf first seen) left (take (end - left) parts) some ∙ ap (λ (b : Bit). bitOnce m (seenOf first seen) b >>= next) (sym (is ∙ ap (λ (j : ℕ). vectorBit bits j) here))
+
+      pub doing_step : left ≤ end → end ≤ length parts → {x : ℕ} {u : Tapes} → a ≡ Done x u → Doing m bits at first seen₀ whole end e₀ t₀ e₁ seen₁ u (left - 1) (set parts (end - 1 - (left - 1)) x)
       doing_step g room {x} {u} d = record {
         does = λ s k.
-            subst (λ (l : List ℕ). Going (lists s e₀ k) t₀ whole (lists s e₁ k) u (vectorLeft m bits at (left - 1) l)) (sym (parts-step parts end left x room g some))
-            (going_step _ (doing.does s k) more (h s k) d);
+            subst (λ (l : List ℕ). GoingOnce (lists s e₀ k) t₀ first seen₀ whole (lists s e₁ k) u seen₁ (vectorLeft m (seenOf first seen₁) bits at (left - 1) l)) (sym (parts-step parts end left x room g some))
+            (once-more next (doing.does s k) more (h s k) d);
       }
 
-      pub doing-stop : {number place : ℕ} → a ≡ Failed number place → WroteExprs e₀ t₀ whole a e₁
-      doing-stop d s k = going-same _ (doing.does s k) more (h s k) d
+      pub doing-stop : {number place : ℕ} → a ≡ Failed number place → OnceAt e₀ t₀ first seen₀ (λ x. whole) a e₁ seen₁
+      doing-stop d s k = once-no-more next (doing.does s k) more (h s k) d d
 
-    pub doing_end : {n : ℕ} → left ≡ 0 → end ≡ n → n ≤ length parts → {a : Answer ℕ} {e₁ : List ℕ} → WroteExprs e t (roomy n parts (concatParts (take n parts))) a e₁ → WroteExprs e₀ t₀ whole a e₁
-    doing_end {n} z q room h s k =
-        going_end (doing.does s k)
-        (vector-done m bits at (take (end - left) parts) z ∙ ap concatParts (parts_all parts end left z ∙ ap (λ (i : ℕ). take i parts) q) ∙ sym (roomy-yes n parts (concatParts (take n parts)) room))
-        (h s k)
+    pub doing_end : {n : ℕ} → left ≡ 0 → end ≡ n → n ≤ length parts → {a : Answer ℕ} {e₁ : List ℕ} → WroteExprs e t (roomy n parts (concatParts (take n parts))) a e₁ → OnceAt e₀ t₀ first seen₀ (λ x. whole) a e₁ seen
+    doing_end {n} z q room {a} {e₁} h s k =
+        (doing.does s k).ends a (lists s e₁ k) seen
+        (once-as
+        (vector-done m bits at (seenOf first seen) (take (end - left) parts) z ∙ ap (λ (l : List ℕ). keeping (seenOf first seen) (concatParts l)) (parts_all parts end left z ∙ ap (λ (i : ℕ). take i parts) q)
+        ∙ ap (keeping (seenOf first seen)) (sym (roomy-yes n parts (concatParts (take n parts)) room)))
+        (once-keep (h s k)))

@@ -1,5 +1,5 @@
 -- What a cell has read, in a table by wire; and what a call that may read writes and leaves there.
-use Rattle.std.specs.Prelude.{List, [], ◌∷◌, ◌≡◌, ◌⊎◌, ◌<◌, ◌≤◌, ◌-◌, ℕ, leb, get_or}
+use Rattle.std.specs.Prelude.{List, [], ◌∷◌, ◌≡◌, ◌⊎◌, ◌<◌, ◌≤◌, ◌-◌, ℕ, leb, min, get_or}
 use Rattle.std.proofs.Math.Option.{Option, none, some}
 use Rattle.bits.specs.Bits.{pick}
 use Rattle.recorder.specs.declared.Tapes.{Tapes}
@@ -33,12 +33,25 @@ pub record Once {A : Type 0} (l : Lists) (t : Tapes) (first : ℕ) (table : List
   pub wrote : Wrote l t w (joined r (seenOf first table')) l'
   pub leaves : Leaves first table r table'
 
--- of a call that was lent expressions, or expressions and statements: whatever the other lists hold
-abbrev pub OnceExprs : {A : Type 0} → List ℕ → Tapes → ℕ → List ℕ → Writer (Reading A) → Answer A → List ℕ → List ℕ → Type 0
-OnceExprs e t first table w r e' table' = (s m : List ℕ) → Once (lists s e m) t first table w r (lists s e' m) table'
+-- the number of the cell's first expression, or of the next one if there are not so many yet
+abbrev pub begun : ℕ → Tapes → ℕ
+begun first t = min first t.exprs.count
 
-abbrev pub OnceBoth : {A : Type 0} → List ℕ → List ℕ → Tapes → ℕ → List ℕ → Writer (Reading A) → Answer A → List ℕ → List ℕ → List ℕ → Type 0
-OnceBoth e m t first table w r e' m' table' = (s : List ℕ) → Once (lists s e m) t first table w r (lists s e' m') table'
+-- of a call that was lent expressions, or expressions and statements: whatever the other lists hold. What it writes depends on what the
+-- table says has been read
+abbrev pub OnceAt : {A : Type 0} → List ℕ → Tapes → ℕ → List ℕ → (Seen → Writer (Reading A)) → Answer A → List ℕ → List ℕ → Type 0
+OnceAt e t f table w r e' table' = (s m : List ℕ) → Once (lists s e m) t f table (w (seenOf f table)) r (lists s e' m) table'
+
+abbrev pub OnceExprs : {A : Type 0} → List ℕ → Tapes → ℕ → List ℕ → (Seen → Writer (Reading A)) → Answer A → List ℕ → List ℕ → Type 0
+OnceExprs e t first table w r e' table' = (f : ℕ) → f ≡ begun first t → OnceAt e t f table w r e' table'
+
+abbrev pub OnceBoth : {A : Type 0} → List ℕ → List ℕ → Tapes → ℕ → List ℕ → (Seen → Writer (Reading A)) → Answer A → List ℕ → List ℕ → List ℕ → Type 0
+OnceBoth e m t first table w r e' m' table' = (f : ℕ) → f ≡ begun first t → (s : List ℕ) → Once (lists s e m) t f table (w (seenOf f table)) r (lists s e' m') table'
+
+-- a call adds expressions, and takes none away
+abbrev pub Grows : {A : Type 0} → Tapes → Answer A → Type 0
+Grows t (Done a u) = t.exprs.count ≤ u.exprs.count
+Grows t (Failed number place) = Unit {0}
 
 -- a call that is refused leaves a table of zeros
 abbrev pub swept : {A : Type 0} → Answer A → List ℕ → List ℕ

@@ -131,5 +131,7 @@ pub fn bits_expression(
     ensures work { parts.new ≡ zeroed parts.old }
 {
     let mut seen = [0u32; 0];
-    bits_once(exprs, parts, &mut seen, wires, places, t, 0, words, at, n, width)
+    bits_once(
+        exprs, parts, &mut seen, wires, places, t, 0, words, at, n, width,
+    )
 }

@@ -4,6 +4,7 @@
 
 pub mod expressions;
 pub mod map;
+pub mod once;
 
 use recorder::SignalId;
 use refusal::Refusal;

@@ -2,14 +2,14 @@
 //
 // The table `seen` holds for each wire the number plus 1 of the expression that read it last. It counts if it is above `first`, the
 // number of the cell's first expression, so that nothing has to be cleared between cells. A refused call leaves a table of zeros.
-ghost use Rattle.std.specs.Prelude.{◌≡◌, ◌+◌};
+ghost use Rattle.std.specs.Prelude.{◌≡◌, ◌≤◌};
 ghost use Rattle.std.proofs.Math.ListN.{set};
 ghost use Rattle.netlist.specs.Fields.{bits_at};
-ghost use Rattle.recorder.specs.Lists.{emitted};
+ghost use Rattle.recorder.specs.Lists.{WroteExprs, emitted};
 ghost use Rattle.recorder.specs.Words.{zeroed};
 ghost use Rattle.wires.specs.Wires.{wiresOf};
-ghost use Rattle.wires.specs.Once.{seenOf, OnceExprs, Cleared};
-ghost use Rattle.wires.specs.Expressions.{bitOnce, assertedOnce, vectorBit, vectorOnce, roomy};
+ghost use Rattle.wires.specs.Once.{begun, OnceAt, OnceExprs, swept, Cleared, Grows};
+ghost use Rattle.wires.specs.Expressions.{bitOnce, levelled, assertedOnce, vectorBit, vectorOnce, roomy};
 
 use crate::expressions::{bit_expression, concat_parts};
 use netlist::fields::{bit_at, wide, word};
@@ -28,6 +28,17 @@ fn note(seen: &mut [u32], wire: u32, exprs: u32)
     }
 }
 
+// The number of the cell's first expression, or of the next one if there are not so many yet.
+fn begun(first: u32, t: Tapes) -> u32
+    ensures { result ≡ begun first t }
+{
+    if first <= t.exprs.count {
+        first
+    } else {
+        t.exprs.count
+    }
+}
+
 fn wire_once(
     exprs: &mut [u32],
     seen: &mut [u32],
@@ -37,11 +48,12 @@ fn wire_once(
     first: u32,
     wire: u32,
 ) -> Emitted
-    ensures wrote { OnceExprs exprs.old t first seen.old (bitOnce (wiresOf wires.now places.now) (seenOf first seen.old) (Bit.Wire wire)) (emitted result) exprs.new seen.new }
+    ensures wrote { OnceExprs exprs.old t first seen.old (λ s. bitOnce (wiresOf wires.now places.now) s (Bit.Wire wire)) (emitted result) exprs.new seen.new }
     ensures refused { Cleared (emitted result) seen.old seen.new }
+    ensures grows { Grows t (emitted result) }
 {
     let known = word(seen, wide(wire));
-    if known > first {
+    if known > begun(first, t) {
         return Emitted::Done(ExprId(known - 1), t);
     }
     let r = bit_expression(exprs, wires, places, t, Bit::Wire(wire));
@@ -62,13 +74,33 @@ pub fn bit_once(
     first: u32,
     bit: Bit,
 ) -> Emitted
-    ensures wrote { OnceExprs exprs.old t first seen.old (bitOnce (wiresOf wires.now places.now) (seenOf first seen.old) bit) (emitted result) exprs.new seen.new }
+    ensures wrote { OnceExprs exprs.old t first seen.old (λ s. bitOnce (wiresOf wires.now places.now) s bit) (emitted result) exprs.new seen.new }
     ensures refused { Cleared (emitted result) seen.old seen.new }
+    ensures grows { Grows t (emitted result) }
 {
     match bit {
         Bit::Zero => Emitted::Done(ExprId::ZERO, t),
         Bit::One => Emitted::Done(ExprId::ONE, t),
         Bit::Wire(wire) => wire_once(exprs, seen, wires, places, t, first, wire),
+    }
+}
+
+fn levelled(exprs: &mut [u32], t: Tapes, active: u32, e: ExprId) -> Emitted
+    ensures { WroteExprs exprs.old t (levelled active e.0) (emitted result) exprs.new }
+{
+    if active == 1 {
+        return Emitted::Done(e, t);
+    }
+    builder::not(exprs, t, e)
+}
+
+// A table of zeros if a call was refused.
+fn sweep(seen: &mut [u32], r: Emitted)
+    ensures { seen.new ≡ swept (emitted r) seen.old }
+{
+    match r {
+        Emitted::Done(_, _) => {}
+        Emitted::Refused(_) => zero_words(seen),
     }
 }
 
@@ -81,28 +113,91 @@ pub fn asserted_once(
     first: u32,
     control: Control,
 ) -> Emitted
-    ensures wrote { OnceExprs exprs.old t first seen.old (assertedOnce (wiresOf wires.now places.now) (seenOf first seen.old) control) (emitted result) exprs.new seen.new }
+    ensures wrote { OnceExprs exprs.old t first seen.old (λ s. assertedOnce (wiresOf wires.now places.now) s control) (emitted result) exprs.new seen.new }
     ensures refused { Cleared (emitted result) seen.old seen.new }
+    ensures grows { Grows t (emitted result) }
 {
     let bit = control.signal;
     let r = bit_once(exprs, seen, wires, places, t, first, bit);
     let Emitted::Done(e, next) = r else {
         return r;
     };
-    if control.active == 1 {
-        return Emitted::Done(e, next);
-    }
-    let r2 = builder::not(exprs, next, e);
-    clear_refused(seen, r2);
+    let r2 = levelled(exprs, next, control.active, e);
+    sweep(seen, r2);
     r2
 }
 
-// A table of zeros where a call was refused.
-pub fn clear_refused(seen: &mut [u32], r: Emitted)
-    ensures { clearedBy (emitted result) seen.old seen.new }
+// Bit i of n bits that stand from an index on; zeros behind them.
+fn vector_bit(words: &[u32], at: usize, n: usize, i: usize) -> Bit
+    ensures { result ≡ vectorBit (bits_at words.now at n) i }
 {
-    match r {
-        Emitted::Done(_, _) => {}
-        Emitted::Refused(_) => zero_words(seen),
+    if i < n {
+        return bit_at(words, at, i);
     }
+    Bit::Zero
+}
+
+// The vector of the n bits that stand from an index on, widened by zeros; the highest bit is read first. Its parts are left in the work.
+fn vector_once(
+    exprs: &mut [u32],
+    parts: &mut [u32],
+    seen: &mut [u32],
+    wires: &[u32],
+    places: &[u32],
+    t: Tapes,
+    first: u32,
+    words: &[u32],
+    at: usize,
+    n: usize,
+    width: u32,
+) -> Emitted
+    requires { first ≤ t.exprs.count }
+    ensures wrote { OnceAt exprs.old t first seen.old (λ s. roomy width parts.old (vectorOnce (wiresOf wires.now places.now) s (bits_at words.now at n) 0 width)) (emitted result) exprs.new seen.new }
+    ensures grows { Grows t (emitted result) }
+{
+    let end = wide(width);
+    if parts.len() < end {
+        return Emitted::Refused(Refusal::BufferTooShort(end));
+    }
+    let mut now = t;
+    let mut left = end;
+    while left > 0 {
+        left -= 1;
+        let bit = vector_bit(words, at, n, left);
+        let r = bit_once(exprs, seen, wires, places, now, first, bit);
+        let Emitted::Done(e, next) = r else {
+            return r;
+        };
+        parts[end - 1 - left] = e.0;
+        now = next;
+    }
+    concat_parts(exprs, now, parts, width)
+}
+
+// The same, with the work cleared again.
+pub fn bits_once(
+    exprs: &mut [u32],
+    parts: &mut [u32],
+    seen: &mut [u32],
+    wires: &[u32],
+    places: &[u32],
+    t: Tapes,
+    first: u32,
+    words: &[u32],
+    at: usize,
+    n: usize,
+    width: u32,
+) -> Emitted
+    ensures wrote { OnceExprs exprs.old t first seen.old (λ s. roomy width parts.old (vectorOnce (wiresOf wires.now places.now) s (bits_at words.now at n) 0 width)) (emitted result) exprs.new seen.new }
+    ensures work { parts.new ≡ zeroed parts.old }
+    ensures refused { Cleared (emitted result) seen.old seen.new }
+    ensures grows { Grows t (emitted result) }
+{
+    let begin = begun(first, t);
+    let r = vector_once(
+        exprs, parts, seen, wires, places, t, begin, words, at, n, width,
+    );
+    zero_words(parts);
+    sweep(seen, r);
+    r
 }

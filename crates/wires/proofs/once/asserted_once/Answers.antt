@@ -1,0 +1,26 @@
+use Rattle.std.proofs.Common.{ap, []}
+use Rattle.recorder.specs.Lists.{emitted}
+use Rattle.wires.proofs.OnceLaws.{once-stop, once-done, once-keep, once-swept, grows-on}
+use Rattle.std.proofs.Common.{rules, ◌≡◌, ◌+◌, ℕ, ◌-◌, ◌*◌, ◌<◌, ◌≤◌, length, ◌/◌, ◌%◌, Bool, true, false, nat_eq, nat_lt, List, [], ◌∷◌, ◌++◌, slice_index_or, bit_and, bit_or, Fits, w8, w32, w64, Bor, MutBor}
+use Rattle.std.proofs.Math.ListN.{set}
+use Rattle.netlist.specs.Fields.{bits_at}
+use Rattle.recorder.specs.Lists.{WroteExprs, emitted}
+use Rattle.recorder.specs.Words.{zeroed}
+use Rattle.wires.specs.Wires.{wiresOf}
+use Rattle.wires.specs.Once.{begun, OnceExprs, swept, Cleared, Grows}
+use Rattle.wires.specs.Expressions.{bitOnce, levelled, assertedOnce, vectorBit, vectorOnce, roomy}
+use Rattle.wires.proofs.once.asserted_once.Goals as goal
+
+-- src/once.rt:123:9
+pub returns-in_default-clause-wrote : goal.returns-in_default-clause-wrote
+unfolding assertedOnce
+returns-in_default-clause-wrote c = λ f q s m. once-stop (c.bit_once-r.ensures.wrote f q s m) _ (ap emitted c.in_default.is) (ap emitted c.in_default.is)
+
+-- src/once.rt:107:1
+pub returns-clause-wrote : goal.returns-clause-wrote
+unfolding assertedOnce
+returns-clause-wrote c = λ f q s m. once-done (c.bit_once-r.ensures.wrote f q s m) _ (ap emitted c.in-Done.is) (once-swept (once-keep (c.levelled-r2.ensures s m)) c.sweep.ensures)
+
+-- src/once.rt:107:1
+pub returns-clause-grows : goal.returns-clause-grows
+returns-clause-grows c = grows-on c.args.t (emitted c.levelled-r2.result) (c.levelled-r2.ensures [] []) c.in-Done.ensures.grows

@@ -1,0 +1,16 @@
+use Rattle.std.proofs.Common.{ap, sym, subst, ◌∙◌, ℕ, refl}
+use Rattle.wires.specs.Seen.{Seen}
+use Rattle.wires.proofs.OnceLaws.{once-swept, once-moved}
+use Rattle.std.proofs.Common.{rules, ◌≡◌, ◌≤◌, ℕ, ◌+◌, ◌-◌, ◌*◌, ◌<◌, length, ◌/◌, ◌%◌, Bool, true, false, nat_eq, nat_lt, List, [], ◌∷◌, ◌++◌, slice_index_or, bit_and, bit_or, Fits, w8, w32, w64, Bor, MutBor}
+use Rattle.std.proofs.Math.ListN.{set}
+use Rattle.netlist.specs.Fields.{bits_at}
+use Rattle.recorder.specs.Lists.{WroteExprs, emitted}
+use Rattle.recorder.specs.Words.{zeroed}
+use Rattle.wires.specs.Wires.{wiresOf}
+use Rattle.wires.specs.Once.{begun, OnceAt, OnceExprs, swept, Cleared, Grows}
+use Rattle.wires.specs.Expressions.{bitOnce, levelled, assertedOnce, vectorBit, vectorOnce, roomy}
+use Rattle.wires.proofs.once.bits_once.Goals as goal
+
+-- src/once.rt:178:1
+pub returns-clause-wrote : goal.returns-clause-wrote
+returns-clause-wrote c = λ f q s m. once-swept (once-moved (λ (x : Seen). roomy c.args.width c.args.parts.now (vectorOnce (wiresOf c.args.wires.now c.args.places.now) x (bits_at c.args.words.now c.args.at c.args.n) 0 c.args.width)) (c.begun-begin.ensures ∙ sym q) c.vector_once-r.ensures.wrote s m) c.sweep.ensures

@@ -1,0 +1,30 @@
+use Rattle.wires.proofs.OnceLaws.{wire-known, wire-new, once-as, once-pure, once-failed, once-noted, wrote-grows}
+use Rattle.std.proofs.Common.{ap, sym, subst, ◌∙◌, arith, ℕ, get_or, List, []}
+use Rattle.recorder.specs.Lists.{emitted, Done}
+use Rattle.wires.specs.Once.{Once}
+use Rattle.wires.specs.Wires.{wiresOf}
+use Rattle.std.proofs.Common.{rules, ◌≡◌, ◌+◌, ℕ, ◌-◌, ◌*◌, ◌<◌, ◌≤◌, length, ◌/◌, ◌%◌, Bool, true, false, nat_eq, nat_lt, List, [], ◌∷◌, ◌++◌, slice_index_or, bit_and, bit_or, Fits, w8, w32, w64, Bor, MutBor}
+use Rattle.std.proofs.Math.ListN.{set}
+use Rattle.netlist.specs.Fields.{bits_at}
+use Rattle.recorder.specs.Lists.{WroteExprs, emitted}
+use Rattle.recorder.specs.Words.{zeroed}
+use Rattle.wires.specs.Wires.{wiresOf}
+use Rattle.wires.specs.Once.{begun, OnceExprs, swept, Cleared, Grows}
+use Rattle.wires.specs.Expressions.{bitOnce, levelled, assertedOnce, vectorBit, vectorOnce, roomy}
+use Rattle.wires.proofs.once.wire_once.Goals as goal
+
+-- src/once.rt:57:9
+pub returns-then-known-begun-clause-wrote : goal.returns-then-known-begun-clause-wrote
+returns-then-known-begun-clause-wrote c = λ f q s m. once-as (wire-known (wiresOf c.args.wires.now c.args.places.now) f c.args.seen.now c.args.wire (c.word-known.ensures ∙ ap (λ (i : ℕ). get_or c.args.seen.now i 0) c.wide.ensures) (let r = c.begun.ensures in let k = c.if-known-begun.true in omega arith)) once-pure
+
+-- src/once.rt:62:9
+pub returns-in_default-clause-wrote : goal.returns-in_default-clause-wrote
+returns-in_default-clause-wrote c = λ f q s m. once-as (wire-new (wiresOf c.args.wires.now c.args.places.now) f c.args.seen.now c.args.wire (c.word-known.ensures ∙ ap (λ (i : ℕ). get_or c.args.seen.now i 0) c.wide.ensures) (let r = c.begun.ensures in let k = c.if-known-begun.false in omega arith)) (once-failed (c.bit_expression-r.ensures s m) _ (ap emitted c.in_default.is) (ap emitted c.in_default.is))
+
+-- src/once.rt:42:1
+pub returns-clause-wrote : goal.returns-clause-wrote
+returns-clause-wrote c = λ f q s m. once-as (wire-new (wiresOf c.args.wires.now c.args.places.now) f c.args.seen.now c.args.wire (c.word-known.ensures ∙ ap (λ (i : ℕ). get_or c.args.seen.now i 0) c.wide.ensures) (let r = c.begun.ensures in let k = c.if-known-begun.false in omega arith)) (once-noted (wiresOf c.args.wires.now c.args.places.now) f c.args.seen.now c.args.wire (omega arith) c.note.ensures (c.in-Done.ensures s m))
+
+-- src/once.rt:42:1
+pub returns-clause-grows : goal.returns-clause-grows
+returns-clause-grows c = wrote-grows (c.in-Done.ensures [] [])
