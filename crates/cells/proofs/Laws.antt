@@ -1,5 +1,5 @@
 -- Refusals handed on as another kind of answer, and the cells' definitions in the form of their code.
-use mathlib.Core.Path.{◌≡◌, refl, ap, sym, ◌∙◌, subst}
+use mathlib.Core.Path.{◌≡◌, refl, ap, sym, ◌∙◌, subst, fun_ext}
 use mathlib.Core.List.{List, [], ◌∷◌}
 use Prim.Native.Nat.{ℕ, zero, suc, ◌+◌, ◌≤◌, min}
 use native.Mathlib.Nat.{add-zero}
@@ -19,7 +19,8 @@ use Rattle.recorder.proofs.Wrote.{then-stop}
 use Rattle.optimize.specs.Rewrite.{xorOf, muxOf}
 use Rattle.optimize.specs.Lut.{lutCofactor}
 use Rattle.wires.specs.Wires.{Wires}
-use Rattle.wires.specs.Expressions.{bitExpression, vectorExpression, readBits, assignWire, roomy}
+use Rattle.wires.specs.Seen.{Seen, Reading, reading, keeping}
+use Rattle.wires.specs.Expressions.{bitExpression, bitOnce, vectorOnce, readBits, assignWire, roomy}
 use Rattle.wires.proofs.Laws.{roomy-yes}
 use Rattle.cells.specs.Cells.{emitMultiplier, ccuRow, emitCyclePll, pllClocks}
 use Rattle.cells.specs.Answers.{changed, pllOf}
@@ -42,15 +43,15 @@ then-changed f h k d e = then-failed h k d (changed-failed f e d)
 
 -- FOUR INPUTS
 
-pub read-four : (m : Wires) (l : List Bit) → length l ≡ 4
-    → readBits m l [] ≡ (bitExpression m (get_or l 0 Zero) >>= λ a. bitExpression m (get_or l 1 Zero) >>= λ b. bitExpression m (get_or l 2 Zero) >>= λ c. bitExpression m (get_or l 3 Zero) >>= λ d. pure (a ∷ b ∷ c ∷ d ∷ []))
+pub read-four : (m : Wires) (seen : Seen) (l : List Bit) → length l ≡ 4
+    → readBits m seen l [] ≡ (bitOnce m seen (get_or l 0 Zero) >>= λ a. bitOnce m a.seen (get_or l 1 Zero) >>= λ b. bitOnce m b.seen (get_or l 2 Zero) >>= λ c. bitOnce m c.seen (get_or l 3 Zero) >>= λ d. pure (reading (a.value ∷ b.value ∷ c.value ∷ d.value ∷ []) d.seen))
 unfolding readBits
-read-four m [] e = absurd (omega arith)
-read-four m (a ∷ []) e = absurd (omega arith)
-read-four m (a ∷ b ∷ []) e = absurd (omega arith)
-read-four m (a ∷ b ∷ c ∷ []) e = absurd (omega arith)
-read-four m (a ∷ b ∷ c ∷ d ∷ []) e = refl
-read-four m (a ∷ b ∷ c ∷ d ∷ x ∷ l) e = absurd (omega arith)
+read-four m seen [] e = absurd (omega arith)
+read-four m seen (a ∷ []) e = absurd (omega arith)
+read-four m seen (a ∷ b ∷ []) e = absurd (omega arith)
+read-four m seen (a ∷ b ∷ c ∷ []) e = absurd (omega arith)
+read-four m seen (a ∷ b ∷ c ∷ d ∷ []) e = refl
+read-four m seen (a ∷ b ∷ c ∷ d ∷ x ∷ l) e = absurd (omega arith)
 
 -- A MULTIPLIER
 
@@ -68,23 +69,39 @@ records-from {A} value (suc n) i k h =
 pub bits-ahead : (words : List ℕ) (n i : ℕ) → i ≡ min n (length words) → (k : ℕ) → bits_at words i k ≡ bits_at words n k
 bits-ahead words n i cut k = records-from (bit_at words) k i n (λ j. bit-ahead words n i cut j)
 
+first-wire : (words : List ℕ) (i : ℕ) → get_or (wiresAt words i 36) 0 0 ≡ word_at words i
+unfolding recordsAt
+first-wire words i = refl
+
+-- the same first, and the same after whatever it gives
+bind-same : {A B : Type 0} {w w' : Writer A} {k k' : A → Writer B} → w ≡ w' → ((a : A) → k a ≡ k' a) → (w >>= k) ≡ (w' >>= k')
+bind-same {A} {B} {w} {w'} {k} {k'} e f = ap (λ (x : Writer A). x >>= k) e ∙ ap (λ (g : A → Writer B). w' >>= g) (fun_ext f)
+
 -- the works of its two vectors are long enough
-pub multiplier-from : (m : Wires) (words : List ℕ) (at : ℕ) {lhs rhs product : ℕ} → lhs ≡ min (at + 1) (length words) → rhs ≡ min (at + 19) (length words) → product ≡ word_at words (at + 37)
+pub multiplier-from : (m : Wires) (seen : Seen) (words : List ℕ) (at : ℕ) {lhs rhs product : ℕ} → lhs ≡ min (at + 1) (length words) → rhs ≡ min (at + 19) (length words) → product ≡ word_at words (at + 37)
     → (p q : List ℕ) → length p ≡ 36 → length q ≡ 36
-    → emitMultiplier m (bits_at words (at + 1) 18) (bits_at words (at + 19) 18) (wiresAt words (at + 37) 36)
-    ≡ (roomy 36 p (vectorExpression m (bits_at words lhs 18) 0 36) >>= λ a. roomy 36 q (vectorExpression m (bits_at words rhs 18) 0 36) >>= λ b. emit (mul a b) >>= λ v. assignWire m product v)
-unfolding emitMultiplier recordsAt
-multiplier-from m words at {product = product} el er ep p q hp hq =
+    → emitMultiplier m seen (bits_at words (at + 1) 18) (bits_at words (at + 19) 18) (wiresAt words (at + 37) 36)
+    ≡ (roomy 36 p (vectorOnce m seen (bits_at words lhs 18) 0 36) >>= λ a. roomy 36 q (vectorOnce m a.seen (bits_at words rhs 18) 0 36) >>= λ b. emit (mul a.value b.value) >>= λ v. keeping b.seen (assignWire m product v))
+unfolding emitMultiplier
+multiplier-from m seen words at {lhs} {rhs} {product} el er ep p q hp hq =
     let room : (l : List ℕ) → length l ≡ 36 → 36 ≤ length l = λ l h. omega (arith, h) in
-    rw (bits-ahead words (at + 1) _ el 18, bits-ahead words (at + 19) _ er 18, ep, roomy-yes 36 p (vectorExpression m (bits_at words (at + 1) 18) 0 36) (room p hp), roomy-yes 36 q (vectorExpression m (bits_at words (at + 19) 18) 0 36) (room q hq))
+    let left : bits_at words lhs 18 ≡ bits_at words (at + 1) 18 = bits-ahead words (at + 1) lhs el 18 in
+    let right : bits_at words rhs 18 ≡ bits_at words (at + 19) 18 = bits-ahead words (at + 19) rhs er 18 in
+    let target : get_or (wiresAt words (at + 37) 36) 0 0 ≡ product = first-wire words (at + 37) ∙ sym ep in
+    bind-same
+    (ap (λ (b : List Bit). vectorOnce m seen b 0 36) (sym left) ∙ sym (roomy-yes 36 p (vectorOnce m seen (bits_at words lhs 18) 0 36) (room p hp)))
+    (λ a.
+    bind-same
+    (ap (λ (b : List Bit). vectorOnce m a.seen b 0 36) (sym right) ∙ sym (roomy-yes 36 q (vectorOnce m a.seen (bits_at words rhs 18) 0 36) (room q hq)))
+    (λ b. ap (λ (w : ℕ). emit (mul a.value b.value) >>= λ v. keeping b.seen (assignWire m w v)) target))
 
 -- A ROW OF A CCU2C
 
-pub row_from : (m : Wires) (inputs : List Bit) (init inject sum carry : ℕ) {g : ℕ} → g ≡ pick (eqb inject 1) 0 carry
-    → ccuRow m inputs init inject sum carry
-    ≡ (readBits m inputs [] >>= λ es. lutCofactor es init >>= λ l. lutCofactor (get_or es 0 0 ∷ get_or es 1 0 ∷ 0 ∷ 0 ∷ []) init >>= λ k. xorOf l g >>= λ s. assignWire m sum s >>= λ x. muxOf l g k)
+pub row_from : (m : Wires) (seen : Seen) (inputs : List Bit) (init inject sum carry : ℕ) {g : ℕ} → g ≡ pick (eqb inject 1) 0 carry
+    → ccuRow m seen inputs init inject sum carry
+    ≡ (readBits m seen inputs [] >>= λ es. lutCofactor es.value init >>= λ l. lutCofactor (get_or es.value 0 0 ∷ get_or es.value 1 0 ∷ 0 ∷ 0 ∷ []) init >>= λ k. xorOf l g >>= λ s. assignWire m sum s >>= λ x. keeping es.seen (muxOf l g k))
 unfolding ccuRow
-row_from m inputs init inject sum carry e = rw e
+row_from m seen inputs init inject sum carry e = rw e
 
 -- A PLL
 

@@ -84,6 +84,9 @@ pub grows-on : {A : Type 0} {l : Lists} {u : Tapes} {w : Writer A} (t : Tapes) (
 grows-on {u = u} t (Done a v) h g = let k : u.exprs.count ≤ v.exprs.count = wrote-grows h in omega arith
 grows-on t (Failed x y) h g = tt
 
+pub failed-grows : {A : Type 0} (t : Tapes) {r : Answer A} {number place : ℕ} → r ≡ Failed number place → Grows t r
+failed-grows t {r} e = subst (λ (x : Answer _). Grows t x) (sym e) tt
+
 -- the same of a call that may read
 pub once-growing : {A : Type 0} {l : Lists} {t : Tapes} {f : ℕ} {table : List ℕ} {w : Writer (Reading A)} (r : Answer A) {l' : Lists} {table' : List ℕ} → Once l t f table w r l' table' → Grows t r
 once-growing (Done a u) h = wrote-grows h.wrote

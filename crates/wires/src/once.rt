@@ -29,7 +29,7 @@ fn note(seen: &mut [u32], wire: u32, exprs: u32)
 }
 
 // The number of the cell's first expression, or of the next one if there are not so many yet.
-fn begun(first: u32, t: Tapes) -> u32
+pub fn begun(first: u32, t: Tapes) -> u32
     ensures { result ≡ begun first t }
 {
     if first <= t.exprs.count {

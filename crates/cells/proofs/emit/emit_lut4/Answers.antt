@@ -1,19 +1,19 @@
-use Rattle.std.proofs.Common.{ap}
-use Rattle.recorder.proofs.Wrote.{then-done}
-use Rattle.cells.proofs.Laws.{then-failed, changed-failed, then-changed}
-use Rattle.cells.specs.Answers.{first, nothing, read_of}
-use Rattle.recorder.specs.Lists.{emitted}
+use Rattle.std.proofs.Common.{ap, arith, ◌∙◌, sym}
+use Rattle.cells.proofs.Laws.{changed-failed}
+use Rattle.cells.specs.Answers.{nothing, first, read_of}
+use Rattle.recorder.specs.Lists.{emitted, stated}
+use Rattle.wires.proofs.OnceLaws.{once-done, once-stop, once-then, once-failed, once-keep, once-swept}
 use Rattle.cells.specs.Cells.{emitLut4}
 use Rattle.cells.proofs.emit.emit_lut4.Goals as goal
 
-pub returns-in_default : goal.returns-in_default
+pub returns-in_default-clause-wrote : goal.returns-in_default-clause-wrote
 unfolding emitLut4
-returns-in_default c = λ s. then-failed (c.read4-r.ensures s _) _ (ap read_of c.in_default.is) (changed-failed nothing c.stopped.ensures (changed-failed first c.stopped_read.ensures (ap read_of c.in_default.is)))
+returns-in_default-clause-wrote c = λ f q s. once-stop (c.read4-r.ensures.wrote f (omega arith) s _) _ (ap read_of c.in_default.is) (changed-failed nothing c.stopped.ensures (changed-failed first c.stopped_read.ensures (ap read_of c.in_default.is)))
 
-pub returns-in_default-r2 : goal.returns-in_default-r2
+pub returns-in_default-r2-clause-wrote : goal.returns-in_default-r2-clause-wrote
 unfolding emitLut4
-returns-in_default-r2 c = λ s. then-done (c.read4-r.ensures s _) _ (ap read_of c.in-Done.is) (then-changed nothing (c.lut_expression-r2.ensures s _) _ (ap emitted c.in_default-r2.is) c.stopped-in_default-r2.ensures)
+returns-in_default-r2-clause-wrote c = λ f q s. once-done (c.read4-r.ensures.wrote f (omega arith) s _) _ (ap read_of c.in-Done.is) (once-failed (c.lut_expression-r2.ensures s _) _ (ap emitted c.in_default-r2.is) (changed-failed nothing c.stopped-in_default-r2.ensures (ap emitted c.in_default-r2.is)))
 
-pub returns : goal.returns
+pub returns-clause-wrote : goal.returns-clause-wrote
 unfolding emitLut4
-returns c = λ s. then-done (c.read4-r.ensures s _) _ (ap read_of c.in-Done.is) (then-done (c.lut_expression-r2.ensures s _) _ (ap emitted c.in-Done-r2.is) (c.assign_wire.ensures s _))
+returns-clause-wrote c = λ f q s. once-done (c.read4-r.ensures.wrote f (omega arith) s _) _ (ap read_of c.in-Done.is) (once-then (c.lut_expression-r2.ensures s _) _ (ap emitted c.in-Done-r2.is) (once-swept (once-keep (c.assign_wire-end.ensures s _)) c.sweep.ensures))

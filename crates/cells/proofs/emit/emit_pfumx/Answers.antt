@@ -1,27 +1,27 @@
-use Rattle.std.proofs.Common.{ap}
-use Rattle.recorder.proofs.Wrote.{then-done}
-use Rattle.cells.proofs.Laws.{then-changed}
+use Rattle.std.proofs.Common.{ap, arith, ◌∙◌, sym}
+use Rattle.cells.proofs.Laws.{changed-failed}
 use Rattle.cells.specs.Answers.{nothing}
-use Rattle.recorder.specs.Lists.{emitted}
+use Rattle.recorder.specs.Lists.{emitted, stated}
+use Rattle.wires.proofs.OnceLaws.{once-done, once-stop, once-then, once-failed, once-keep, once-swept}
 use Rattle.cells.specs.Cells.{emitPfumx}
 use Rattle.cells.proofs.emit.emit_pfumx.Goals as goal
 
-pub returns-in_default : goal.returns-in_default
+pub returns-in_default-clause-wrote : goal.returns-in_default-clause-wrote
 unfolding emitPfumx
-returns-in_default c = λ s. then-changed nothing (c.bit_expression-r.ensures s _) _ (ap emitted c.in_default.is) c.stopped.ensures
+returns-in_default-clause-wrote c = λ f q s. once-stop (c.bit_once-r.ensures.wrote f (omega arith) s _) _ (ap emitted c.in_default.is) (changed-failed nothing c.stopped.ensures (ap emitted c.in_default.is))
 
-pub returns-in_default-r2 : goal.returns-in_default-r2
+pub returns-in_default-r2-clause-wrote : goal.returns-in_default-r2-clause-wrote
 unfolding emitPfumx
-returns-in_default-r2 c = λ s. then-done (c.bit_expression-r.ensures s _) _ (ap emitted c.in-Done.is) (then-changed nothing (c.bit_expression-r2.ensures s _) _ (ap emitted c.in_default-r2.is) c.stopped-in_default-r2.ensures)
+returns-in_default-r2-clause-wrote c = λ f q s. once-done (c.bit_once-r.ensures.wrote f (omega arith) s _) _ (ap emitted c.in-Done.is) (once-stop (c.bit_once-r2.ensures.wrote f (omega (arith, c.in-Done.ensures.grows)) s _) _ (ap emitted c.in_default-r2.is) (changed-failed nothing c.stopped-in_default-r2.ensures (ap emitted c.in_default-r2.is)))
 
-pub returns-in_default-r3 : goal.returns-in_default-r3
+pub returns-in_default-r3-clause-wrote : goal.returns-in_default-r3-clause-wrote
 unfolding emitPfumx
-returns-in_default-r3 c = λ s. then-done (c.bit_expression-r.ensures s _) _ (ap emitted c.in-Done.is) (then-done (c.bit_expression-r2.ensures s _) _ (ap emitted c.in-Done-r2.is) (then-changed nothing (c.bit_expression-r3.ensures s _) _ (ap emitted c.in_default-r3.is) c.stopped-in_default-r3.ensures))
+returns-in_default-r3-clause-wrote c = λ f q s. once-done (c.bit_once-r.ensures.wrote f (omega arith) s _) _ (ap emitted c.in-Done.is) (once-done (c.bit_once-r2.ensures.wrote f (omega (arith, c.in-Done.ensures.grows)) s _) _ (ap emitted c.in-Done-r2.is) (once-stop (c.bit_once-r3.ensures.wrote f (omega (arith, c.in-Done.ensures.grows, c.in-Done-r2.ensures.grows)) s _) _ (ap emitted c.in_default-r3.is) (changed-failed nothing c.stopped-in_default-r3.ensures (ap emitted c.in_default-r3.is))))
 
-pub returns-in_default-r4 : goal.returns-in_default-r4
+pub returns-in_default-r4-clause-wrote : goal.returns-in_default-r4-clause-wrote
 unfolding emitPfumx
-returns-in_default-r4 c = λ s. then-done (c.bit_expression-r.ensures s _) _ (ap emitted c.in-Done.is) (then-done (c.bit_expression-r2.ensures s _) _ (ap emitted c.in-Done-r2.is) (then-done (c.bit_expression-r3.ensures s _) _ (ap emitted c.in-Done-r3.is) (then-changed nothing (c.mux-r4.ensures s _) _ (ap emitted c.in_default-r4.is) c.stopped-in_default-r4.ensures)))
+returns-in_default-r4-clause-wrote c = λ f q s. once-done (c.bit_once-r.ensures.wrote f (omega arith) s _) _ (ap emitted c.in-Done.is) (once-done (c.bit_once-r2.ensures.wrote f (omega (arith, c.in-Done.ensures.grows)) s _) _ (ap emitted c.in-Done-r2.is) (once-done (c.bit_once-r3.ensures.wrote f (omega (arith, c.in-Done.ensures.grows, c.in-Done-r2.ensures.grows)) s _) _ (ap emitted c.in-Done-r3.is) (once-failed (c.mux-r4.ensures s _) _ (ap emitted c.in_default-r4.is) (changed-failed nothing c.stopped-in_default-r4.ensures (ap emitted c.in_default-r4.is)))))
 
-pub returns : goal.returns
+pub returns-clause-wrote : goal.returns-clause-wrote
 unfolding emitPfumx
-returns c = λ s. then-done (c.bit_expression-r.ensures s _) _ (ap emitted c.in-Done.is) (then-done (c.bit_expression-r2.ensures s _) _ (ap emitted c.in-Done-r2.is) (then-done (c.bit_expression-r3.ensures s _) _ (ap emitted c.in-Done-r3.is) (then-done (c.mux-r4.ensures s _) _ (ap emitted c.in-Done-r4.is) (c.assign_wire.ensures s _))))
+returns-clause-wrote c = λ f q s. once-done (c.bit_once-r.ensures.wrote f (omega arith) s _) _ (ap emitted c.in-Done.is) (once-done (c.bit_once-r2.ensures.wrote f (omega (arith, c.in-Done.ensures.grows)) s _) _ (ap emitted c.in-Done-r2.is) (once-done (c.bit_once-r3.ensures.wrote f (omega (arith, c.in-Done.ensures.grows, c.in-Done-r2.ensures.grows)) s _) _ (ap emitted c.in-Done-r3.is) (once-then (c.mux-r4.ensures s _) _ (ap emitted c.in-Done-r4.is) (once-swept (once-keep (c.assign_wire-end.ensures s _)) c.sweep.ensures))))
