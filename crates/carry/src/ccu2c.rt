@@ -1,17 +1,20 @@
 ghost use Rattle.std.specs.Prelude.{◌≡◌, eqb};
 ghost use Rattle.bits.specs.Bits.{pick};
-ghost use Rattle.recorder.specs.Lists.{emitted, stated, WroteBoth};
+ghost use Rattle.recorder.specs.Lists.{emitted, stated};
 ghost use Rattle.wires.specs.Wires.{wiresOf};
+ghost use Rattle.wires.specs.Once.{OnceBoth, Cleared, Grows};
 ghost use Rattle.cells.specs.Cells.{ccuRow, emitCcu2c};
 ghost use Rattle.cells.specs.Answers.{changed, nought, ccuOf};
 
 use cells::Read4;
-use cells::answers::{stopped, stopped_read};
+use cells::answers::{stopped, stopped_read, sweep};
 use cells::emit::{lut_expression, read4};
 use netlist::Bit;
 use optimize::optimizer::{mux, xor};
+use recorder::words::zero_words;
 use recorder::{Emitted, ExprId, Stated, Tapes};
-use wires::expressions::{assign_wire, bit_expression};
+use wires::expressions::assign_wire;
+use wires::once::bit_once;
 
 fn stopped_stated(r: Stated) -> Emitted
     ensures { emitted result ≡ changed nought (stated r) }
@@ -29,23 +32,26 @@ fn gated_carry(inject: u32, carry: ExprId) -> ExprId
     if inject == 1 { ExprId::ZERO } else { carry }
 }
 
-// A row: its sum is assigned, the next carry answered.
+// A row: its sum is assigned, the next carry answered. A refusal leaves what has been read as it comes.
 fn emit_slice(
     exprs: &mut [u32],
     stmts: &mut [u32],
+    seen: &mut [u32],
     wires: &[u32],
     places: &[u32],
     t: Tapes,
+    first: u32,
     inputs: [Bit; 4],
     init: u16,
     inject: u32,
     sum: u32,
     carry: ExprId,
 ) -> Emitted
-    ensures { WroteBoth exprs.old stmts.old t (ccuRow (wiresOf wires.now places.now) inputs init inject sum carry.0) (emitted result) exprs.new stmts.new }
+    ensures wrote { OnceBoth exprs.old stmts.old t first seen.old (λ s. ccuRow (wiresOf wires.now places.now) s inputs init inject sum carry.0) (emitted result) exprs.new stmts.new seen.new }
+    ensures grows { Grows t (emitted result) }
 {
     let gated = gated_carry(inject, carry);
-    let r = read4(exprs, wires, places, t, inputs);
+    let r = read4(exprs, seen, wires, places, t, first, inputs);
     let Read4::Done(a, b, c, d, after) = r else {
         return stopped_read(r);
     };
@@ -73,6 +79,7 @@ fn emit_slice(
 pub fn emit_ccu2c(
     exprs: &mut [u32],
     stmts: &mut [u32],
+    seen: &mut [u32],
     wires: &[u32],
     places: &[u32],
     t: Tapes,
@@ -83,25 +90,31 @@ pub fn emit_ccu2c(
     init: [u16; 2],
     inject: [u32; 2],
 ) -> Stated
-    ensures { WroteBoth exprs.old stmts.old t (emitCcu2c (wiresOf wires.now places.now) (ccuOf inputs carry_in sums carry_out init inject)) (stated result) exprs.new stmts.new }
+    ensures wrote { OnceBoth exprs.old stmts.old t t.exprs.count seen.old (λ s. emitCcu2c (wiresOf wires.now places.now) s (ccuOf inputs carry_in sums carry_out init inject)) (stated result) exprs.new stmts.new seen.new }
+    ensures refused { Cleared (stated result) seen.old seen.new }
 {
     let row0 = inputs[0];
     let row1 = inputs[1];
-    let r = bit_expression(exprs, wires, places, t, carry_in);
+    let first = t.exprs.count;
+    let r = bit_once(exprs, seen, wires, places, t, first, carry_in);
     let Emitted::Done(carry, after) = r else {
         return stopped(r);
     };
     let r2 = emit_slice(
-        exprs, stmts, wires, places, after, row0, init[0], inject[0], sums[0], carry,
+        exprs, stmts, seen, wires, places, after, first, row0, init[0], inject[0], sums[0], carry,
     );
     let Emitted::Done(carry1, after1) = r2 else {
+        zero_words(seen);
         return stopped(r2);
     };
     let r3 = emit_slice(
-        exprs, stmts, wires, places, after1, row1, init[1], inject[1], sums[1], carry1,
+        exprs, stmts, seen, wires, places, after1, first, row1, init[1], inject[1], sums[1], carry1,
     );
     let Emitted::Done(carry2, next) = r3 else {
+        zero_words(seen);
         return stopped(r3);
     };
-    assign_wire(stmts, wires, places, next, carry_out, carry2)
+    let end = assign_wire(stmts, wires, places, next, carry_out, carry2);
+    sweep(seen, end);
+    end
 }
