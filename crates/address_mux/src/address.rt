@@ -1,10 +1,11 @@
 // The expression of an address, and its match with an index.
-ghost use Rattle.std.specs.Prelude.{◌≡◌};
+ghost use Rattle.std.specs.Prelude.{◌≡◌, ◌≤◌};
 ghost use Rattle.netlist.specs.Reader.{shift_of};
 ghost use Rattle.behaviour.specs.Behaviour.{shiftIn};
 ghost use Rattle.recorder.specs.Lists.{WroteExprs, emitted};
 ghost use Rattle.wires.specs.Wires.{wiresOf};
-ghost use Rattle.wires.specs.Expressions.{vectorBit, vectorExpression};
+ghost use Rattle.wires.specs.Once.{OnceAt, OnceExprs, Cleared, Grows};
+ghost use Rattle.wires.specs.Expressions.{vectorBit, vectorOnce};
 ghost use Rattle.address_mux.specs.Address.{at_most, matchAddress};
 
 use netlist::Bit;
@@ -12,7 +13,8 @@ use netlist::fields::wide;
 use netlist::ram::{Shift, address_shift};
 use recorder::{Emitted, ExprId, Tapes, builder};
 use refusal::Refusal;
-use wires::expressions::{bit_expression, concat_parts};
+use wires::expressions::concat_parts;
+use wires::once::{begun, bit_once, sweep};
 
 // The first bit of an address that counts, by physical width; 0 where that width is not allowed.
 pub fn shift_in(physical: u32) -> u32
@@ -34,17 +36,21 @@ fn address_bit(bits: [Bit; 14], i: usize) -> Bit
     Bit::Zero
 }
 
-// So many bits of an address, from the shift on; the highest is read first. No depth takes an address of more than 33 bits.
-pub fn address_expression(
+// So many bits of an address, from the shift on; the highest is read first. What is left of the table after a refusal is not said.
+fn address_bits(
     exprs: &mut [u32],
+    seen: &mut [u32],
     wires: &[u32],
     places: &[u32],
     t: Tapes,
+    first: u32,
     bits: [Bit; 14],
     shift: u32,
     width: u32,
 ) -> Emitted
-    ensures { WroteExprs exprs.old t (at_most 33 width (vectorExpression (wiresOf wires.now places.now) bits shift width)) (emitted result) exprs.new }
+    requires { first ≤ t.exprs.count }
+    ensures wrote { OnceAt exprs.old t first seen.old (λ s. at_most 33 width (vectorOnce (wiresOf wires.now places.now) s bits shift width)) (emitted result) exprs.new seen.new }
+    ensures grows { Grows t (emitted result) }
 {
     let end = wide(width);
     let start = wide(shift);
@@ -57,7 +63,7 @@ pub fn address_expression(
     while left > 0 {
         left -= 1;
         let bit = address_bit(bits, start + left);
-        let r = bit_expression(exprs, wires, places, now, bit);
+        let r = bit_once(exprs, seen, wires, places, now, first, bit);
         let Emitted::Done(e, next) = r else {
             return r;
         };
@@ -65,6 +71,28 @@ pub fn address_expression(
         now = next;
     }
     concat_parts(exprs, now, &parts, width)
+}
+
+// So many bits of an address, from the shift on. No depth takes an address of more than 33 bits.
+pub fn address_once(
+    exprs: &mut [u32],
+    seen: &mut [u32],
+    wires: &[u32],
+    places: &[u32],
+    t: Tapes,
+    first: u32,
+    bits: [Bit; 14],
+    shift: u32,
+    width: u32,
+) -> Emitted
+    ensures wrote { OnceExprs exprs.old t first seen.old (λ s. at_most 33 width (vectorOnce (wiresOf wires.now places.now) s bits shift width)) (emitted result) exprs.new seen.new }
+    ensures refused { Cleared (emitted result) seen.old seen.new }
+    ensures grows { Grows t (emitted result) }
+{
+    let begin = begun(first, t);
+    let r = address_bits(exprs, seen, wires, places, t, begin, bits, shift, width);
+    sweep(seen, r);
+    r
 }
 
 // Whether an address is an index.

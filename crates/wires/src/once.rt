@@ -95,7 +95,7 @@ fn levelled(exprs: &mut [u32], t: Tapes, active: u32, e: ExprId) -> Emitted
 }
 
 // A table of zeros if a call was refused.
-fn sweep(seen: &mut [u32], r: Emitted)
+pub fn sweep(seen: &mut [u32], r: Emitted)
     ensures { seen.new ≡ swept (emitted r) seen.old }
 {
     match r {
