@@ -7,14 +7,14 @@ ghost use Rattle.cells.specs.Cells.{ccuRow, emitCcu2c};
 ghost use Rattle.cells.specs.Answers.{changed, nought, ccuOf};
 
 use cells::Read4;
-use cells::answers::{stopped, stopped_read, sweep};
+use cells::answers::{stopped, stopped_read};
 use cells::emit::{lut_expression, read4};
 use netlist::Bit;
 use optimize::optimizer::{mux, xor};
 use recorder::words::zero_words;
 use recorder::{Emitted, ExprId, Stated, Tapes};
 use wires::expressions::assign_wire;
-use wires::once::bit_once;
+use wires::once::{bit_once, sweep_cell};
 
 fn stopped_stated(r: Stated) -> Emitted
     ensures { emitted result ≡ changed nought (stated r) }
@@ -115,6 +115,6 @@ pub fn emit_ccu2c(
         return stopped(r3);
     };
     let end = assign_wire(stmts, wires, places, next, carry_out, carry2);
-    sweep(seen, end);
+    sweep_cell(seen, end);
     end
 }

@@ -19,7 +19,7 @@ use Rattle.recorder.proofs.Wrote.{then-stop}
 use Rattle.optimize.specs.Rewrite.{xorOf, muxOf}
 use Rattle.optimize.specs.Lut.{lutCofactor}
 use Rattle.wires.specs.Wires.{Wires}
-use Rattle.wires.specs.Seen.{Seen, Reading, reading, keeping}
+use Rattle.wires.specs.Seen.{Seen, Reading, withSeen, keeping}
 use Rattle.wires.specs.Expressions.{bitExpression, bitOnce, vectorOnce, readBits, assignWire, roomy}
 use Rattle.wires.proofs.Laws.{roomy-yes}
 use Rattle.cells.specs.Cells.{emitMultiplier, ccuRow, emitCyclePll, pllClocks}
@@ -44,7 +44,7 @@ then-changed f h k d e = then-failed h k d (changed-failed f e d)
 -- FOUR INPUTS
 
 pub read-four : (m : Wires) (seen : Seen) (l : List Bit) → length l ≡ 4
-    → readBits m seen l [] ≡ (bitOnce m seen (get_or l 0 Zero) >>= λ a. bitOnce m a.seen (get_or l 1 Zero) >>= λ b. bitOnce m b.seen (get_or l 2 Zero) >>= λ c. bitOnce m c.seen (get_or l 3 Zero) >>= λ d. pure (reading (a.value ∷ b.value ∷ c.value ∷ d.value ∷ []) d.seen))
+    → readBits m seen l [] ≡ (bitOnce m seen (get_or l 0 Zero) >>= λ a. bitOnce m a.seen (get_or l 1 Zero) >>= λ b. bitOnce m b.seen (get_or l 2 Zero) >>= λ c. bitOnce m c.seen (get_or l 3 Zero) >>= λ d. pure (withSeen (a.value ∷ b.value ∷ c.value ∷ d.value ∷ []) d.seen))
 unfolding readBits
 read-four m seen [] e = absurd (omega arith)
 read-four m seen (a ∷ []) e = absurd (omega arith)

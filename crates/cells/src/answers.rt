@@ -1,11 +1,9 @@
 // A refusal handed on as another kind of answer.
 ghost use Rattle.std.specs.Prelude.{◌≡◌};
 ghost use Rattle.recorder.specs.Lists.{emitted, stated};
-ghost use Rattle.wires.specs.Once.{swept};
 ghost use Rattle.cells.specs.Answers.{changed, nothing, first, read_of};
 
 use crate::Read4;
-use recorder::words::zero_words;
 use recorder::{Emitted, Stated};
 
 pub fn stopped(r: Emitted) -> Stated
@@ -23,15 +21,5 @@ pub fn stopped_read(r: Read4) -> Emitted
     match r {
         Read4::Done(a, _, _, _, t) => Emitted::Done(a, t),
         Read4::Refused(x) => Emitted::Refused(x),
-    }
-}
-
-// What a cell has read is in the table `seen`: zeros if the cell was refused.
-pub fn sweep(seen: &mut [u32], r: Stated)
-    ensures { seen.new ≡ swept (stated r) seen.old }
-{
-    match r {
-        Stated::Done(_) => {}
-        Stated::Refused(_) => zero_words(seen),
     }
 }

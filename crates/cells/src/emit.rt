@@ -10,7 +10,7 @@ ghost use Rattle.cells.specs.Cells.{emitMultiplier, emitLut4, emitPfumx, emitL6m
 ghost use Rattle.cells.specs.Answers.{read_of, changed, fourfold};
 
 use crate::Read4;
-use crate::answers::{stopped, stopped_read, sweep};
+use crate::answers::{stopped, stopped_read};
 use netlist::Bit;
 use netlist::fields::{ahead, field};
 use optimize::lut::lut;
@@ -19,7 +19,7 @@ use recorder::builder::multiply;
 use recorder::words::zero_words;
 use recorder::{Emitted, ExprId, Stated, Tapes};
 use wires::expressions::assign_wire;
-use wires::once::{begun, bit_once, bits_once};
+use wires::once::{begun, bit_once, bits_once, sweep_cell};
 
 // What is no reading of four.
 fn unread(r: Emitted) -> Read4
@@ -102,7 +102,7 @@ pub fn emit_multiplier(
         return stopped(r3);
     };
     let end = assign_wire(stmts, wires, places, next, product, value);
-    sweep(seen, end);
+    sweep_cell(seen, end);
     end
 }
 
@@ -139,7 +139,7 @@ pub fn emit_lut4(
         return stopped(r2);
     };
     let end = assign_wire(stmts, wires, places, next, output, value);
-    sweep(seen, end);
+    sweep_cell(seen, end);
     end
 }
 
@@ -177,7 +177,7 @@ pub fn emit_pfumx(
         return stopped(r4);
     };
     let end = assign_wire(stmts, wires, places, next, output, value);
-    sweep(seen, end);
+    sweep_cell(seen, end);
     end
 }
 
@@ -215,7 +215,7 @@ pub fn emit_l6mux21(
         return stopped(r4);
     };
     let end = assign_wire(stmts, wires, places, next, output, value);
-    sweep(seen, end);
+    sweep_cell(seen, end);
     end
 }
 
@@ -253,6 +253,6 @@ pub fn emit_io(
         return stopped(r4);
     };
     let end = assign_wire(stmts, wires, places, next, fabric_input, resolved);
-    sweep(seen, end);
+    sweep_cell(seen, end);
     end
 }

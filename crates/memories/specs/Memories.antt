@@ -9,7 +9,7 @@ use Rattle.recorder.specs.Record.{Signal, RegEnable, Expr.const, Expr.read, Expr
 use Rattle.recorder.specs.Writer.{Writer, pure, declare, emit, state, ◌>>=◌, ◌>>◌}
 use Rattle.wires.specs.declared.Constants.{Constants}
 use Rattle.wires.specs.Wires.{Wires}
-use Rattle.wires.specs.Seen.{Seen, standing, Reading, reading, keeping}
+use Rattle.wires.specs.Seen.{Seen, standing, Reading, withSeen, keeping}
 use Rattle.wires.specs.Expressions.{wireRef, bitSignal, assertedOnce, vectorOnce, bitsOnce, assignWire}
 use Rattle.address_mux.specs.AddressMux.{Node, balancedAddressMux}
 
@@ -42,12 +42,12 @@ pub record Gate : Type 0 where
 unfoldable pub gate : Wires → Seen → Control → Option Control → Writer (Reading Gate)
 gate m seen write none = do
   y ← assertedOnce m seen write
-  pure (reading (record { writeAsserted = y.value; clockEnabled = none }) y.seen)
+  pure (withSeen (record { writeAsserted = y.value; clockEnabled = none }) y.seen)
 gate m seen write (some enable) = do
   y ← assertedOnce m seen write
   c ← assertedOnce m y.seen enable
   g ← emit (and y.value c.value)
-  pure (reading (record { writeAsserted = g; clockEnabled = some c.value }) c.seen)
+  pure (withSeen (record { writeAsserted = g; clockEnabled = some c.value }) c.seen)
 
 -- what a port makes of a word: its width, the address's width, the index, the expression so far
 unfoldable pub writeWord : PortExprs → ℕ → ℕ → ℕ → ℕ → Writer ℕ
@@ -130,12 +130,12 @@ updateWords (w ∷ ws) clock edge = do
 
 -- the second port, whose address serves both: the shift, the address's width
 abbrev pub secondExprs : Wires → Seen → ℕ → ℕ → Option SecondPort → Writer (Reading (Option PortExprs))
-secondExprs m seen shift aw none = pure (reading none seen)
+secondExprs m seen shift aw none = pure (withSeen none seen)
 secondExprs m seen shift aw (some p) = do
   a ← vectorOnce m seen p.address shift aw
   d ← bitsOnce m a.seen p.input
   g ← gate m d.seen p.write p.clockEnable
-  pure (reading (some (record { writeAddress = a.value; writeData = d.value; writeAsserted = g.value.writeAsserted; readAddress = a.value; readData = p.output; readEnable = p.readEnable; clockEnabled = g.value.clockEnabled })) g.seen)
+  pure (withSeen (some (record { writeAddress = a.value; writeData = d.value; writeAsserted = g.value.writeAsserted; readAddress = a.value; readData = p.output; readEnable = p.readEnable; clockEnabled = g.value.clockEnabled })) g.seen)
 
 abbrev pub secondOutput : Option SecondPort → List ℕ
 secondOutput none = []

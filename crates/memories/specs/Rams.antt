@@ -14,11 +14,14 @@ use Rattle.recorder.specs.Writer.{Writer, pure, refuse, emit, state, ◌>>=◌}
 use Rattle.recorder.specs.Lists.{lists, Wrote, Answer, Answer.Done, Answer.Failed, enableOf as recorded}
 use Rattle.wires.specs.declared.Constants.{Constants}
 use Rattle.wires.specs.Wires.{Wires}
-use Rattle.wires.specs.Expressions.{wireRef, assertedExpression, vectorExpression, bitsExpression, roomy}
+use Rattle.wires.specs.Seen.{Seen, Reading, withSeen}
+use Rattle.wires.specs.Expressions.{wireRef, assertedOnce, vectorOnce, bitsOnce, roomy}
 use Rattle.memories.specs.declared.ClockEnabled.{ClockEnabled}
 use Rattle.memories.specs.declared.ClockEnabled.TheVariants as E
 use Rattle.memories.specs.declared.Gated.{Gated}
 use Rattle.memories.specs.declared.Gated.TheVariants as G
+use Rattle.memories.specs.declared.Own.{Own}
+use Rattle.memories.specs.declared.Own.TheVariants as O
 use Rattle.memories.specs.declared.Port.{Port}
 use Rattle.memories.specs.declared.Ported.{Ported}
 use Rattle.memories.specs.declared.Ported.TheVariants as P
@@ -82,22 +85,27 @@ seconded out en (D.Done b t) = Done (second_of out en b) t
 seconded out en (D.Refused x) = Failed (number_of x) (place_of x)
 
 -- the first port's, in the order of emitBlockRam
-unfoldable pub firstExprs : Wires → ℕ → ℕ → BlockRam → Writer PortExprs
-firstExprs m shift aw r = do
-  wa ← vectorExpression m r.writeAddress shift aw
-  ra ← vectorExpression m r.readAddress shift aw
-  d ← bitsExpression m r.input
-  g ← gate m r.write r.clockEnable
-  pure (record { writeAddress = wa; writeData = d; writeAsserted = g.writeAsserted; readAddress = ra; readData = r.output; readEnable = r.readEnable; clockEnabled = g.clockEnabled })
+unfoldable pub firstExprs : Wires → Seen → ℕ → ℕ → BlockRam → Writer (Reading PortExprs)
+firstExprs m seen shift aw r = do
+  wa ← vectorOnce m seen r.writeAddress shift aw
+  ra ← vectorOnce m wa.seen r.readAddress shift aw
+  d ← bitsOnce m ra.seen r.input
+  g ← gate m d.seen r.write r.clockEnable
+  pure (withSeen (record { writeAddress = wa.value; writeData = d.value; writeAsserted = g.value.writeAsserted; readAddress = ra.value; readData = r.output; readEnable = r.readEnable; clockEnabled = g.value.clockEnabled }) g.seen)
 
 -- a distributed RAM's, in the order of emitDistributedRam
-unfoldable pub dramExprs : Wires → DistributedRam → Writer PortExprs
-dramExprs m r = do
-  wa ← vectorExpression m r.writeAddress 0 4
-  ra ← vectorExpression m r.readAddress 0 4
-  d ← vectorExpression m r.input 0 4
-  y ← assertedExpression m r.write
-  pure (record { writeAddress = wa; writeData = d; writeAsserted = y; readAddress = ra; readData = r.output; readEnable = none; clockEnabled = none })
+unfoldable pub dramExprs : Wires → Seen → DistributedRam → Writer (Reading PortExprs)
+dramExprs m seen r = do
+  wa ← vectorOnce m seen r.writeAddress 0 4
+  ra ← vectorOnce m wa.seen r.readAddress 0 4
+  d ← vectorOnce m ra.seen r.input 0 4
+  y ← assertedOnce m d.seen r.write
+  pure (withSeen (record { writeAddress = wa.value; writeData = d.value; writeAsserted = y.value; readAddress = ra.value; readData = r.output; readEnable = none; clockEnabled = none }) y.seen)
+
+-- the own read of a port
+abbrev pub ownOf : Own → Option ℕ
+ownOf O.Unread = none
+ownOf (O.Read e) = some e.0
 
 -- ---- words by their numbers
 
@@ -154,12 +162,12 @@ selectWord address words width aw = do
   nodes ← candidatesFrom address aw 0 words []
   balancedAddressMux width nodes e
 
--- wire, read enable, clock enable, width, selected word, clock signal, edge
-unfoldable pub readRegister : Wires → Constants → ℕ → Option Control → Option ℕ → ℕ → ℕ → ℕ → ℕ → Writer (Unit {0})
-readRegister m z output enable clocked width v clock edge = do
+-- wire, read enable, clock enable, own read, width, selected word, clock signal, edge
+unfoldable pub readRegister : Wires → Constants → ℕ → Option Control → Option ℕ → Option ℕ → ℕ → ℕ → ℕ → ℕ → Writer (Unit {0})
+readRegister m z output enable clocked own width v clock edge = do
   r ← wireRef m output
   en ← enableOf m z enable
-  n ← nextRead clocked width r.signal v
+  n ← nextRead clocked own width r.signal v
   state (reg r.signal n clock edge none en)
 
 -- ---- the cells at an index
@@ -224,5 +232,5 @@ abbrev pub workOf : BlockRam → ℕ
 workOf r = max r.depth r.width
 
 -- both works are checked first, then that an array holds a node for each word
-abbrev pub blockRamIn : List ℕ → List ℕ → Wires → Constants → ℕ → BlockRam → Writer (Unit {0})
-blockRamIn parts values m z owner r = roomy (workOf r) parts (roomy (workOf r) values (at_most 16384 r.depth (emitBlockRam m z owner r)))
+abbrev pub blockRamIn : List ℕ → List ℕ → Wires → Constants → Seen → ℕ → BlockRam → Writer (Reading (Unit {0}))
+blockRamIn parts values m z seen owner r = roomy (workOf r) parts (roomy (workOf r) values (at_most 16384 r.depth (emitBlockRam m z seen owner r)))

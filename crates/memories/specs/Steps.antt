@@ -27,18 +27,18 @@ pickWord address words width aw e = do
   nodes ← candidatesFrom address aw 0 words []
   balancedAddressMux width nodes e
 
--- ports, words' width, address's width, clock signal, edge, words
-unfoldable pub ramReads : Wires → Constants → PortExprs → Option PortExprs → ℕ → ℕ → ℕ → ℕ → List Word → Writer (Unit {0})
-ramReads m z a b width aw clock edge words = do
-  emitBlockRamReadPort m z a words width aw clock edge
-  emitSecondReadPort m z b words width aw clock edge
+-- ports and their own reads, words' width, address's width, clock signal, edge, words
+unfoldable pub ramReads : Wires → Constants → PortExprs → Option ℕ → Option PortExprs → Option ℕ → ℕ → ℕ → ℕ → ℕ → List Word → Writer (Unit {0})
+ramReads m z a ownA b ownB width aw clock edge words = do
+  emitBlockRamReadPort m z a ownA words width aw clock edge
+  emitSecondReadPort m z b ownB words width aw clock edge
   updateWords words clock edge
 
--- cell number, ports, words' width, address's width, depth, clock signal, edge
-unfoldable pub ramBody : Wires → Constants → ℕ → PortExprs → Option PortExprs → ℕ → ℕ → ℕ → ℕ → ℕ → Writer (Unit {0})
-ramBody m z owner a b width aw depth clock edge = do
+-- cell number, ports and their own reads, words' width, address's width, depth, clock signal, edge
+unfoldable pub ramBody : Wires → Constants → ℕ → PortExprs → Option ℕ → Option PortExprs → Option ℕ → ℕ → ℕ → ℕ → ℕ → ℕ → Writer (Unit {0})
+ramBody m z owner a ownA b ownB width aw depth clock edge = do
   words ← ramWords a b owner width aw depth 0 []
-  ramReads m z a b width aw clock edge words
+  ramReads m z a ownA b ownB width aw clock edge words
 
 -- a word of a distributed RAM, with its statement
 unfoldable pub dramWord : PortExprs → ℕ → ℕ → ℕ → ℕ → Writer Word

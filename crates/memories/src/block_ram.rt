@@ -1,26 +1,63 @@
 // A block RAM.
 ghost use Rattle.std.specs.Prelude.{◌≡◌, ◌+◌, ◌≤◌, max, length};
-ghost use Rattle.netlist.specs.Fields.{word_at, ramAt};
+ghost use Rattle.netlist.specs.Fields.{word_at, wiresAt, ramAt};
 ghost use Rattle.recorder.specs.Lists.{lists, Wrote, stated, WroteBoth};
+ghost use Rattle.wires.specs.Once.{seenOf, OnceAll, Cleared};
 ghost use Rattle.recorder.specs.Words.{zeroed};
 ghost use Rattle.wires.specs.Wires.{wiresOf};
-ghost use Rattle.memories.specs.Memories.{emitBlockRam};
-ghost use Rattle.memories.specs.Rams.{portOf, second_of, lastOf, words_of, Spaced, addressed, workOf, blockRamIn};
+ghost use Rattle.memories.specs.Memories.{ownRead, secondOutput, emitBlockRam};
+ghost use Rattle.memories.specs.Rams.{ownOf, portOf, second_of, lastOf, words_of, Spaced, addressed, workOf, blockRamIn};
 ghost use Rattle.memories.specs.Steps.{secondAt, ramReads, ramBody};
 
-use crate::ports::{first_port, second_port};
+use crate::ports::{first_port, first_size, second_port};
 use crate::ram_words::{ram_words, update_words};
 use crate::read_port::{first_read_port, second_read_port};
-use crate::{Port, Ported, RamShape, Second, Seconded, Words};
+use crate::{Own, Owns, Port, Ported, RamShape, Second, Seconded, Words};
 use address_mux::address::shift_in;
 use netlist::Bit;
-use netlist::fields::{bit_at, field, wide};
+use netlist::fields::{bit_at, field, wide, word};
 use netlist::ram::address_width;
 use recorder::words::zero_words;
 use recorder::{ExprId, SignalId, Stated, Tapes};
 use refusal::Refusal;
 use wires::expressions::bit_signal;
+use wires::once::sweep_cell;
 use wires::{Constants, Controlled};
+
+// The read of the signal that n wires at an offset of a record share, if the cell has read it: it has one bit then.
+fn own_read(seen: &[u32], first: u32, words: &[u32], at: usize, offset: usize, n: u32) -> Own
+    ensures { ownOf result ≡ ownRead (seenOf first seen.now) (wiresAt words.now (at + offset) n) }
+{
+    if n != 1 {
+        return Own::Unread;
+    }
+    let known = word(seen, wide(field(words, at, offset)));
+    if known > first {
+        return Own::Read(ExprId(known - 1));
+    }
+    Own::Unread
+}
+
+// Of both ports of the block RAM at an index.
+fn own_reads(seen: &[u32], first: u32, words: &[u32], at: usize) -> Owns
+    ensures first { ownOf result.first ≡ ownRead (seenOf first seen.now) (ramAt words.now at).output }
+    ensures second { ownOf result.second ≡ ownRead (seenOf first seen.now) (secondOutput (ramAt words.now at).second) }
+{
+    let width = field(words, at, 2);
+    let a = own_read(seen, first, words, at, 43 + wide(width), width);
+    if field(words, at, 42) == 0 {
+        return Owns {
+            first: a,
+            second: Own::Unread,
+        };
+    }
+    let offset = first_size(words, at) + (24 + wide(width));
+    let b = own_read(seen, first, words, at, offset, width);
+    Owns {
+        first: a,
+        second: b,
+    }
+}
 
 // Both ports read the words, which then take their next values.
 fn reads_and_updates(
@@ -36,21 +73,26 @@ fn reads_and_updates(
     shape: RamShape,
     first: Port,
     second: Second,
+    owns: Owns,
     words: &[u32],
     at: usize,
 ) -> Stated
     requires { (made.depth ≤ length parts.old) × (made.depth ≤ length values.old) × Spaced made }
-    ensures { WroteBoth exprs.old stmts.old t (ramReads (wiresOf wires.now places.now) constants (portOf (ramAt words.now at).output (ramAt words.now at).readEnable first) (second_of (secondAt words.now at).output (secondAt words.now at).readEnable second) shape.width shape.address shape.clock.0 shape.edge (words_of made)) (stated result) exprs.new stmts.new }
+    ensures { WroteBoth exprs.old stmts.old t (ramReads (wiresOf wires.now places.now) constants (portOf (ramAt words.now at).output (ramAt words.now at).readEnable first) (ownOf owns.first) (second_of (secondAt words.now at).output (secondAt words.now at).readEnable second) (ownOf owns.second) shape.width shape.address shape.clock.0 shape.edge (words_of made)) (stated result) exprs.new stmts.new }
 {
     let clock = shape.clock;
+    let own_first = owns.first;
+    let own_second = owns.second;
     let a = first_read_port(
-        exprs, stmts, parts, values, wires, places, t, constants, made, shape, first, words, at,
+        exprs, stmts, parts, values, wires, places, t, constants, made, shape, first, own_first,
+        words, at,
     );
     let Stated::Done(t2) = a else {
         return a;
     };
     let b = second_read_port(
-        exprs, stmts, parts, values, wires, places, t2, constants, made, shape, second, words, at,
+        exprs, stmts, parts, values, wires, places, t2, constants, made, shape, second, own_second,
+        words, at,
     );
     let Stated::Done(t3) = b else {
         return b;
@@ -83,11 +125,12 @@ fn ram_body(
     shape: RamShape,
     first: Port,
     second: Second,
+    owns: Owns,
     words: &[u32],
     at: usize,
 ) -> Stated
     requires { (word_at words.now (at + 1) ≤ length parts.old) × (word_at words.now (at + 1) ≤ length values.old) × (word_at words.now (at + 1) ≤ 16384) }
-    ensures { Wrote (lists signals.old exprs.old stmts.old) t (ramBody (wiresOf wires.now places.now) constants owner (portOf (ramAt words.now at).output (ramAt words.now at).readEnable first) (second_of (secondAt words.now at).output (secondAt words.now at).readEnable second) shape.width shape.address (word_at words.now (at + 1)) shape.clock.0 shape.edge) (stated result) (lists signals.new exprs.new stmts.new) }
+    ensures { Wrote (lists signals.old exprs.old stmts.old) t (ramBody (wiresOf wires.now places.now) constants owner (portOf (ramAt words.now at).output (ramAt words.now at).readEnable first) (ownOf owns.first) (second_of (secondAt words.now at).output (secondAt words.now at).readEnable second) (ownOf owns.second) shape.width shape.address (word_at words.now (at + 1)) shape.clock.0 shape.edge) (stated result) (lists signals.new exprs.new stmts.new) }
 {
     let depth = field(words, at, 1);
     let r = ram_words(
@@ -113,7 +156,7 @@ fn ram_body(
     };
     reads_and_updates(
         exprs, stmts, parts, values, wires, places, t2, constants, made, shape, first, second,
-        words, at,
+        owns, words, at,
     )
 }
 
@@ -139,6 +182,7 @@ fn with_work(
     stmts: &mut [u32],
     parts: &mut [u32],
     values: &mut [u32],
+    seen: &mut [u32],
     wires: &[u32],
     places: &[u32],
     t: Tapes,
@@ -151,16 +195,19 @@ fn with_work(
     second_address: [Bit; 14],
 ) -> Stated
     requires { (workOf (ramAt words.now at) ≤ length parts.old) × (workOf (ramAt words.now at) ≤ length values.old) × (word_at words.now (at + 1) ≤ 16384) }
-    ensures { Wrote (lists signals.old exprs.old stmts.old) t (emitBlockRam (wiresOf wires.now places.now) constants owner (addressed (ramAt words.now at) write_address read_address second_address)) (stated result) (lists signals.new exprs.new stmts.new) }
+    ensures { OnceAll (lists signals.old exprs.old stmts.old) t t.exprs.count seen.old (λ s. emitBlockRam (wiresOf wires.now places.now) constants s owner (addressed (ramAt words.now at) write_address read_address second_address)) (stated result) (lists signals.new exprs.new stmts.new) seen.new }
 {
     let address = address_width(field(words, at, 1));
     let shift = shift_in(field(words, at, 3));
+    let begin = t.exprs.count;
     match first_port(
         exprs,
         parts,
+        seen,
         wires,
         places,
         t,
+        begin,
         words,
         at,
         write_address,
@@ -172,9 +219,11 @@ fn with_work(
             match second_port(
                 exprs,
                 parts,
+                seen,
                 wires,
                 places,
                 t2,
+                begin,
                 words,
                 at,
                 second_address,
@@ -182,6 +231,7 @@ fn with_work(
                 address,
             ) {
                 Seconded::Done(second, t3) => {
+                    let owns = own_reads(seen, begin, words, at);
                     let bit = bit_at(words, at, 40);
                     match bit_signal(wires, places, constants, bit) {
                         Controlled::Signal(clock) => {
@@ -195,7 +245,7 @@ fn with_work(
                             };
                             ram_body(
                                 signals, exprs, stmts, parts, values, wires, places, t3, constants,
-                                owner, shape, first, second, words, at,
+                                owner, shape, first, second, owns, words, at,
                             )
                         }
                         Controlled::Refused(x) => Stated::Refused(x),
@@ -215,6 +265,7 @@ fn in_work(
     stmts: &mut [u32],
     parts: &mut [u32],
     values: &mut [u32],
+    seen: &mut [u32],
     wires: &[u32],
     places: &[u32],
     t: Tapes,
@@ -226,7 +277,7 @@ fn in_work(
     read_address: [Bit; 14],
     second_address: [Bit; 14],
 ) -> Stated
-    ensures { Wrote (lists signals.old exprs.old stmts.old) t (blockRamIn parts.old values.old (wiresOf wires.now places.now) constants owner (addressed (ramAt words.now at) write_address read_address second_address)) (stated result) (lists signals.new exprs.new stmts.new) }
+    ensures { OnceAll (lists signals.old exprs.old stmts.old) t t.exprs.count seen.old (λ s. blockRamIn parts.old values.old (wiresOf wires.now places.now) constants s owner (addressed (ramAt words.now at) write_address read_address second_address)) (stated result) (lists signals.new exprs.new stmts.new) seen.new }
 {
     let work = block_ram_work(words, at);
     if parts.len() < work {
@@ -245,6 +296,7 @@ fn in_work(
         stmts,
         parts,
         values,
+        seen,
         wires,
         places,
         t,
@@ -265,6 +317,7 @@ pub fn emit_block_ram(
     stmts: &mut [u32],
     parts: &mut [u32],
     values: &mut [u32],
+    seen: &mut [u32],
     wires: &[u32],
     places: &[u32],
     t: Tapes,
@@ -276,8 +329,9 @@ pub fn emit_block_ram(
     read_address: [Bit; 14],
     second_address: [Bit; 14],
 ) -> Stated
-    ensures wrote { Wrote (lists signals.old exprs.old stmts.old) t (blockRamIn parts.old values.old (wiresOf wires.now places.now) constants owner (addressed (ramAt words.now at) write_address read_address second_address)) (stated result) (lists signals.new exprs.new stmts.new) }
+    ensures wrote { OnceAll (lists signals.old exprs.old stmts.old) t t.exprs.count seen.old (λ s. blockRamIn parts.old values.old (wiresOf wires.now places.now) constants s owner (addressed (ramAt words.now at) write_address read_address second_address)) (stated result) (lists signals.new exprs.new stmts.new) seen.new }
     ensures works { (parts.new ≡ zeroed parts.old) × (values.new ≡ zeroed values.old) }
+    ensures refused { Cleared (stated result) seen.old seen.new }
 {
     let r = in_work(
         signals,
@@ -285,6 +339,7 @@ pub fn emit_block_ram(
         stmts,
         parts,
         values,
+        seen,
         wires,
         places,
         t,
@@ -298,5 +353,6 @@ pub fn emit_block_ram(
     );
     zero_words(parts);
     zero_words(values);
+    sweep_cell(seen, r);
     r
 }

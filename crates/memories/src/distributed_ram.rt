@@ -2,6 +2,7 @@
 ghost use Rattle.std.specs.Prelude.{[], ℕ, ◌≤◌, length};
 ghost use Rattle.recorder.specs.Lists.{lists, Wrote, WroteExprs, emitted, stated, WroteBoth};
 ghost use Rattle.wires.specs.Wires.{wiresOf};
+ghost use Rattle.wires.specs.Once.{OnceAll, Cleared};
 ghost use Rattle.memories.specs.Memories.{dramWords, dramSelect, emitDistributedRam};
 ghost use Rattle.memories.specs.Rams.{writing, worded, wordsFrom, reach, dramAt, dramAddressed};
 ghost use Rattle.memories.specs.Steps.{dramWord, FilledAll, selectOne, dramRead, dramBody};
@@ -14,6 +15,7 @@ use netlist::Bit;
 use netlist::fields::{bit_at, field};
 use recorder::{AsyncReset, Emitted, Enable, ExprId, SignalId, Stated, Tapes, builder};
 use wires::expressions::{assign_wire, bit_signal};
+use wires::once::sweep_cell;
 use wires::{Constants, Controlled};
 
 // The word at an index, with its register.
@@ -173,11 +175,12 @@ fn dram_body(
     dram_read(exprs, stmts, wires, places, t2, reads, current, output)
 }
 
-// The distributed RAM at an index, cell number `owner`. Its addresses come by themselves.
-pub fn emit_distributed_ram(
+// All but what a refusal leaves of what has been read.
+fn dram_cell(
     signals: &mut [u32],
     exprs: &mut [u32],
     stmts: &mut [u32],
+    seen: &mut [u32],
     wires: &[u32],
     places: &[u32],
     t: Tapes,
@@ -188,13 +191,16 @@ pub fn emit_distributed_ram(
     write_address: [Bit; 4],
     read_address: [Bit; 4],
 ) -> Stated
-    ensures { Wrote (lists signals.old exprs.old stmts.old) t (emitDistributedRam (wiresOf wires.now places.now) constants owner (dramAddressed (dramAt words.now at) write_address read_address)) (stated result) (lists signals.new exprs.new stmts.new) }
+    ensures { OnceAll (lists signals.old exprs.old stmts.old) t t.exprs.count seen.old (λ s. emitDistributedRam (wiresOf wires.now places.now) constants s owner (dramAddressed (dramAt words.now at) write_address read_address)) (stated result) (lists signals.new exprs.new stmts.new) seen.new }
 {
+    let begin = t.exprs.count;
     match dram_port(
         exprs,
+        seen,
         wires,
         places,
         t,
+        begin,
         words,
         at,
         write_address,
@@ -215,4 +221,42 @@ pub fn emit_distributed_ram(
         }
         Ported::Refused(x) => Stated::Refused(x),
     }
+}
+
+// The distributed RAM at an index, cell number `owner`. Its addresses come by themselves.
+pub fn emit_distributed_ram(
+    signals: &mut [u32],
+    exprs: &mut [u32],
+    stmts: &mut [u32],
+    seen: &mut [u32],
+    wires: &[u32],
+    places: &[u32],
+    t: Tapes,
+    constants: Constants,
+    owner: u32,
+    words: &[u32],
+    at: usize,
+    write_address: [Bit; 4],
+    read_address: [Bit; 4],
+) -> Stated
+    ensures wrote { OnceAll (lists signals.old exprs.old stmts.old) t t.exprs.count seen.old (λ s. emitDistributedRam (wiresOf wires.now places.now) constants s owner (dramAddressed (dramAt words.now at) write_address read_address)) (stated result) (lists signals.new exprs.new stmts.new) seen.new }
+    ensures refused { Cleared (stated result) seen.old seen.new }
+{
+    let r = dram_cell(
+        signals,
+        exprs,
+        stmts,
+        seen,
+        wires,
+        places,
+        t,
+        constants,
+        owner,
+        words,
+        at,
+        write_address,
+        read_address,
+    );
+    sweep_cell(seen, r);
+    r
 }

@@ -28,6 +28,20 @@ pub enum Gated {
     Refused(Refusal),
 }
 
+// The read of a read register's own signal, where it stands already.
+#[derive(Clone, Copy)]
+pub enum Own {
+    Unread,
+    Read(ExprId),
+}
+
+// Of both ports.
+#[derive(Clone, Copy)]
+pub struct Owns {
+    pub first: Own,
+    pub second: Own,
+}
+
 // The enable of a read register's record.
 #[derive(Drop)]
 #[derive(Clone, Copy)]

@@ -1,60 +1,90 @@
-// The expressions of a RAM's ports.
+// The expressions of a RAM's ports. What a refusal leaves of what has been read is not said here: the RAM is refused then.
 ghost use Rattle.std.specs.Prelude.{◌≡◌, [], ◌+◌, ◌≤◌, length};
 ghost use Rattle.std.proofs.Math.Option.{none};
 ghost use Rattle.netlist.specs.Fields.{word_at, bits_at, controlAt, optionalControlAt, firstSize, ramAt};
-ghost use Rattle.recorder.specs.Lists.{WroteExprs, emitted};
+ghost use Rattle.recorder.specs.Lists.{emitted};
 ghost use Rattle.wires.specs.Wires.{wiresOf};
-ghost use Rattle.wires.specs.Expressions.{assertedExpression, vectorExpression, bitsExpression};
+ghost use Rattle.wires.specs.Once.{OnceAt, Grows};
+ghost use Rattle.wires.specs.Expressions.{assertedOnce, vectorOnce, bitsOnce};
 ghost use Rattle.memories.specs.Memories.{gate, secondExprs};
 ghost use Rattle.memories.specs.Rams.{gated, ported, seconded, firstExprs, dramExprs, dramAt, addressed, secondAddressed, dramAddressed};
 ghost use Rattle.memories.specs.Steps.{secondAt};
 
 use crate::{ClockEnabled, Gated, Port, Ported, Second, Seconded};
-use address_mux::address::address_expression;
+use address_mux::address::address_once;
 use netlist::Bit;
 use netlist::fields::{OptionalControl, ahead, bits4, control, field, optional_control, wide};
 use recorder::{Emitted, Tapes, builder};
-use wires::expressions::{asserted_expression, bit_expression, bits_expression, concat_parts};
+use wires::expressions::concat_parts;
+use wires::once::{asserted_once, bit_once, bits_once};
 
 // The n bits at an offset of a record.
 fn data_expression(
     exprs: &mut [u32],
     parts: &mut [u32],
+    seen: &mut [u32],
     wires: &[u32],
     places: &[u32],
     t: Tapes,
+    first: u32,
     words: &[u32],
     at: usize,
     offset: usize,
     n: u32,
 ) -> Emitted
-    requires { n ≤ length parts.old }
-    ensures { WroteExprs exprs.old t (bitsExpression (wiresOf wires.now places.now) (bits_at words.now (at + offset) n)) (emitted result) exprs.new }
+    requires { (n ≤ length parts.old) × (first ≤ t.exprs.count) }
+    ensures wrote { OnceAt exprs.old t first seen.old (λ s. bitsOnce (wiresOf wires.now places.now) s (bits_at words.now (at + offset) n)) (emitted result) exprs.new seen.new }
+    ensures grows { Grows t (emitted result) }
 {
     let i = ahead(words, at, offset);
     let end = wide(n);
-    bits_expression(exprs, &mut parts[..end], wires, places, t, words, i, end, n)
+    bits_once(
+        exprs,
+        &mut parts[..end],
+        seen,
+        wires,
+        places,
+        t,
+        first,
+        words,
+        i,
+        end,
+        n,
+    )
 }
 
 // So many bits of an address, from the shift on.
 fn address_part(
     exprs: &mut [u32],
+    seen: &mut [u32],
     wires: &[u32],
     places: &[u32],
     t: Tapes,
+    first: u32,
     bits: [Bit; 14],
     shift: u32,
     width: u32,
 ) -> Emitted
-    requires { width ≤ 33 }
-    ensures { WroteExprs exprs.old t (vectorExpression (wiresOf wires.now places.now) bits shift width) (emitted result) exprs.new }
+    requires { (width ≤ 33) × (first ≤ t.exprs.count) }
+    ensures wrote { OnceAt exprs.old t first seen.old (λ s. vectorOnce (wiresOf wires.now places.now) s bits shift width) (emitted result) exprs.new seen.new }
+    ensures grows { Grows t (emitted result) }
 {
-    address_expression(exprs, wires, places, t, bits, shift, width)
+    address_once(exprs, seen, wires, places, t, first, bits, shift, width)
 }
 
 // Four bits, the highest read first.
-fn four_bits(exprs: &mut [u32], wires: &[u32], places: &[u32], t: Tapes, bits: [Bit; 4]) -> Emitted
-    ensures { WroteExprs exprs.old t (vectorExpression (wiresOf wires.now places.now) bits 0 4) (emitted result) exprs.new }
+fn four_bits(
+    exprs: &mut [u32],
+    seen: &mut [u32],
+    wires: &[u32],
+    places: &[u32],
+    t: Tapes,
+    first: u32,
+    bits: [Bit; 4],
+) -> Emitted
+    requires { first ≤ t.exprs.count }
+    ensures wrote { OnceAt exprs.old t first seen.old (λ s. vectorOnce (wiresOf wires.now places.now) s bits 0 4) (emitted result) exprs.new seen.new }
+    ensures grows { Grows t (emitted result) }
 {
     let mut parts = [0u32; 4];
     let mut now = t;
@@ -62,7 +92,7 @@ fn four_bits(exprs: &mut [u32], wires: &[u32], places: &[u32], t: Tapes, bits: [
     while left > 0 {
         left -= 1;
         let bit = bits[left];
-        let r = bit_expression(exprs, wires, places, now, bit);
+        let r = bit_once(exprs, seen, wires, places, now, first, bit);
         let Emitted::Done(e, next) = r else {
             return r;
         };
@@ -75,37 +105,55 @@ fn four_bits(exprs: &mut [u32], wires: &[u32], places: &[u32], t: Tapes, bits: [
 // Whether the control at an offset of a record is asserted.
 fn asserted_at(
     exprs: &mut [u32],
+    seen: &mut [u32],
     wires: &[u32],
     places: &[u32],
     t: Tapes,
+    first: u32,
     words: &[u32],
     at: usize,
     offset: usize,
 ) -> Emitted
-    ensures { WroteExprs exprs.old t (assertedExpression (wiresOf wires.now places.now) (controlAt words.now (at + offset))) (emitted result) exprs.new }
+    requires { first ≤ t.exprs.count }
+    ensures wrote { OnceAt exprs.old t first seen.old (λ s. assertedOnce (wiresOf wires.now places.now) s (controlAt words.now (at + offset))) (emitted result) exprs.new seen.new }
+    ensures grows { Grows t (emitted result) }
 {
     let write = control(words, at, offset);
-    asserted_expression(exprs, wires, places, t, write)
+    asserted_once(exprs, seen, wires, places, t, first, write)
 }
 
 // Whether a port writes, by the control at one offset of a record and, if it is there, the clock enable at another.
 fn gated_at(
     exprs: &mut [u32],
+    seen: &mut [u32],
     wires: &[u32],
     places: &[u32],
     t: Tapes,
+    first: u32,
     words: &[u32],
     at: usize,
     write_offset: usize,
     enable_offset: usize,
 ) -> Gated
-    ensures { WroteExprs exprs.old t (gate (wiresOf wires.now places.now) (controlAt words.now (at + write_offset)) (optionalControlAt words.now (at + enable_offset))) (gated result) exprs.new }
+    requires { first ≤ t.exprs.count }
+    ensures wrote { OnceAt exprs.old t first seen.old (λ s. gate (wiresOf wires.now places.now) s (controlAt words.now (at + write_offset)) (optionalControlAt words.now (at + enable_offset))) (gated result) exprs.new seen.new }
+    ensures grows { Grows t (gated result) }
 {
-    match asserted_at(exprs, wires, places, t, words, at, write_offset) {
+    match asserted_at(
+        exprs,
+        seen,
+        wires,
+        places,
+        t,
+        first,
+        words,
+        at,
+        write_offset,
+    ) {
         Emitted::Done(asserted, t2) => match optional_control(words, at, enable_offset) {
             OptionalControl::Absent => Gated::Done(asserted, ClockEnabled::Absent, t2),
             OptionalControl::Present(c) => {
-                match asserted_expression(exprs, wires, places, t2, c) {
+                match asserted_once(exprs, seen, wires, places, t2, first, c) {
                     Emitted::Done(enabled, t3) => {
                         match builder::and(exprs, t3, asserted, enabled) {
                             Emitted::Done(both, t4) => {
@@ -126,9 +174,11 @@ fn gated_at(
 pub fn first_port(
     exprs: &mut [u32],
     parts: &mut [u32],
+    seen: &mut [u32],
     wires: &[u32],
     places: &[u32],
     t: Tapes,
+    first: u32,
     words: &[u32],
     at: usize,
     write_address: [Bit; 14],
@@ -136,24 +186,39 @@ pub fn first_port(
     shift: u32,
     address: u32,
 ) -> Ported
-    requires { (address ≤ 33) × (word_at words.now (at + 2) ≤ length parts.old) }
-    ensures { WroteExprs exprs.old t (firstExprs (wiresOf wires.now places.now) shift address (addressed (ramAt words.now at) write_address read_address [])) (ported (ramAt words.now at).output (ramAt words.now at).readEnable result) exprs.new }
+    requires { (address ≤ 33) × (word_at words.now (at + 2) ≤ length parts.old) × (first ≤ t.exprs.count) }
+    ensures wrote { OnceAt exprs.old t first seen.old (λ s. firstExprs (wiresOf wires.now places.now) s shift address (addressed (ramAt words.now at) write_address read_address [])) (ported (ramAt words.now at).output (ramAt words.now at).readEnable result) exprs.new seen.new }
+    ensures grows { Grows t (ported (ramAt words.now at).output (ramAt words.now at).readEnable result) }
 {
     let width = field(words, at, 2);
-    match address_part(exprs, wires, places, t, write_address, shift, address) {
+    match address_part(
+        exprs,
+        seen,
+        wires,
+        places,
+        t,
+        first,
+        write_address,
+        shift,
+        address,
+    ) {
         Emitted::Done(writes, t2) => match address_part(
             exprs,
+            seen,
             wires,
             places,
             t2,
+            first,
             read_address,
             shift,
             address,
         ) {
             Emitted::Done(reads, t3) => {
-                match data_expression(exprs, parts, wires, places, t3, words, at, 43, width) {
+                match data_expression(
+                    exprs, parts, seen, wires, places, t3, first, words, at, 43, width,
+                ) {
                     Emitted::Done(input, t4) => {
-                        match gated_at(exprs, wires, places, t4, words, at, 18, 37) {
+                        match gated_at(exprs, seen, wires, places, t4, first, words, at, 18, 37) {
                             Gated::Done(asserted, clock_enabled, t5) => Ported::Done(
                                 Port {
                                     writes,
@@ -188,38 +253,64 @@ pub fn first_size(words: &[u32], at: usize) -> usize
 pub fn second_port(
     exprs: &mut [u32],
     parts: &mut [u32],
+    seen: &mut [u32],
     wires: &[u32],
     places: &[u32],
     t: Tapes,
+    first: u32,
     words: &[u32],
     at: usize,
     second_address: [Bit; 14],
     shift: u32,
     address: u32,
 ) -> Seconded
-    requires { (address ≤ 33) × (word_at words.now (at + 2) ≤ length parts.old) }
-    ensures { WroteExprs exprs.old t (secondExprs (wiresOf wires.now places.now) shift address (secondAddressed (ramAt words.now at).second second_address)) (seconded (secondAt words.now at).output (secondAt words.now at).readEnable result) exprs.new }
+    requires { (address ≤ 33) × (word_at words.now (at + 2) ≤ length parts.old) × (first ≤ t.exprs.count) }
+    ensures wrote { OnceAt exprs.old t first seen.old (λ s. secondExprs (wiresOf wires.now places.now) s shift address (secondAddressed (ramAt words.now at).second second_address)) (seconded (secondAt words.now at).output (secondAt words.now at).readEnable result) exprs.new seen.new }
+    ensures grows { Grows t (seconded (secondAt words.now at).output (secondAt words.now at).readEnable result) }
 {
     if field(words, at, 42) == 0 {
         return Seconded::Done(Second::Absent, t);
     }
     let start = first_size(words, at);
     let width = field(words, at, 2);
-    match address_part(exprs, wires, places, t, second_address, shift, address) {
+    match address_part(
+        exprs,
+        seen,
+        wires,
+        places,
+        t,
+        first,
+        second_address,
+        shift,
+        address,
+    ) {
         Emitted::Done(a, t2) => {
             match data_expression(
                 exprs,
                 parts,
+                seen,
                 wires,
                 places,
                 t2,
+                first,
                 words,
                 at,
                 start + 24,
                 width,
             ) {
                 Emitted::Done(input, t3) => {
-                    match gated_at(exprs, wires, places, t3, words, at, start + 14, start + 19) {
+                    match gated_at(
+                        exprs,
+                        seen,
+                        wires,
+                        places,
+                        t3,
+                        first,
+                        words,
+                        at,
+                        start + 14,
+                        start + 19,
+                    ) {
                         Gated::Done(asserted, clock_enabled, t4) => Seconded::Done(
                             Second::Present(Port {
                                 writes: a,
@@ -243,24 +334,28 @@ pub fn second_port(
 // The port of the distributed RAM at an index.
 pub fn dram_port(
     exprs: &mut [u32],
+    seen: &mut [u32],
     wires: &[u32],
     places: &[u32],
     t: Tapes,
+    first: u32,
     words: &[u32],
     at: usize,
     write_address: [Bit; 4],
     read_address: [Bit; 4],
 ) -> Ported
-    ensures { WroteExprs exprs.old t (dramExprs (wiresOf wires.now places.now) (dramAddressed (dramAt words.now at) write_address read_address)) (ported (dramAt words.now at).output none result) exprs.new }
+    requires { first ≤ t.exprs.count }
+    ensures wrote { OnceAt exprs.old t first seen.old (λ s. dramExprs (wiresOf wires.now places.now) s (dramAddressed (dramAt words.now at) write_address read_address)) (ported (dramAt words.now at).output none result) exprs.new seen.new }
+    ensures grows { Grows t (ported (dramAt words.now at).output none result) }
 {
-    match four_bits(exprs, wires, places, t, write_address) {
+    match four_bits(exprs, seen, wires, places, t, first, write_address) {
         Emitted::Done(writes, t2) => {
-            match four_bits(exprs, wires, places, t2, read_address) {
+            match four_bits(exprs, seen, wires, places, t2, first, read_address) {
                 Emitted::Done(reads, t3) => {
                     let data = bits4(words, at, 5);
-                    match four_bits(exprs, wires, places, t3, data) {
+                    match four_bits(exprs, seen, wires, places, t3, first, data) {
                         Emitted::Done(input, t4) => {
-                            match asserted_at(exprs, wires, places, t4, words, at, 9) {
+                            match asserted_at(exprs, seen, wires, places, t4, first, words, at, 9) {
                                 Emitted::Done(asserted, t5) => Ported::Done(
                                     Port {
                                         writes,

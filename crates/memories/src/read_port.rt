@@ -4,13 +4,13 @@ ghost use Rattle.netlist.specs.Fields.{wiresAt, ramAt};
 ghost use Rattle.netlist.specs.FieldForms.{presence};
 ghost use Rattle.recorder.specs.Lists.{WroteExprs, emitted, stated, WroteBoth};
 ghost use Rattle.wires.specs.Wires.{wiresOf};
-ghost use Rattle.memories.specs.Memories.{enableOf, nextRead, emitBlockRamReadPort, emitSecondReadPort};
-ghost use Rattle.memories.specs.Rams.{enabledOf, readEnabled, reading, second_of, words_of, Spaced, readRegister};
+ghost use Rattle.memories.specs.Memories.{enableOf, ownExpression, nextRead, emitBlockRamReadPort, emitSecondReadPort};
+ghost use Rattle.memories.specs.Rams.{ownOf, enabledOf, readEnabled, reading, second_of, words_of, Spaced, readRegister};
 ghost use Rattle.memories.specs.Steps.{secondAt};
 
 use crate::ports::first_size;
 use crate::select::{select_deep, select_word};
-use crate::{ClockEnabled, Port, RamShape, ReadEnabled, Second, Words};
+use crate::{ClockEnabled, Own, Port, RamShape, ReadEnabled, Second, Words};
 use netlist::fields::{OptionalControl, field, optional_control, wide};
 use recorder::{AsyncReset, Emitted, Enable, ExprId, SignalId, Stated, Tapes, builder};
 use refusal::Refusal;
@@ -39,21 +39,32 @@ fn enable_of(
     }
 }
 
+// The read of a read register's own signal: it stands already, or it is recorded.
+fn own_expression(exprs: &mut [u32], t: Tapes, own: Own, width: u32, target: SignalId) -> Emitted
+    ensures { WroteExprs exprs.old t (ownExpression (ownOf own) width target.0) (emitted result) exprs.new }
+{
+    match own {
+        Own::Unread => builder::read(exprs, t, width, target, 0),
+        Own::Read(e) => Emitted::Done(e, t),
+    }
+}
+
 // What a read register takes: the selected word, and with a clock enable its own where that is not asserted.
 fn next_read(
     exprs: &mut [u32],
     t: Tapes,
     clock_enabled: ClockEnabled,
+    own: Own,
     width: u32,
     target: SignalId,
     value: ExprId,
 ) -> Emitted
-    ensures { WroteExprs exprs.old t (nextRead (enabledOf clock_enabled) width target.0 value.0) (emitted result) exprs.new }
+    ensures { WroteExprs exprs.old t (nextRead (enabledOf clock_enabled) (ownOf own) width target.0 value.0) (emitted result) exprs.new }
 {
     match clock_enabled {
         ClockEnabled::Absent => Emitted::Done(value, t),
-        ClockEnabled::Present(enabled) => match builder::read(exprs, t, width, target, 0) {
-            Emitted::Done(own, t2) => builder::mux(exprs, t2, width, enabled, value, own),
+        ClockEnabled::Present(enabled) => match own_expression(exprs, t, own, width, target) {
+            Emitted::Done(kept, t2) => builder::mux(exprs, t2, width, enabled, value, kept),
             Emitted::Refused(x) => Emitted::Refused(x),
         },
     }
@@ -69,11 +80,12 @@ fn read_register(
     constants: Constants,
     shape: RamShape,
     clock_enabled: ClockEnabled,
+    own: Own,
     value: ExprId,
     output: u32,
     enable: OptionalControl,
 ) -> Stated
-    ensures { WroteBoth exprs.old stmts.old t (readRegister (wiresOf wires.now places.now) constants output (presence enable) (enabledOf clock_enabled) shape.width value.0 shape.clock.0 shape.edge) (stated result) exprs.new stmts.new }
+    ensures { WroteBoth exprs.old stmts.old t (readRegister (wiresOf wires.now places.now) constants output (presence enable) (enabledOf clock_enabled) (ownOf own) shape.width value.0 shape.clock.0 shape.edge) (stated result) exprs.new stmts.new }
 {
     match wire_ref(wires, places, output) {
         Found::At(r) => {
@@ -81,7 +93,7 @@ fn read_register(
             let clock = shape.clock;
             match enable_of(wires, places, constants, enable) {
                 ReadEnabled::Done(enabled) => {
-                    match next_read(exprs, t, clock_enabled, shape.width, target, value) {
+                    match next_read(exprs, t, clock_enabled, own, shape.width, target, value) {
                         Emitted::Done(next, t2) => builder::register(
                             stmts,
                             t2,
@@ -115,11 +127,12 @@ fn emit_block_ram_read_port(
     made: Words,
     shape: RamShape,
     port: Port,
+    own: Own,
     output: u32,
     enable: OptionalControl,
 ) -> Stated
     requires { (made.depth ≤ length parts.old) × (made.depth ≤ length values.old) × Spaced made × (made.depth ≤ 1024) }
-    ensures { WroteBoth exprs.old stmts.old t (emitBlockRamReadPort (wiresOf wires.now places.now) constants (reading port.reads.0 output (presence enable) port.clock_enabled) (words_of made) shape.width shape.address shape.clock.0 shape.edge) (stated result) exprs.new stmts.new }
+    ensures { WroteBoth exprs.old stmts.old t (emitBlockRamReadPort (wiresOf wires.now places.now) constants (reading port.reads.0 output (presence enable) port.clock_enabled) (ownOf own) (words_of made) shape.width shape.address shape.clock.0 shape.edge) (stated result) exprs.new stmts.new }
 {
     let reads = port.reads;
     let clock_enabled = port.clock_enabled;
@@ -142,6 +155,7 @@ fn emit_block_ram_read_port(
             constants,
             shape,
             clock_enabled,
+            own,
             v,
             output,
             enable,
@@ -163,11 +177,12 @@ fn emit_deep_ram_read_port(
     made: Words,
     shape: RamShape,
     port: Port,
+    own: Own,
     output: u32,
     enable: OptionalControl,
 ) -> Stated
     requires { (made.depth ≤ length parts.old) × (made.depth ≤ length values.old) × Spaced made }
-    ensures { WroteBoth exprs.old stmts.old t (emitBlockRamReadPort (wiresOf wires.now places.now) constants (reading port.reads.0 output (presence enable) port.clock_enabled) (words_of made) shape.width shape.address shape.clock.0 shape.edge) (stated result) exprs.new stmts.new }
+    ensures { WroteBoth exprs.old stmts.old t (emitBlockRamReadPort (wiresOf wires.now places.now) constants (reading port.reads.0 output (presence enable) port.clock_enabled) (ownOf own) (words_of made) shape.width shape.address shape.clock.0 shape.edge) (stated result) exprs.new stmts.new }
 {
     let reads = port.reads;
     let clock_enabled = port.clock_enabled;
@@ -190,6 +205,7 @@ fn emit_deep_ram_read_port(
             constants,
             shape,
             clock_enabled,
+            own,
             v,
             output,
             enable,
@@ -221,11 +237,12 @@ pub fn first_read_port(
     made: Words,
     shape: RamShape,
     port: Port,
+    own: Own,
     words: &[u32],
     at: usize,
 ) -> Stated
     requires { (made.depth ≤ length parts.old) × (made.depth ≤ length values.old) × Spaced made }
-    ensures { WroteBoth exprs.old stmts.old t (emitBlockRamReadPort (wiresOf wires.now places.now) constants (reading port.reads.0 (get_or (ramAt words.now at).output 0 0) (ramAt words.now at).readEnable port.clock_enabled) (words_of made) shape.width shape.address shape.clock.0 shape.edge) (stated result) exprs.new stmts.new }
+    ensures { WroteBoth exprs.old stmts.old t (emitBlockRamReadPort (wiresOf wires.now places.now) constants (reading port.reads.0 (get_or (ramAt words.now at).output 0 0) (ramAt words.now at).readEnable port.clock_enabled) (ownOf own) (words_of made) shape.width shape.address shape.clock.0 shape.edge) (stated result) exprs.new stmts.new }
 {
     let width = field(words, at, 2);
     let offset = 43 + wide(width);
@@ -233,12 +250,13 @@ pub fn first_read_port(
     let enable = optional_control(words, at, 34);
     if made.depth > 1024 {
         return emit_deep_ram_read_port(
-            exprs, stmts, parts, values, wires, places, t, constants, made, shape, port, output,
-            enable,
+            exprs, stmts, parts, values, wires, places, t, constants, made, shape, port, own,
+            output, enable,
         );
     }
     emit_block_ram_read_port(
-        exprs, stmts, parts, values, wires, places, t, constants, made, shape, port, output, enable,
+        exprs, stmts, parts, values, wires, places, t, constants, made, shape, port, own, output,
+        enable,
     )
 }
 
@@ -255,11 +273,12 @@ pub fn second_read_port(
     made: Words,
     shape: RamShape,
     second: Second,
+    own: Own,
     words: &[u32],
     at: usize,
 ) -> Stated
     requires { (made.depth ≤ length parts.old) × (made.depth ≤ length values.old) × Spaced made }
-    ensures { WroteBoth exprs.old stmts.old t (emitSecondReadPort (wiresOf wires.now places.now) constants (second_of (secondAt words.now at).output (secondAt words.now at).readEnable second) (words_of made) shape.width shape.address shape.clock.0 shape.edge) (stated result) exprs.new stmts.new }
+    ensures { WroteBoth exprs.old stmts.old t (emitSecondReadPort (wiresOf wires.now places.now) constants (second_of (secondAt words.now at).output (secondAt words.now at).readEnable second) (ownOf own) (words_of made) shape.width shape.address shape.clock.0 shape.edge) (stated result) exprs.new stmts.new }
 {
     match second {
         Second::Absent => Stated::Done(t),
@@ -272,11 +291,11 @@ pub fn second_read_port(
             if made.depth > 1024 {
                 return emit_deep_ram_read_port(
                     exprs, stmts, parts, values, wires, places, t, constants, made, shape, port,
-                    output, enable,
+                    own, output, enable,
                 );
             }
             emit_block_ram_read_port(
-                exprs, stmts, parts, values, wires, places, t, constants, made, shape, port,
+                exprs, stmts, parts, values, wires, places, t, constants, made, shape, port, own,
                 output, enable,
             )
         }

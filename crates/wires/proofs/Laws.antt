@@ -20,7 +20,7 @@ use Rattle.recorder.proofs.Events.{bind-pure, bind-refuse, bind_assoc}
 use Rattle.wires.specs.declared.Constants.{Constants}
 use Rattle.wires.specs.declared.Controlled.{Controlled}
 use Rattle.wires.specs.Wires.{WireRef, Wires, entry, wiresOf}
-use Rattle.wires.specs.Seen.{Seen, Reading, reading, keeping}
+use Rattle.wires.specs.Seen.{Seen, Reading, withSeen, keeping}
 use Rattle.wires.specs.Expressions.{bitOnce, vectorOnce, refOf, wireRef, readRef, bitExpression, whole, bitSignal, concatParts, vectorBit, vectorParts, vectorExpression, assignWire, roomy, controlled, Reads}
 
 -- THE TABLES
@@ -146,7 +146,7 @@ module _ (m : Wires) (bits : List Bit) (at : ℕ) where
 
   pub vector-done : (seen : Seen) {left : ℕ} (parts : List ℕ) → left ≡ 0 → vectorLeft m seen bits at left parts ≡ keeping seen (concatParts parts)
   unfolding vectorParts
-  vector-done seen parts z = ap (λ (k : ℕ). vectorLeft m seen bits at k parts) z ∙ bind-pure (reading parts seen) (λ r. keeping r.seen (concatParts r.value))
+  vector-done seen parts z = ap (λ (k : ℕ). vectorLeft m seen bits at k parts) z ∙ bind-pure (withSeen parts seen) (λ r. keeping r.seen (concatParts r.value))
 
 back_one : (a b : ℕ) → 1 ≤ b → b ≤ a → a - 1 - (b - 1) ≡ a - b
 back_one a b h g = omega arith

@@ -12,7 +12,7 @@ use Rattle.recorder.specs.Lists.{Lists, count_of, Played, Played.going, Played.f
 use Rattle.recorder.specs.Words.{zeroed}
 use Rattle.recorder.proofs.Wrote.{play-counts, then-done, then-stop, wrote_as, wrote-pure, wrote-refuse}
 use Rattle.recorder.proofs.Events.{bind-refuse}
-use Rattle.wires.specs.Seen.{Seen, nothingSeen, standing, noted, Reading, reading, keeping, forgetting}
+use Rattle.wires.specs.Seen.{Seen, nothingSeen, standing, noted, Reading, withSeen, keeping, forgetting}
 use Rattle.wires.specs.Wires.{WireRef, Wires}
 use Rattle.netlist.specs.declared.Bit.TheVariants.{Wire}
 use Rattle.wires.specs.Once.{seenBy, seenOf, joined, Aged, Leaves, Once, OnceAt, Grows, swept, Cleared}
@@ -106,13 +106,13 @@ aged-then first c d a b e h f g w = go (f w) (g w)
 module _ {A B : Type 0} {l : Lists} {t : Tapes} {first : ℕ} {table : List ℕ} where
   -- it went well: the next goes on from its tapes, lists and table
   pub once-done : {w : Writer (Reading A)} {r : Answer A} {l₁ : Lists} {table₁ : List ℕ} → Once l t first table w r l₁ table₁ → (k : Reading A → Writer (Reading B)) {a : A} {u : Tapes} {q : Answer B} {l₂ : Lists} {table₂ : List ℕ}
-      → r ≡ Done a u → Once l₁ u first table₁ (k (reading a (seenOf first table₁))) q l₂ table₂ → Once l t first table (w >>= k) q l₂ table₂
+      → r ≡ Done a u → Once l₁ u first table₁ (k (withSeen a (seenOf first table₁))) q l₂ table₂ → Once l t first table (w >>= k) q l₂ table₂
   once-done {w} {r} {l₁} {table₁} h k {a} {u} {q} {l₂} {table₂} d next = record {
     wrote = then-done h.wrote k (ap (λ (x : Answer A). joined x (seenOf first table₁)) d) next.wrote;
     leaves = go q next.wrote next.leaves (subst (λ (x : Answer A). Leaves first table x table₁) d h.leaves);
   }
     where
-      go : (q : Answer B) → Wrote l₁ u (k (reading a (seenOf first table₁))) (joined q (seenOf first table₂)) l₂ → Leaves first table₁ q table₂ → Aged first u.exprs.count table table₁ → Leaves first table q table₂
+      go : (q : Answer B) → Wrote l₁ u (k (withSeen a (seenOf first table₁))) (joined q (seenOf first table₂)) l₂ → Leaves first table₁ q table₂ → Aged first u.exprs.count table table₁ → Leaves first table q table₂
       go (Done b v) g n m = aged-then first u.exprs.count v.exprs.count table table₁ table₂ (wrote-grows g) m n
       go (Failed x y) g n m = tt
 
@@ -134,7 +134,7 @@ module _ {A B : Type 0} {l : Lists} {t : Tapes} {first : ℕ} {table : List ℕ}
       subst (λ (x : Answer B). Once l t first table (w >>= k) x l₁ table₂) (sym e) (record { wrote = then-stop h k d; leaves = tt })
 
 module _ {A : Type 0} {l : Lists} {t : Tapes} {first : ℕ} {table : List ℕ} where
-  pub once-pure : {a : A} → Once l t first table (pure (reading a (seenOf first table))) (Done a t) l table
+  pub once-pure : {a : A} → Once l t first table (pure (withSeen a (seenOf first table))) (Done a t) l table
   once-pure = record { wrote = wrote-pure; leaves = λ w. inl refl }
 
   pub once-refuse : {number place : ℕ} {table' : List ℕ} → Once {A = A} l t first table (refuse number place) (Failed number place) l table'
@@ -149,8 +149,8 @@ module _ {A : Type 0} {l : Lists} {t : Tapes} {first : ℕ} {table : List ℕ} w
   once-keep {w} {r} {l'} h = go r h
     where
       go : (r : Answer A) → Wrote l t w r l' → Once l t first table (keeping (seenOf first table) w) r l' table
-      go (Done a u) g = record { wrote = then-done g (λ x. pure (reading x (seenOf first table))) refl wrote-pure; leaves = λ w. inl refl }
-      go (Failed x y) g = record { wrote = then-stop g (λ x. pure (reading x (seenOf first table))) refl; leaves = tt }
+      go (Done a u) g = record { wrote = then-done g (λ x. pure (withSeen x (seenOf first table))) refl wrote-pure; leaves = λ w. inl refl }
+      go (Failed x y) g = record { wrote = then-stop g (λ x. pure (withSeen x (seenOf first table))) refl; leaves = tt }
 
   -- what has been read is forgotten
   pub once-forget : {w : Writer (Reading A)} {r : Answer A} {l' : Lists} {table' : List ℕ} → Once l t first table w r l' table' → Wrote l t (forgetting w) r l'
@@ -183,7 +183,7 @@ module _ {A : Type 0} {l₀ : Lists} {t₀ : Tapes} {first : ℕ} {table₀ : Li
 
   module _ {l : Lists} {t : Tapes} {table : List ℕ} {B : Type 0} {w : Writer (Reading B)} (k : Reading B → Writer (Reading A)) {left : Writer (Reading A)} (going-on : GoingOnce l₀ t₀ first table₀ whole l t table left) (is : left ≡ (w >>= k))
       {r : Answer B} {l₁ : Lists} {table₁ : List ℕ} (h : Once l t first table w r l₁ table₁) where
-    pub once-more : {a : B} {u : Tapes} → r ≡ Done a u → GoingOnce l₀ t₀ first table₀ whole l₁ u table₁ (k (reading a (seenOf first table₁)))
+    pub once-more : {a : B} {u : Tapes} → r ≡ Done a u → GoingOnce l₀ t₀ first table₀ whole l₁ u table₁ (k (withSeen a (seenOf first table₁)))
     once-more d = record { ends = λ q l' table' g. going-on.ends q l' table' (once-as is (once-done h k d g)) }
 
     pub once-no-more : {q : Answer A} {number place : ℕ} {table₂ : List ℕ} → r ≡ Failed number place → q ≡ Failed number place → Once l₀ t₀ first table₀ whole q l₁ table₂
@@ -192,11 +192,11 @@ module _ {A : Type 0} {l₀ : Lists} {t₀ : Tapes} {first : ℕ} {table₀ : Li
 -- ONE READ
 
 module _ (m : Wires) (f : ℕ) (table : List ℕ) (w : ℕ) {x : ℕ} (is : x ≡ get_or table w 0) where
-  pub wire-known : f < x → bitOnce m (seenOf f table) (Wire w) ≡ pure (reading (x - 1) (seenOf f table))
+  pub wire-known : f < x → bitOnce m (seenOf f table) (Wire w) ≡ pure (withSeen (x - 1) (seenOf f table))
   unfolding bitOnce
   wire-known h = ap (λ (o : Option ℕ). readOnce o m (seenOf f table) w) (seen-known f table w (subst (λ (k : ℕ). f < k) is h) ∙ ap (λ (k : ℕ). some (k - 1)) (sym is))
 
-  pub wire-new : x ≤ f → bitOnce m (seenOf f table) (Wire w) ≡ (bitExpression m (Wire w) >>= λ e. pure (reading e (noted (seenOf f table) w e)))
+  pub wire-new : x ≤ f → bitOnce m (seenOf f table) (Wire w) ≡ (bitExpression m (Wire w) >>= λ e. pure (withSeen e (noted (seenOf f table) w e)))
   unfolding bitOnce
   wire-new h = ap (λ (o : Option ℕ). readOnce o m (seenOf f table) w) (seen-unknown f table w (subst (λ (k : ℕ). k ≤ f) is h))
 
@@ -220,7 +220,7 @@ noted-ages f c w table h v = go table w v
     go (x ∷ xs) (suc i) (suc j) = go xs i j
 
 pub once-noted : (m : Wires) (f : ℕ) (table : List ℕ) (w : ℕ) {l l₁ : Lists} {t u : Tapes} {e : ℕ} {table' : List ℕ} → f ≤ t.exprs.count → table' ≡ set table w u.exprs.count → Wrote l t (bitExpression m (Wire w)) (Done e u) l₁
-    → Once l t f table (bitExpression m (Wire w) >>= λ e. pure (reading e (noted (seenOf f table) w e))) (Done e u) l₁ table'
+    → Once l t f table (bitExpression m (Wire w) >>= λ e. pure (withSeen e (noted (seenOf f table) w e))) (Done e u) l₁ table'
 once-noted m f table w {l} {l₁} {t} {u} {e} {table'} h is g =
     let v = wrote-value g in
     let n = read-next m w (count_of t) v.0 in
@@ -228,9 +228,9 @@ once-noted m f table w {l} {l₁} {t} {u} {e} {table'} h is g =
     let j : e ≡ t.exprs.count = n.0 in
     let k : length (exprsOf (bitExpression m (Wire w) (count_of t)).events) ≡ 1 = n.1 in
     let c : u.exprs.count ≡ suc e = omega arith in
-    subst (λ (x : List ℕ). Once l t f table (bitExpression m (Wire w) >>= λ e. pure (reading e (noted (seenOf f table) w e))) (Done e u) l₁ x) (sym is)
+    subst (λ (x : List ℕ). Once l t f table (bitExpression m (Wire w) >>= λ e. pure (withSeen e (noted (seenOf f table) w e))) (Done e u) l₁ x) (sym is)
     (record {
-      wrote = then-done g (λ e. pure (reading e (noted (seenOf f table) w e))) refl (subst (λ (s : Seen). Wrote l₁ u (pure (reading e (noted (seenOf f table) w e))) (Done (reading e s) u) l₁) (sym (seen-noted f table w e u.exprs.count (omega arith) c)) wrote-pure);
+      wrote = then-done g (λ e. pure (withSeen e (noted (seenOf f table) w e))) refl (subst (λ (s : Seen). Wrote l₁ u (pure (withSeen e (noted (seenOf f table) w e))) (Done (withSeen e s) u) l₁) (sym (seen-noted f table w e u.exprs.count (omega arith) c)) wrote-pure);
       leaves = noted-ages f u.exprs.count w table (omega arith);
     })
 

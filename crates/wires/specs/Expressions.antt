@@ -12,7 +12,7 @@ use Rattle.wires.specs.declared.Constants.{Constants}
 use Rattle.wires.specs.declared.Controlled.{Controlled}
 use Rattle.wires.specs.declared.Controlled.TheVariants.{Signal, Refused}
 use Rattle.wires.specs.Wires.{WireRef, Wires}
-use Rattle.wires.specs.Seen.{Seen, standing, noted, Reading, reading, keeping, forgetting}
+use Rattle.wires.specs.Seen.{Seen, standing, noted, Reading, withSeen, keeping, forgetting}
 
 abbrev pub refOf : Option WireRef → ℕ → Writer WireRef
 refOf none w = refuse 8 w
@@ -56,12 +56,12 @@ assertedExpression m c = do
 
 -- the read that stands; or a new one, which stands from then on
 abbrev pub readOnce : Option ℕ → Wires → Seen → ℕ → Writer (Reading ℕ)
-readOnce (some e) m seen w = pure (reading e seen)
-readOnce none m seen w = bitExpression m (Wire w) >>= λ e. pure (reading e (noted seen w e))
+readOnce (some e) m seen w = pure (withSeen e seen)
+readOnce none m seen w = bitExpression m (Wire w) >>= λ e. pure (withSeen e (noted seen w e))
 
 unfoldable pub bitOnce : Wires → Seen → Bit → Writer (Reading ℕ)
-bitOnce m seen Zero = pure (reading 0 seen)
-bitOnce m seen One = pure (reading 1 seen)
+bitOnce m seen Zero = pure (withSeen 0 seen)
+bitOnce m seen One = pure (withSeen 1 seen)
 bitOnce m seen (Wire w) = readOnce (standing seen w) m seen w
 
 unfoldable pub assertedOnce : Wires → Seen → Control → Writer (Reading ℕ)
@@ -71,7 +71,7 @@ assertedOnce m seen c = do
 
 -- the bits in order, the lowest first, after those in `done`
 unfoldable pub readBits : Wires → Seen → List Bit → List ℕ → Writer (Reading (List ℕ))
-readBits m seen [] done = pure (reading done seen)
+readBits m seen [] done = pure (withSeen done seen)
 readBits m seen (b ∷ bs) done = do
   r ← bitOnce m seen b
   readBits m r.seen bs (done ++ (r.value ∷ []))
@@ -90,7 +90,7 @@ vectorBit bits i = get_or bits i Zero
 
 -- the k bits from place `at` on that are still to read, the highest first, after those in `parts`
 unfoldable pub vectorParts : Wires → Seen → List Bit → ℕ → ℕ → List ℕ → Writer (Reading (List ℕ))
-vectorParts m seen bits at zero parts = pure (reading parts seen)
+vectorParts m seen bits at zero parts = pure (withSeen parts seen)
 vectorParts m seen bits at (suc k) parts = do
   r ← bitOnce m seen (vectorBit bits (at + k))
   vectorParts m r.seen bits at k (parts ++ (r.value ∷ []))

@@ -6,7 +6,7 @@ use Rattle.recorder.specs.declared.Tapes.{Tapes}
 use Rattle.recorder.specs.Writer.{Writer}
 use Rattle.recorder.specs.Lists.{Lists, lists, Answer, Answer.Done, Answer.Failed, Wrote}
 use Rattle.recorder.specs.Words.{zeroed}
-use Rattle.wires.specs.Seen.{Seen, Reading, reading}
+use Rattle.wires.specs.Seen.{Seen, Reading, withSeen}
 
 -- a word of the table is an expression's number plus 1, or 0; of this cell are those above the number of its first expression
 unfoldable pub seenBy : ℕ → ℕ → Option ℕ
@@ -17,7 +17,7 @@ seenOf first [] = []
 seenOf first (x ∷ xs) = seenBy first x ∷ seenOf first xs
 
 abbrev pub joined : {A : Type 0} → Answer A → Seen → Answer (Reading A)
-joined (Done a t) seen = Done (reading a seen) t
+joined (Done a t) seen = Done (withSeen a seen) t
 joined (Failed number place) seen = Failed number place
 
 -- a word of the table is the old one, or of this cell
@@ -47,6 +47,10 @@ OnceExprs e t first table w r e' table' = (f : ℕ) → f ≡ begun first t → 
 
 abbrev pub OnceBoth : {A : Type 0} → List ℕ → List ℕ → Tapes → ℕ → List ℕ → (Seen → Writer (Reading A)) → Answer A → List ℕ → List ℕ → List ℕ → Type 0
 OnceBoth e m t first table w r e' m' table' = (f : ℕ) → f ≡ begun first t → (s : List ℕ) → Once (lists s e m) t f table (w (seenOf f table)) r (lists s e' m') table'
+
+-- of one that was lent all lists
+abbrev pub OnceAll : {A : Type 0} → Lists → Tapes → ℕ → List ℕ → (Seen → Writer (Reading A)) → Answer A → Lists → List ℕ → Type 0
+OnceAll l t first table w r l' table' = (f : ℕ) → f ≡ begun first t → Once l t f table (w (seenOf f table)) r l' table'
 
 -- a call adds expressions, and takes none away
 abbrev pub Grows : {A : Type 0} → Tapes → Answer A → Type 0

@@ -25,12 +25,12 @@ pub record Reading (A : Type 0) : Type 0 where
   pub value : A
   pub seen : Seen
 
-abbrev pub reading : {A : Type 0} → A → Seen → Reading A
-reading a seen = record { value = a; seen = seen }
+abbrev pub withSeen : {A : Type 0} → A → Seen → Reading A
+withSeen a seen = record { value = a; seen = seen }
 
 -- a step that reads nothing
 abbrev pub keeping : {A : Type 0} → Seen → Writer A → Writer (Reading A)
-keeping seen w = w >>= λ a. pure (reading a seen)
+keeping seen w = w >>= λ a. pure (withSeen a seen)
 
 -- the last step: what has been read is forgotten
 abbrev pub forgetting : {A : Type 0} → Writer (Reading A) → Writer A

@@ -5,7 +5,7 @@
 ghost use Rattle.std.specs.Prelude.{◌≡◌, ◌≤◌};
 ghost use Rattle.std.proofs.Math.ListN.{set};
 ghost use Rattle.netlist.specs.Fields.{bits_at};
-ghost use Rattle.recorder.specs.Lists.{WroteExprs, emitted};
+ghost use Rattle.recorder.specs.Lists.{WroteExprs, emitted, stated};
 ghost use Rattle.recorder.specs.Words.{zeroed};
 ghost use Rattle.wires.specs.Wires.{wiresOf};
 ghost use Rattle.wires.specs.Once.{begun, OnceAt, OnceExprs, swept, Cleared, Grows};
@@ -15,7 +15,7 @@ use crate::expressions::{bit_expression, concat_parts};
 use netlist::fields::{bit_at, wide, word};
 use netlist::{Bit, Control};
 use recorder::words::zero_words;
-use recorder::{Emitted, ExprId, Tapes, builder};
+use recorder::{Emitted, ExprId, Stated, Tapes, builder};
 use refusal::Refusal;
 
 // A wire has been read, by the last of so many expressions. A wire past the table is not kept.
@@ -101,6 +101,16 @@ pub fn sweep(seen: &mut [u32], r: Emitted)
     match r {
         Emitted::Done(_, _) => {}
         Emitted::Refused(_) => zero_words(seen),
+    }
+}
+
+// The same of a whole cell.
+pub fn sweep_cell(seen: &mut [u32], r: Stated)
+    ensures { seen.new ≡ swept (stated r) seen.old }
+{
+    match r {
+        Stated::Done(_) => {}
+        Stated::Refused(_) => zero_words(seen),
     }
 }
 

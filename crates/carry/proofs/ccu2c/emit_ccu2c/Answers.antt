@@ -20,4 +20,4 @@ returns-in_default-r3-clause-wrote c = λ f q s. once-done (c.bit_once-r.ensures
 
 pub returns-clause-wrote : goal.returns-clause-wrote
 unfolding emitCcu2c
-returns-clause-wrote c = λ f q s. once-done (c.bit_once-r.ensures.wrote f (omega arith) s _) _ (ap emitted c.in-Done.is) (once-done (c.emit_slice-r2.ensures.wrote f (omega (arith, c.in-Done.ensures.grows)) s) _ (ap emitted c.in-Done-r2.is) (once-done (c.emit_slice-r3.ensures.wrote f (omega (arith, c.in-Done.ensures.grows, c.in-Done-r2.ensures.grows)) s) _ (ap emitted c.in-Done-r3.is) (once-swept (once-keep (c.assign_wire-end.ensures s _)) c.sweep.ensures)))
+returns-clause-wrote c = λ f q s. once-done (c.bit_once-r.ensures.wrote f (omega arith) s _) _ (ap emitted c.in-Done.is) (once-done (c.emit_slice-r2.ensures.wrote f (omega (arith, c.in-Done.ensures.grows)) s) _ (ap emitted c.in-Done-r2.is) (once-done (c.emit_slice-r3.ensures.wrote f (omega (arith, c.in-Done.ensures.grows, c.in-Done-r2.ensures.grows)) s) _ (ap emitted c.in-Done-r3.is) (once-swept (once-keep (c.assign_wire-end.ensures s _)) c.sweep_cell.ensures)))

@@ -24,4 +24,4 @@ returns-in_default-r4-clause-wrote c = λ f q s. once-done (c.bit_once-r.ensures
 
 pub returns-clause-wrote : goal.returns-clause-wrote
 unfolding emitIo
-returns-clause-wrote c = λ f q s. once-done (c.bit_once-r.ensures.wrote f (omega arith) s _) _ (ap emitted c.in-Done.is) (once-done (c.bit_once-r2.ensures.wrote f (omega (arith, c.in-Done.ensures.grows)) s _) _ (ap emitted c.in-Done-r2.is) (once-done (c.bit_once-r3.ensures.wrote f (omega (arith, c.in-Done.ensures.grows, c.in-Done-r2.ensures.grows)) s _) _ (ap emitted c.in-Done-r3.is) (once-then (c.mux-r4.ensures s _) _ (ap emitted c.in-Done-r4.is) (once-swept (once-keep (c.assign_wire-end.ensures s _)) c.sweep.ensures))))
+returns-clause-wrote c = λ f q s. once-done (c.bit_once-r.ensures.wrote f (omega arith) s _) _ (ap emitted c.in-Done.is) (once-done (c.bit_once-r2.ensures.wrote f (omega (arith, c.in-Done.ensures.grows)) s _) _ (ap emitted c.in-Done-r2.is) (once-done (c.bit_once-r3.ensures.wrote f (omega (arith, c.in-Done.ensures.grows, c.in-Done-r2.ensures.grows)) s _) _ (ap emitted c.in-Done-r3.is) (once-then (c.mux-r4.ensures s _) _ (ap emitted c.in-Done-r4.is) (once-swept (once-keep (c.assign_wire-end.ensures s _)) c.sweep_cell.ensures))))

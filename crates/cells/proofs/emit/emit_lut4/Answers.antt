@@ -16,4 +16,4 @@ returns-in_default-r2-clause-wrote c = λ f q s. once-done (c.read4-r.ensures.wr
 
 pub returns-clause-wrote : goal.returns-clause-wrote
 unfolding emitLut4
-returns-clause-wrote c = λ f q s. once-done (c.read4-r.ensures.wrote f (omega arith) s _) _ (ap read_of c.in-Done.is) (once-then (c.lut_expression-r2.ensures s _) _ (ap emitted c.in-Done-r2.is) (once-swept (once-keep (c.assign_wire-end.ensures s _)) c.sweep.ensures))
+returns-clause-wrote c = λ f q s. once-done (c.read4-r.ensures.wrote f (omega arith) s _) _ (ap read_of c.in-Done.is) (once-then (c.lut_expression-r2.ensures s _) _ (ap emitted c.in-Done-r2.is) (once-swept (once-keep (c.assign_wire-end.ensures s _)) c.sweep_cell.ensures))
