@@ -10,7 +10,7 @@ use Rattle.recorder.specs.Record.{Model}
 use Rattle.recorder.specs.Lists.{Lists, lists}
 use Rattle.recorder.specs.Read.{modelOf}
 use Rattle.recorder.specs.Words.{rawOf}
-use Rattle.lowering.specs.Lower.{Accepted, lowerWords}
+use Rattle.lowering.specs.Lower.{Accepted, lowerSharing}
 use Rattle.behaviour.specs.Behaviour.{Fired, Tick, State, start, tick, accepts, NoWireLoop}
 use Rattle.simulation.specs.Run.{exprBits, signalBytes, tickBits, short, noBit, wrongCount, wrongFired, first_of}
 use Rattle.simulation.specs.Shown.{Entry, ByModel, shownByModel, bytesAfterAll}
@@ -35,12 +35,12 @@ tickBy e = record { bits = e.ticks; fired = firedBy e.fired }
 abbrev pub enough : Model → Entry → Bool
 enough M e = leb (exprBits M) (length e.workBits) && (leb (length M.exprs) (length e.workExprs) && leb (length M.signals) (length e.workSignals))
 
--- the tick is made
-abbrev pub made : Netlist → Entry → Bool
-made n e = enough (loweredModel n) e && accepts n (tickBy e)
+-- the tick is made; the model is the netlist's that shares its cells' reads of so many wires
+abbrev pub made : ℕ → Netlist → Entry → Bool
+made shared n e = enough (loweredModel shared n) e && accepts n (tickBy e)
 
-abbrev pub after : Netlist → State → Entry → State
-after n s e = pick (made n e) (tick n s (tickBy e)) s
+abbrev pub after : ℕ → Netlist → State → Entry → State
+after shared n s e = pick (made shared n e) (tick n s (tickBy e)) s
 
 pub record ByCells : Type 0 where
   pub made : Bool
@@ -49,9 +49,9 @@ pub record ByCells : Type 0 where
 abbrev pub bytes_of : List Bits → List (List ℕ)
 bytes_of outputs = map (λ (bits : Bits). map digit bits) outputs
 
-abbrev pub shownByCells : Netlist → State → List Entry → List ByCells
-shownByCells n s [] = []
-shownByCells n s (e ∷ es) = record { made = made n e; outputs = bytes_of (after n s e).outputs } ∷ shownByCells n (after n s e) es
+abbrev pub shownByCells : ℕ → Netlist → State → List Entry → List ByCells
+shownByCells shared n s [] = []
+shownByCells shared n s (e ∷ es) = record { made = made shared n e; outputs = bytesOf (after shared n s e).outputs } ∷ shownByCells shared n (after shared n s e) es
 
 -- THE SAME: the outputs, and the ticks that are made; a refusal is 1 or 14
 
@@ -87,20 +87,41 @@ Answered M entries shown = map (λ (m : ByModel). m.answer) shown ≡ map (answe
 abbrev pub Fresh : ℕ → List ℕ → Type 0
 Fresh k bytes = take k bytes ≡ replicate k 0
 
--- what P says of a list of calls and what the model shows, for each netlist without a loop that lowering accepts
-abbrev pub Always : (Netlist → List Entry → List ByModel → Type 0) → Type 0
+-- what P says of a list of calls and what the model shows, for each netlist without a loop that lowering accepts, whatever reads its
+-- cells share: those of all wires, as lowering does (the limit on wires), or none (0)
+abbrev pub Always : (ℕ → Netlist → List Entry → List ByModel → Type 0) → Type 0
 Always P =
-    (limits : Limits) (widest : ℕ) → Roomy limits widest
-    → (words : List ℕ) (s e t : ℕ) (tapes : Tapes) (l : Lists) → lowerWords limits words s e t ≡ record { answer = Accepted tapes; lists = l }
+    (shared : ℕ) (limits : Limits) (widest : ℕ) → Roomy limits widest
+    → (words : List ℕ) (s e t : ℕ) (tapes : Tapes) (l : Lists) → lowerSharing shared limits words s e t ≡ record { answer = Accepted tapes; lists = l }
     → (n : Netlist) → readWords limits words ≡ netlist n → NoWireLoop n
-    → (bytes : List ℕ) → Fresh (signalBytes (loweredModel n)) bytes
-    → (entries : List Entry) → P n entries (shownByModel widest (usedLists l tapes) (loweredModel n).signals bytes entries)
+    → (bytes : List ℕ) → Fresh (signalBytes (loweredModel shared n)) bytes
+    → (entries : List Entry) → P shared n entries (shownByModel widest (usedLists l tapes) (loweredModel shared n).signals bytes entries)
 
 abbrev pub Demand3 : Type 0
-Demand3 = Always (λ (n : Netlist) (entries : List Entry) (shown : List ByModel). AllAgree shown (shownByCells n (start n) entries))
+Demand3 = Always (λ (shared : ℕ) (n : Netlist) (entries : List Entry) (shown : List ByModel). AllAgree shown (shownByCells shared n (start n) entries))
 
 abbrev pub AllAnswered : Type 0
-AllAnswered = Always (λ (n : Netlist) (entries : List Entry) (shown : List ByModel). Answered (loweredModel n) entries shown)
+AllAnswered = Always (λ (shared : ℕ) (n : Netlist) (entries : List Entry) (shown : List ByModel). Answered (loweredModel shared n) entries shown)
+
+-- SHARED OR NOT: two models of one netlist without a loop, each in its own lists, that share the reads of different numbers of wires, with
+-- works long enough for both: after every tick they show the same outputs
+abbrev pub AllEnough : Model → List Entry → Type 0
+AllEnough M [] = Unit {0}
+AllEnough M (e ∷ es) = (enough M e ≡ true) × AllEnough M es
+
+abbrev pub outputsShown : List ByModel → List (List (List ℕ))
+outputsShown shown = map (λ (m : ByModel). m.outputs) shown
+
+abbrev pub SharingShowsTheSame : Type 0
+SharingShowsTheSame =
+    (a b : ℕ) (limits : Limits) (widest : ℕ) → Roomy limits widest → (words : List ℕ)
+    → (s e t : ℕ) (tapes : Tapes) (l : Lists) → lowerSharing a limits words s e t ≡ record { answer = Accepted tapes; lists = l }
+    → (s' e' t' : ℕ) (tapes' : Tapes) (l' : Lists) → lowerSharing b limits words s' e' t' ≡ record { answer = Accepted tapes'; lists = l' }
+    → (n : Netlist) → readWords limits words ≡ netlist n → NoWireLoop n
+    → (bytes bytes' : List ℕ) → Fresh (signalBytes (loweredModel a n)) bytes → Fresh (signalBytes (loweredModel b n)) bytes'
+    → (entries : List Entry) → AllEnough (loweredModel a n) entries → AllEnough (loweredModel b n) entries
+    → outputsShown (shownByModel widest (usedLists l tapes) (loweredModel a n).signals bytes entries)
+    ≡ outputsShown (shownByModel widest (usedLists l' tapes') (loweredModel b n).signals bytes' entries)
 
 -- THE BYTES BEHIND: after a list of calls on any model they are the old ones
 abbrev pub BehindKept : Type 0

@@ -12,17 +12,17 @@ use Rattle.lowering.specs.Lower.{overdrivenFrom, reserveNetlist, lowerNetlist}
 abbrev pub none_yet : Count
 none_yet = record { signals = 0; exprs = 0; stmts = 0 }
 
--- the model of a netlist
-abbrev pub loweredModel : Netlist → Model
-loweredModel n = modelOf (lowerNetlist n none_yet).events
+-- the model of a netlist whose cells share their reads of so many wires
+abbrev pub loweredModel : ℕ → Netlist → Model
+loweredModel shared n = modelOf (lowerNetlist shared n none_yet).events
 
 -- reading let it through, no step refused it, and 11 did not
-pub record Lowered (limits : Limits) (n : Netlist) : Type 0 where
+pub record Lowered (shared : ℕ) (limits : Limits) (n : Netlist) : Type 0 where
   pub fits : Fits limits n
   pub wires : Wires
   pub reserved : (reserveNetlist n none_yet).end ≡ ok wires
-  pub ended : (lowerNetlist n none_yet).end ≡ ok tt
-  pub single : overdrivenFrom 0 (loweredModel n).signals (loweredModel n).stmts ≡ none
+  pub ended : (lowerNetlist shared n none_yet).end ≡ ok tt
+  pub single : overdrivenFrom 0 (loweredModel shared n).signals (loweredModel shared n).stmts ≡ none
 
 -- the widths of ports, banks and products stay within the largest width of a model
 pub record Roomy (limits : Limits) (widest : ℕ) : Type 0 where
