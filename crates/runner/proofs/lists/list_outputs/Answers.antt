@@ -1,7 +1,7 @@
 use Rattle.std.proofs.Common.{arith}
 use Rattle.evaluation.proofs.Signals.{signal-inside, signal-step}
 use Rattle.runner.proofs.Listing.{outputs-start, outputs-out, outputs-end, outputs-other, outputs-taken}
-use Rattle.runner.proofs.lists.list_outputs.Goals.{then-signals-at-eq1, else-signals-at-eq1}
+use Rattle.runner.proofs.lists.list_outputs.Goals.{then-signals-at-eq1+else-k-room+else-s-ge4294967296, else-signals-at-eq1}
 use Rattle.runner.proofs.lists.list_outputs.Goals as goal
 
 pub loop-at-init : goal.loop-at-init
@@ -19,7 +19,7 @@ overflow_add-at-in-loop-at c = omega (arith, signal-step c.requires.0 c.loop-at.
 pub loop-at-preserved : goal.loop-at-preserved
 loop-at-preserved c =
     elim c.if-signals-at-eq1.branch [
-      then-signals-at-eq1 w ↦ outputs-taken c.requires.0 c.loop-at.invariant c.size-size.ensures c.if-size-eq0.false w.order-is w.k-is w.if-k-room.false c.requires.1
+      then-signals-at-eq1+else-k-room+else-s-ge4294967296 w ↦ outputs-taken c.requires.0 c.loop-at.invariant c.size-size.ensures c.if-size-eq0.false w.order-is w.k-is w.if-k-room.false c.requires.1
     | else-signals-at-eq1 w ↦ outputs-other c.requires.0 c.loop-at.invariant c.size-size.ensures c.if-size-eq0.false w.order-is w.k-is w.if-signals-at-eq1.false
     ]
 
