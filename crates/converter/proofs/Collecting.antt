@@ -1,14 +1,14 @@
 -- The loop that gives each cell its bank.
-use mathlib.Core.Path.{◌≡◌, refl, ap, ap₂, sym, ◌∙◌, subst}
+use mathlib.Core.Path.{◌≡◌, refl, ap, sym, ◌∙◌, subst}
 use mathlib.Core.Bool.{Bool, true, false}
-use mathlib.Core.List.{List, [], ◌∷◌, ◌++◌, append-nil}
+use mathlib.Core.List.{List, [], ◌∷◌, ◌++◌}
 use mathlib.Core.Option.{Option, none, some}
-use Prim.Native.Nat.{ℕ, zero, suc, ◌+◌, ◌-◌, ◌≤◌, ◌<◌, min}
+use Prim.Native.Nat.{ℕ, suc, ◌+◌, ◌≤◌, ◌<◌, min}
 use native.Mathlib.Nat.{add-zero, add-suc, suc-add}
 use native.Mathlib.Numerals.{add-one}
 use native.Mathlib.Decide.{ℕ_discrete}
 use native.Mathlib.Omega.{arith}
-use lib.Dec.{eqb, ltb}
+use lib.Dec.{ltb}
 use lib.ListN.{length, get_or, set, length-append}
 use lib.Seq.{get_or-set_same, get_or-set_other}
 use borrow.Author.Tests.{ltb-true, ltb-false}
@@ -24,7 +24,6 @@ use Rattle.behaviour.proofs.BankLaws.{bank-here}
 use Rattle.converter.specs.Reserves.{Fitting}
 use Rattle.converter.proofs.Reserving.{place-start, place-step}
 use Rattle.converter.specs.Banked.{larger, Keyed, number_of, number_in, withCell, JoinedBank, Joins, Collected, Work}
-use Rattle.converter.proofs.Keys.{bank-most, larger-left, larger-right}
 
 also-append : (o : Option FlipFlop) (c : ℕ) (xs ys : List Member) → also o c (xs ++ ys) ≡ also o c xs ++ ys
 also-append none c xs ys = refl

@@ -1,8 +1,8 @@
 -- What a signal that was declared is: numbered below 2,147,483,648.
-use mathlib.Core.Path.{◌≡◌, refl, ap, sym, ◌∙◌}
+use mathlib.Core.Path.{◌≡◌, refl, ap}
 use mathlib.Core.Bool.{Bool, true, false, ◌&&◌}
-use mathlib.Core.List.{List, [], ◌∷◌}
-use Prim.Native.Nat.{ℕ, ◌+◌, ◌<◌, ◌≤◌, min}
+use mathlib.Core.List.{List, []}
+use Prim.Native.Nat.{ℕ, ◌+◌, ◌<◌, min}
 use native.Mathlib.Omega.{arith}
 use lib.Dec.{leb}
 use lib.ListN.{length}
@@ -10,8 +10,8 @@ use borrow.Author.Tests.{leb-true}
 use Rattle.bits.specs.Bits.{pick}
 use Rattle.recorder.specs.declared.Tapes.{Tapes}
 use Rattle.recorder.specs.Record.{Signal, signalWords}
-use Rattle.recorder.specs.Writer.{Writer, declare}
-use Rattle.recorder.specs.Lists.{fits, lists, Lists, tapes, behind, over, play, onward, Played, Played.going, Played.full, finish, Left, Answer, Answer.Done, Answer.Failed, Wrote, WroteSignals}
+use Rattle.recorder.specs.Writer.{declare}
+use Rattle.recorder.specs.Lists.{fits, lists, tapes, behind, over, play, onward, Played.going, Played.full, finish, Left, Answer.Done, Answer.Failed, WroteSignals}
 use Rattle.recorder.specs.Writer.{End.ok}
 
 both : (a b : Bool) → a && b ≡ true → (a ≡ true) × (b ≡ true)

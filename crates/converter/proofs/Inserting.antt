@@ -1,7 +1,7 @@
 -- A bank's wires one after the other, and its signal before them.
-use mathlib.Core.Path.{◌≡◌, refl, ap, ap₂, sym, ◌∙◌, subst}
+use mathlib.Core.Path.{◌≡◌, refl, ap, sym, ◌∙◌, subst}
 use mathlib.Core.List.{List, [], ◌∷◌}
-use Prim.Native.Nat.{ℕ, zero, suc, ◌+◌, ◌≤◌, ◌<◌}
+use Prim.Native.Nat.{ℕ, suc, ◌+◌, ◌<◌}
 use native.Mathlib.Numerals.{add-one}
 use native.Mathlib.Omega.{arith}
 use lib.ListN.{length}
@@ -10,7 +10,7 @@ use Rattle.netlist.specs.declared.Bit.TheVariants.{Wire}
 use Rattle.netlist.specs.Shape.{Each, FitsWire}
 use Rattle.refusal.specs.declared.Refusal.{Refusal}
 use Rattle.behaviour.specs.Banks.{Member, outputsOf}
-use Rattle.recorder.specs.Writer.{Writer, pure, declare, ◌>>=◌}
+use Rattle.recorder.specs.Writer.{Writer, declare, ◌>>=◌}
 use Rattle.recorder.proofs.Events.{bind-pure, bind-refuse}
 use Rattle.wires.specs.Wires.{WireRef, Wires, wiresOf}
 use Rattle.converter.specs.declared.insert.Inserted.{Inserted}

@@ -8,21 +8,21 @@ use native.Mathlib.Nat.{add-zero, add-suc, suc-add, zero-add}
 use native.Mathlib.Numerals.{add-one}
 use native.Mathlib.Decide.{ℕ_discrete}
 use native.Mathlib.Omega.{arith}
-use lib.Dec.{eqb, ltb}
-use lib.ListN.{length, get_or, set, length-append, length-set, get_or-append}
+use lib.Dec.{eqb}
+use lib.ListN.{length, get_or, set, length-append, get_or-append}
 use lib.Seq.{get_or-set_same, get_or-set_other, get_or-append-add}
-use borrow.Author.Tests.{eq-eqb, ne_eqb, eqb-true, ltb-true, ltb-false, lt-ltb, le-ltb}
+use borrow.Author.Tests.{eq-eqb, ne_eqb, eqb-true, lt-ltb, le-ltb}
 use Rattle.bits.specs.Bits.{pick}
 use Rattle.netlist.specs.declared.Limits.{Limits}
 use Rattle.netlist.specs.declared.Bit.{Bit}
 use Rattle.netlist.specs.declared.Bit.TheVariants.{Zero, One, Wire}
 use Rattle.netlist.specs.declared.Reset.{Reset}
 use Rattle.netlist.specs.Netlist.{FlipFlop, Cell, flipFlop, bit_of}
-use Rattle.netlist.specs.Fields.{word_at, bit_at, whenSet, resetAt, optionalResetAt, flipFlopAt, kindsAt, pllAt, cell_at}
+use Rattle.netlist.specs.Fields.{word_at, whenSet, resetAt, optionalResetAt, cell_at}
 use Rattle.netlist.specs.Shape.{FitsBit, FitsOption, FitsReset, FitsFlipFlop, FitsCell}
 use Rattle.netlist.specs.Reader.{sameBit}
 use Rattle.behaviour.specs.Banks.{Member, filterAsync, asyncReset, sameResetControl, sameBank, flipFlopOf, also, bankIn, joined, leadersFrom}
-use Rattle.behaviour.proofs.BankLaws.{same-bit-self, same-bit-is, bank-here, bank-end}
+use Rattle.behaviour.proofs.BankLaws.{same-bit-self, same-bit-is, bank-end}
 use Rattle.converter.specs.Reserves.{ofKind}
 use Rattle.converter.specs.Banked.{word_of, clockKey, controlKey, resetKey, flopAt, KeyOf, keyIs, firstWith, findKey, larger, Keyed, number_of, number_in, withCell, JoinedBank}
 

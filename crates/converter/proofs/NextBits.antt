@@ -1,11 +1,10 @@
 -- The next bits of a bank's members, and the constants that its reset loads: what a loop has done and what is left.
 use mathlib.Core.Path.{◌≡◌, refl, ap, ap₂, sym, ◌∙◌, subst}
-use mathlib.Core.Bool.{Bool, true, false}
+use mathlib.Core.Bool.{Bool}
 use mathlib.Core.List.{List, [], ◌∷◌}
-use mathlib.Core.Option.{Option, none, some}
+use mathlib.Core.Option.{Option, some}
 use Prim.Native.Nat.{ℕ, zero, suc, ◌+◌, ◌-◌, ◌≤◌, ◌<◌}
 use native.Mathlib.Omega.{arith}
-use lib.Dec.{eqb}
 use lib.ListN.{length, take, drop, set}
 use borrow.Author.Tests.{eq-eqb, ne_eqb}
 use Rattle.bits.specs.Bits.{pick}
@@ -18,13 +17,12 @@ use Rattle.netlist.specs.declared.fields.OptionalControl.TheVariants as C
 use Rattle.netlist.specs.declared.fields.OptionalReset.{OptionalReset}
 use Rattle.netlist.specs.declared.fields.OptionalReset.TheVariants as O
 use Rattle.netlist.specs.FieldForms.{presence, resetPresence}
-use Rattle.netlist.specs.Netlist.{FlipFlop}
 use Rattle.netlist.specs.Fields.{word_at, bit_at, optionalControlAt, optionalResetAt}
 use Rattle.behaviour.specs.Banks.{Member}
 use Rattle.recorder.specs.declared.Tapes.{Tapes}
 use Rattle.recorder.specs.Record.{Expr.mux}
 use Rattle.recorder.specs.Writer.{Writer, pure, emit, ◌>>=◌}
-use Rattle.recorder.specs.Lists.{lists, Wrote, WroteExprs, Answer, Answer.Done, Answer.Failed}
+use Rattle.recorder.specs.Lists.{lists, WroteExprs, Answer, Answer.Done, Answer.Failed}
 use Rattle.recorder.proofs.Events.{bind-pure, bind_assoc}
 use Rattle.recorder.proofs.Wrote.{wrote_as, Going, going_start, going_step, going-same, going_end}
 use Rattle.wires.specs.Wires.{Wires}

@@ -4,7 +4,7 @@ use mathlib.Core.Bool.{Bool, true, false}
 use mathlib.Core.List.Memᴰ.{head as here}
 use mathlib.Core.List.Memᴰ.{tail as there}
 use mathlib.Core.List.{List, [], ◌∷◌, Memᴰ as Mem}
-use mathlib.Core.Option.{Option, none, some}
+use mathlib.Core.Option.{Option, none}
 use Prim.Native.Nat.{ℕ, zero, suc, ◌+◌, ◌≤◌, ◌<◌}
 use native.Mathlib.Nat.{add-zero}
 use native.Mathlib.Numerals.{add-one}
@@ -21,9 +21,8 @@ use Rattle.netlist.specs.Shape.{Each, each_at, FitsWire, FitsCell}
 use Rattle.netlist.proofs.RecordLaws.{records-length, records-get}
 use Rattle.behaviour.specs.Banks.{Member, Bank, flipFlopOf, also, flipFlopsFrom, flipFlopsOf, bankIn, kept, members_of, leadersOf, collectFlipFlopBanks, outputsOf}
 use Rattle.behaviour.specs.Behaviour.{absent}
-use Rattle.behaviour.proofs.BankLaws.{IsBank, IsCell, Begins, bank-at, bank-count, banks-are}
+use Rattle.behaviour.proofs.BankLaws.{IsBank, IsCell, bank-at, bank-count, banks-are}
 use Rattle.converter.specs.Reserves.{Fitting}
-use Rattle.converter.specs.declared.members.Scan.{Scan}
 use Rattle.converter.specs.Banked.{flopAt, number_of, number_in, Collected}
 use Rattle.converter.specs.Members.{noted, membersIn}
 use Rattle.converter.proofs.Keys.{no-flop, a-flop}

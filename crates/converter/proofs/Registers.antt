@@ -1,12 +1,10 @@
 -- The register of a bank, and the loop over all banks.
-use mathlib.Core.Path.{◌≡◌, refl, ap, ap₂, sym, ◌∙◌, subst, fun_ext}
-use mathlib.Core.Bool.{Bool, true, false}
-use mathlib.Core.List.{List, [], ◌∷◌}
+use mathlib.Core.Path.{◌≡◌, refl, ap, ap₂, sym, ◌∙◌, fun_ext}
+use mathlib.Core.Bool.{Bool}
+use mathlib.Core.List.{List, []}
 use mathlib.Core.Option.{Option, none, some}
-use Prim.Native.Nat.{ℕ, zero, suc, ◌+◌, ◌≤◌, ◌<◌}
-use native.Mathlib.Numerals.{add-one}
+use Prim.Native.Nat.{ℕ, ◌+◌, ◌≤◌, ◌<◌}
 use native.Mathlib.Omega.{arith}
-use lib.Dec.{eqb}
 use lib.ListN.{length, drop, drop_of_length-le}
 use borrow.Author.Tests.{eq-eqb, ne_eqb}
 use Rattle.bits.specs.Bits.{pick}
@@ -20,22 +18,21 @@ use Rattle.netlist.specs.FieldForms.{resetPresence}
 use Rattle.netlist.specs.Netlist.{FlipFlop}
 use Rattle.netlist.specs.Fields.{word_at, bit_at, optionalResetAt, cellsAt}
 use Rattle.behaviour.specs.Banks.{Member, Bank, filterAsync, asyncReset, collectFlipFlopBanks}
-use Rattle.behaviour.proofs.BankLaws.{IsBank, Begins}
 use Rattle.recorder.specs.declared.SignalId.{SignalId}
 use Rattle.recorder.specs.declared.Tapes.{Tapes}
 use Rattle.recorder.specs.declared.Stated.{Stated}
 use Rattle.recorder.specs.declared.Stated.TheVariants as S
 use Rattle.recorder.specs.Record.{RegReset, Stmt.reg}
 use Rattle.recorder.specs.Writer.{Writer, pure, refuse, state, ◌>>=◌}
-use Rattle.recorder.specs.Lists.{lists, Wrote, stated, WroteBoth}
+use Rattle.recorder.specs.Lists.{lists, stated, WroteBoth}
 use Rattle.recorder.proofs.Events.{bind-pure, bind-refuse, bind_assoc}
-use Rattle.recorder.proofs.Wrote.{wrote_as, wrote-pure, wrote-refuse, Going, going_start, going_step, going-same, going_end}
+use Rattle.recorder.proofs.Wrote.{wrote_as, wrote-pure, Going, going_start, going_step, going-same, going_end}
 use Rattle.wires.specs.declared.Constants.{Constants}
 use Rattle.wires.specs.declared.Controlled.{Controlled}
 use Rattle.wires.specs.declared.Controlled.TheVariants.{Signal, Refused}
 use Rattle.wires.specs.Wires.{WireRef, Wires, wiresOf}
 use Rattle.wires.specs.Expressions.{wireRef, bitSignal, concatParts, roomy, controlled, Reads}
-use Rattle.wires.proofs.Laws.{ref-held, ref-missing, roomy-yes, roomy-no}
+use Rattle.wires.proofs.Laws.{ref-held, ref-missing, roomy-yes}
 use Rattle.lowering.specs.Emit.{nextBits, resetBits, bankReset, emitFlipFlopBank, emitBanks}
 use Rattle.converter.specs.declared.members.Scan.{Scan}
 use Rattle.converter.specs.Banked.{flopAt, Collected}

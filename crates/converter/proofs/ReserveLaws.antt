@@ -1,21 +1,19 @@
 -- The loops of reserve.rt, and the arms of its dispatch by kind.
 use mathlib.Core.Path.{◌≡◌, refl, ap, ap₂, sym, ◌∙◌, subst, fun_ext}
-use mathlib.Core.Bool.{Bool, true, false}
+use mathlib.Core.Bool.{Bool}
 use mathlib.Core.List.{List, [], ◌∷◌, ◌++◌}
-use mathlib.Core.Option.{Option, none, some}
+use mathlib.Core.Option.{Option, some}
 use Prim.Native.Nat.{ℕ, zero, suc, ◌+◌, ◌-◌, ◌≤◌, ◌<◌, min}
 use native.Mathlib.Nat.{add-zero}
-use native.Mathlib.Numerals.{add-one}
 use native.Mathlib.Omega.{arith}
-use lib.Dec.{eqb}
 use lib.ListN.{length, get_or}
 use borrow.Author.Tests.{eq-eqb, ne_eqb}
 use Rattle.bits.specs.Bits.{pick}
 use Rattle.netlist.specs.declared.Limits.{Limits}
 use Rattle.netlist.specs.declared.Bit.{Bit}
 use Rattle.netlist.specs.Netlist.{Cell, Port, SecondPort, lut4, pfumx, l6mux21, io}
-use Rattle.netlist.specs.Fields.{recordsAt, end_at, after, word_at, bit_at, wiresAt, bits_at, whenSet, kindsAt, lut4At, pfumxAt, l6mux21At, ccu2cAt, multiplierAt, flipFlopAt, blockRamAt, distributedRamAt, ioAt, jtaggAt, pllAt, firstSize, secondPortAt, cell_at, cellEnd, cellsAt, portAt, portEnd, portsAt}
-use Rattle.netlist.specs.Shape.{Each, FitsBit, FitsWire, FitsCell, FitsPort, FitsOption, FitsSecond}
+use Rattle.netlist.specs.Fields.{recordsAt, end_at, after, word_at, bit_at, wiresAt, bits_at, whenSet, lut4At, pfumxAt, l6mux21At, ccu2cAt, multiplierAt, flipFlopAt, blockRamAt, distributedRamAt, ioAt, jtaggAt, pllAt, firstSize, secondPortAt, cell_at, cellEnd, cellsAt, portAt, portEnd, portsAt}
+use Rattle.netlist.specs.Shape.{Each, FitsWire, FitsCell, FitsPort, FitsOption, FitsSecond}
 use Rattle.netlist.proofs.RecordLaws.{end_after, bits-length}
 use Rattle.refusal.specs.declared.Refusal.{Refusal}
 use Rattle.recorder.specs.declared.Tapes.{Tapes}
@@ -27,10 +25,10 @@ use Rattle.recorder.specs.Writer.{Writer, pure, declare, ◌>>=◌}
 use Rattle.recorder.specs.Lists.{lists, Wrote, WroteSignals, declared}
 use Rattle.recorder.proofs.Events.{bind-pure, bind_assoc}
 use Rattle.recorder.proofs.Wrote.{wrote_as, wrote-pure, then-done, then-stop}
-use Rattle.wires.specs.Wires.{WireRef, Wires, entry, wiresOf}
+use Rattle.wires.specs.Wires.{Wires, entry, wiresOf}
 use Rattle.lowering.specs.Reserve.{signalOf, insertBits, reserveScalar, reserveScalars, reserveVector, reserveUnless, reserveAbsent, reserveSecond, reserveCellOutput, reserveCells, reservePort, reservePorts}
 use Rattle.converter.specs.Tables.{mapped, heldBits, ReservesScalar, undeclaredOf}
-use Rattle.converter.specs.Reserves.{Room, Reserves, Fitting, BitsFit, WireFits, WiresFit, CellFits, PortFits, CellsFit, PortsFit, ReservesVector, ReservesScalars, ReservesUnless, ReservesAbsent, ReservesCell, ReservesCells, ReservesPort, ReservesPorts, ofKind}
+use Rattle.converter.specs.Reserves.{Room, Reserves, WiresFit, CellFits, CellsFit, PortsFit, ReservesVector, ReservesScalars, ReservesUnless, ReservesAbsent, ReservesCell, ReservesPort, ofKind}
 use Rattle.converter.proofs.Reserving.{Reserving, reserving-start, reserving-step, reserving-stop, reserving-end, reserving-last, reserves-as, eachOf, left, left-all, left-more, left-done, scalars-each, absent-each, cells-each, ports-each, room-keep, room-tabled, wires-ahead, held-ahead, wire-of-each, each_bits, vector-as}
 
 -- list, tables and tapes at a call's entry; its answer, list and tables at its exit

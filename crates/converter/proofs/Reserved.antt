@@ -1,5 +1,5 @@
 -- A signal and then its wires: the two steps of every reservation.
-use mathlib.Core.Path.{◌≡◌, refl, ap, sym, ◌∙◌, subst}
+use mathlib.Core.Path.{◌≡◌, ap, sym, ◌∙◌, subst}
 use mathlib.Core.List.{List}
 use Prim.Native.Nat.{ℕ, ◌<◌}
 use native.Mathlib.Omega.{arith}
@@ -9,10 +9,9 @@ use Rattle.recorder.specs.declared.Tapes.{Tapes}
 use Rattle.recorder.specs.declared.Declared.{Declared}
 use Rattle.recorder.specs.declared.Declared.TheVariants as D
 use Rattle.recorder.specs.declared.Stated.{Stated}
-use Rattle.recorder.specs.declared.Stated.TheVariants as S
 use Rattle.recorder.specs.Record.{Signal}
-use Rattle.recorder.specs.Writer.{Writer, pure, refuse, declare, ◌>>=◌}
-use Rattle.recorder.specs.Lists.{Answer, Answer.Done, Answer.Failed, WroteSignals, declared}
+use Rattle.recorder.specs.Writer.{Writer, declare, ◌>>=◌}
+use Rattle.recorder.specs.Lists.{Answer.Done, WroteSignals, declared}
 use Rattle.recorder.proofs.Wrote.{wrote_as, wrote-pure, wrote-refuse, then-done, then-stop}
 use Rattle.wires.specs.Wires.{Wires}
 use Rattle.converter.specs.declared.insert.Inserted.{Inserted}

@@ -1,23 +1,18 @@
 -- Reservations in a row and in loops: what was done and what is left.
 use mathlib.Core.Path.{◌≡◌, refl, ap, ap₂, sym, ◌∙◌, subst, fun_ext}
-use mathlib.Core.Bool.{Bool, true, false}
-use mathlib.Core.List.{List, [], ◌∷◌, ◌++◌}
-use mathlib.Core.Option.{Option, none, some}
+use mathlib.Core.List.{List, [], ◌∷◌}
 use Prim.Native.Nat.{ℕ, zero, suc, ◌+◌, ◌-◌, ◌≤◌, ◌<◌, min}
 use native.Mathlib.Nat.{add-zero}
 use native.Mathlib.Numerals.{add-one}
 use native.Mathlib.Omega.{arith}
-use lib.Dec.{eqb}
-use lib.ListN.{length, get_or}
-use borrow.Author.Tests.{eq-eqb, ne_eqb}
-use Rattle.bits.specs.Bits.{pick}
+use lib.ListN.{length}
 use Rattle.netlist.specs.declared.Limits.{Limits}
 use Rattle.netlist.specs.declared.Bit.{Bit}
 use Rattle.netlist.specs.declared.Bit.TheVariants.{Zero, One, Wire}
 use Rattle.netlist.specs.Netlist.{Cell, Port, bit_of}
-use Rattle.netlist.specs.Fields.{recordsAt, end_at, after, word_at, bit_at, wiresAt, bits_at, cell_at, cellEnd, cellsAt, portAt, portEnd, portsAt}
-use Rattle.netlist.specs.Shape.{Each, FitsBit, FitsWire, FitsCell, FitsPort}
-use Rattle.netlist.proofs.RecordLaws.{end_after, end_more, wires-length}
+use Rattle.netlist.specs.Fields.{recordsAt, end_at, after, word_at, bit_at, wiresAt}
+use Rattle.netlist.specs.Shape.{Each, FitsBit, FitsWire}
+use Rattle.netlist.proofs.RecordLaws.{end_more, wires-length}
 use Rattle.netlist.proofs.WordLaws.{word-ahead}
 use Rattle.refusal.specs.declared.Refusal.{Refusal}
 use Rattle.recorder.specs.declared.Tapes.{Tapes}
@@ -25,11 +20,10 @@ use Rattle.recorder.specs.declared.Stated.{Stated}
 use Rattle.recorder.specs.declared.Stated.TheVariants as S
 use Rattle.recorder.specs.Writer.{Writer, pure, declare, ◌>>=◌}
 use Rattle.recorder.specs.Lists.{lists, Wrote, WroteSignals}
-use Rattle.recorder.proofs.Events.{bind-pure, bind_assoc}
-use Rattle.recorder.proofs.Wrote.{wrote_as, wrote-pure, Going, going_start, going_step, going-stop, going_end}
-use Rattle.wires.specs.Wires.{WireRef, Wires, wiresOf}
+use Rattle.recorder.proofs.Wrote.{wrote-pure, Going, going_start, going_step, going-stop, going_end}
+use Rattle.wires.specs.Wires.{Wires}
 use Rattle.lowering.specs.Reserve.{signalOf, insertWire, insertBits, insertWires, reserveScalar, reserveScalars, reserveVector, reserveUnless, reserveAbsent, reserveCellOutput, reserveCells, reservePort, reservePorts}
-use Rattle.converter.specs.Tables.{mapped, Tabled, TabledBit, TabledBits, heldBit, heldBits}
+use Rattle.converter.specs.Tables.{mapped, Tabled, TabledBit, TabledBits, heldBits}
 use Rattle.converter.specs.Reserves.{Room, Reserves, Fitting}
 
 -- IN A ROW

@@ -1,14 +1,13 @@
 -- Laws of the tables that hold the wire map.
 use mathlib.Core.Path.{◌≡◌, refl, ap, ap₂, sym, ◌∙◌, subst, fun_ext}
-use mathlib.Core.Bool.{Bool, true, false}
+use mathlib.Core.Bool.{Bool}
 use mathlib.Core.List.{List, [], ◌∷◌}
 use mathlib.Core.Option.{Option, none, some}
 use Prim.Native.Nat.{ℕ, zero, suc, ◌+◌, ◌*◌, ◌/◌, ◌%◌, ◌≤◌, ◌<◌}
 use native.Mathlib.Omega.{arith}
 use native.Mathlib.Decide.{ℕ_discrete}
-use lib.Dec.{eqb}
 use native.Mathlib.Numerals.{add-one}
-use lib.ListN.{length, get_or, set, drop, length-set, drop_of_length-le}
+use lib.ListN.{length, get_or, set, drop, drop_of_length-le}
 use lib.Seq.{get_or-set_same, get_or-set_other, drop-cons}
 use Rattle.netlist.proofs.RecordLaws.{records-length, records-get, end_after}
 use borrow.Author.Tests.{eq-eqb, ne_eqb}
@@ -23,7 +22,7 @@ use Rattle.refusal.specs.declared.Refusal.{Refusal}
 use Rattle.converter.specs.declared.insert.Inserted.{Inserted}
 use Rattle.converter.specs.declared.insert.Inserted.TheVariants as I
 use Rattle.lowering.specs.Reserve.{insertAt, insertWire, insertBits}
-use Rattle.converter.specs.Tables.{quiet, Tabled, TabledBit, TabledBits, Small, InsertsBit, InsertsBits, heldBit, heldBits}
+use Rattle.converter.specs.Tables.{quiet, Tabled, TabledBit, TabledBits, InsertsBit, InsertsBits, heldBit, heldBits}
 
 -- AN ENTRY
 

@@ -187,6 +187,8 @@ lags-meant g = record { values = g.state; rest = g.behind; holds = g.holds-state
 
 shown-same : (ss : List Signal) (a b : List Bits) (x y : List ℕ) → Wide (map (λ (s : Signal). s.width) ss) a → Wide (map (λ (s : Signal). s.width) ss) b → ((i : ℕ) → Output ss i → get_or a i [] ≡ get_or b i []) → shownBytes ss (map digit (flat a) ++ x) ≡ shownBytes ss (map digit (flat b) ++ y)
 shown-same [] a b x y u v g = refl
+shown-same (s ∷ ss) [] b x y u v g = elim u [ ]
+shown-same (s ∷ ss) (p ∷ a) [] x y u v g = elim v [ ]
 shown-same (s ∷ ss) (p ∷ a) (q ∷ b) x y u v g = go (eqb s.label 1) refl (shown-same ss a b x y u.1 v.1 (λ i o. g (suc i) (record { there = omega (arith, o.there); labelled = o.labelled })))
   where
     front : (p : Bits) (a : List Bits) (x : List ℕ) → map digit (flat (p ∷ a)) ++ x ≡ map digit p ++ (map digit (flat a) ++ x)

@@ -1,0 +1,12 @@
+use Rattle.evaluation.proofs.Signals.{ports-all}
+use Rattle.runner.proofs.Tick.{read-signals, made, values-fill}
+use Rattle.runner.proofs.ticks.tick.Goals as goal
+
+pub set_inputs-requires : goal.set_inputs-requires
+set_inputs-requires c = (read-signals c.requires.0, c.requires.11, c.requires.3.bytes-room, ports-all (read-signals c.requires.0))
+
+pub returns-clause-ticked : goal.returns-clause-ticked
+returns-clause-ticked c = made c.set_inputs.ensures c.settle.ensures c.commit.ensures c.settle-2.ensures
+
+pub returns-clause-filled : goal.returns-clause-filled
+returns-clause-filled c = values-fill c.set_inputs.ensures c.settle.ensures c.commit.ensures c.settle-2.ensures c.requires.12
