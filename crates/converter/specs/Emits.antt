@@ -1,8 +1,9 @@
 -- What emitting promises: of a cell or a port that fits, and with works that have room, it writes what the definitions say.
-use Rattle.std.specs.Prelude.{List, ◌≡◌, ℕ, ◌≤◌, eqb, length}
+use Rattle.std.specs.Prelude.{List, ◌≡◌, ℕ, ◌≤◌, eqb, length, get_or}
 use Rattle.bits.specs.Bits.{pick}
 use Rattle.refusal.specs.Refusal.{number_of, place_of}
 use Rattle.netlist.specs.declared.Limits.{Limits}
+use Rattle.netlist.specs.declared.Layout.{Layout}
 use Rattle.netlist.specs.Netlist.{Cell, Port}
 use Rattle.netlist.specs.Fields.{cell_at, cellEnd, cellsAt, portAt, portEnd, portsAt}
 use Rattle.netlist.specs.Shape.{FitsCell, FitsPort}
@@ -47,36 +48,53 @@ pub record Emits (P : Limits → Type 0) (l : Lists) (t : Tapes) (w : Writer (Un
 abbrev pub Work : List ℕ → Type 0
 Work work = 16384 ≤ length work
 
--- A CELL
--- the lists and works at entry, the tapes, the wire map; the constants' signals and the cell's number; the cell; the answer, and the lists at exit
+-- every word of the table of what cells have read is of an earlier expression: the next cell has read nothing
+abbrev pub Old : Tapes → List ℕ → Type 0
+Old t seen = (w : ℕ) → get_or seen w 0 ≤ t.exprs.count
+
+abbrev pub OldAfter : Answer (Unit {0}) → List ℕ → Type 0
+OldAfter (Done u t) seen = Old t seen
+OldAfter (Failed number place) seen = Unit {0}
+
+-- if P holds and the table is old, w was written, and the table is old again
+pub record Shares (P : Limits → Type 0) (l : Lists) (t : Tapes) (seen : List ℕ) (w : Writer (Unit {0})) (r : Stated) (l' : Lists) (seen' : List ℕ) : Type 0 where
+  pub so : (limits : Limits) → P limits → Old t seen → Wrote l t w (stated r) l'
+  pub old : (limits : Limits) → P limits → Old t seen → OldAfter (stated r) seen'
+
+-- A CELL, which shares the reads of the wires that the table has
+-- the lists, works and the table at entry, the tapes, the wire map; the constants' signals and the cell's number; the cell; the answer, and the lists and the table at exit
 
 abbrev pub CellFits : List ℕ → List ℕ → Cell → Limits → Type 0
 CellFits parts values x limits = Work parts × Work values × FitsCell limits x
 
-abbrev pub EmitsCell : Lists → List ℕ → List ℕ → Tapes → Wires → Constants → ℕ → Cell → Stated → Lists → Type 0
-EmitsCell l parts values t m z owner x r l' = Emits (CellFits parts values x) l t (emitCell m z owner x) r l'
+abbrev pub EmitsCell : Lists → List ℕ → List ℕ → List ℕ → Tapes → Wires → Constants → ℕ → Cell → Stated → Lists → List ℕ → Type 0
+EmitsCell l parts values seen t m z owner x r l' seen' = Shares (CellFits parts values x) l t seen (emitCell (length seen) m z owner x) r l' seen'
 
 -- one that takes no work
-abbrev pub EmitsDistributed : Lists → Tapes → Wires → Constants → ℕ → Cell → Stated → Lists → Type 0
-EmitsDistributed l t m z owner x r l' = Emits (λ limits. FitsCell limits x) l t (emitCell m z owner x) r l'
+abbrev pub EmitsDistributed : Lists → List ℕ → Tapes → Wires → Constants → ℕ → Cell → Stated → Lists → List ℕ → Type 0
+EmitsDistributed l seen t m z owner x r l' seen' = Shares (λ limits. FitsCell limits x) l t seen (emitCell (length seen) m z owner x) r l' seen'
 
 -- one that takes none and declares no signal: whatever the signals hold, and its number is
-abbrev pub EmitsKind : List ℕ → List ℕ → Tapes → Wires → Cell → Stated → List ℕ → List ℕ → Type 0
-EmitsKind e s t m x r e' s' = (l : List ℕ) (z : Constants) (owner : ℕ) → Emits (λ limits. FitsCell limits x) (lists l e s) t (emitCell m z owner x) r (lists l e' s')
+abbrev pub EmitsKind : List ℕ → List ℕ → List ℕ → Tapes → Wires → Cell → Stated → List ℕ → List ℕ → List ℕ → Type 0
+EmitsKind e s seen t m x r e' s' seen' = (l : List ℕ) (z : Constants) (owner : ℕ) → Shares (λ limits. FitsCell limits x) (lists l e s) t seen (emitCell (length seen) m z owner x) r (lists l e' s') seen'
 
 -- the kinds from 5 on but for the RAMs, and all but for these
-abbrev pub EmitsLate : List ℕ → List ℕ → Tapes → Wires → List ℕ → ℕ → ℕ → Stated → List ℕ → List ℕ → Type 0
-EmitsLate e s t m words at kind r e' s' = 5 ≤ kind → (kind ≡ 6 → ⊥) → (kind ≡ 7 → ⊥) → EmitsKind e s t m (ofKind words at kind) r e' s'
+abbrev pub EmitsLate : List ℕ → List ℕ → List ℕ → Tapes → Wires → List ℕ → ℕ → ℕ → Stated → List ℕ → List ℕ → List ℕ → Type 0
+EmitsLate e s seen t m words at kind r e' s' seen' = 5 ≤ kind → (kind ≡ 6 → ⊥) → (kind ≡ 7 → ⊥) → EmitsKind e s seen t m (ofKind words at kind) r e' s' seen'
 
-abbrev pub EmitsSmall : List ℕ → List ℕ → Tapes → Wires → List ℕ → ℕ → ℕ → Stated → List ℕ → List ℕ → Type 0
-EmitsSmall e s t m words at kind r e' s' = (kind ≡ 6 → ⊥) → (kind ≡ 7 → ⊥) → EmitsKind e s t m (ofKind words at kind) r e' s'
+abbrev pub EmitsSmall : List ℕ → List ℕ → List ℕ → Tapes → Wires → List ℕ → ℕ → ℕ → Stated → List ℕ → List ℕ → List ℕ → Type 0
+EmitsSmall e s seen t m words at kind r e' s' seen' = (kind ≡ 6 → ⊥) → (kind ≡ 7 → ⊥) → EmitsKind e s seen t m (ofKind words at kind) r e' s' seen'
 
 -- n cells that fit, from an index on
 abbrev pub CellsFit : List ℕ → List ℕ → List ℕ → ℕ → ℕ → Limits → Type 0
 CellsFit parts values words at n limits = Work parts × Work values × Fitting (cell_at words) (cellEnd words) (FitsCell limits) (length words) n at
 
-abbrev pub EmitsCells : Lists → List ℕ → List ℕ → Tapes → Wires → Constants → List ℕ → ℕ → ℕ → Stated → Lists → Type 0
-EmitsCells l parts values t m z words at n r l' = Emits (CellsFit parts values words at n) l t (emitCells m z 0 (cellsAt words at n)) r l'
+abbrev pub EmitsCells : Lists → List ℕ → List ℕ → List ℕ → Tapes → Wires → Constants → List ℕ → ℕ → ℕ → Stated → Lists → List ℕ → Type 0
+EmitsCells l parts values seen t m z words at n r l' seen' = Shares (CellsFit parts values words at n) l t seen (emitCells (length seen) m z 0 (cellsAt words at n)) r l' seen'
+
+-- the cells of a layout, with a table of their own for so many wires
+pub record EmitsAll (l : Lists) (parts values : List ℕ) (t : Tapes) (m : Wires) (z : Constants) (words : List ℕ) (layout : Layout) (shared : ℕ) (r : Stated) (l' : Lists) : Type 0 where
+  pub so : shared ≤ 16384 → (limits : Limits) → CellsFit parts values words layout.start layout.cells limits → Wrote l t (emitCells shared m z 0 (cellsAt words layout.start layout.cells)) (stated r) l'
 
 -- A PORT
 -- the work has the widest port's width

@@ -58,8 +58,8 @@ emitRest m z n = emitBanks m z (collectFlipFlopBanks n.cells) >> emitOutputs m 0
 pub record EmitsRest (e s parts wires places : List ℕ) (t : Tapes) (z : Constants) (words : List ℕ) (l : Layout) (banks : List ℕ) (count : ℕ) (r : r.Stated) (e' s' : List ℕ) : Type 0 where
   pub so : (limits : Limits) → Checked limits words l → Noted words l banks count → 16384 ≤ length parts → (signals : List ℕ) → Wrote (lists signals e s) t (emitRest (wiresOf wires places) z (netlistBy words l)) (stated r) (lists signals e' s')
 
-pub record EmitsNetlist (l₀ : Lists) (parts values wires places : List ℕ) (t : Tapes) (words : List ℕ) (l : Layout) (banks : List ℕ) (count : ℕ) (r : r.Stated) (l₁ : Lists) : Type 0 where
-  pub so : (limits : Limits) → Checked limits words l → Noted words l banks count → 16384 ≤ length parts → 16384 ≤ length values → Wrote l₀ t (emitNetlist (netlistBy words l) (wiresOf wires places)) (stated r) l₁
+pub record EmitsNetlist (l₀ : Lists) (parts values wires places : List ℕ) (t : Tapes) (words : List ℕ) (l : Layout) (banks : List ℕ) (count shared : ℕ) (r : r.Stated) (l₁ : Lists) : Type 0 where
+  pub so : shared ≤ 16384 → (limits : Limits) → Checked limits words l → Noted words l banks count → 16384 ≤ length parts → 16384 ≤ length values → Wrote l₀ t (emitNetlist shared (netlistBy words l) (wiresOf wires places)) (stated r) l₁
 
 -- works for the parts of records, for values and for the banks' numbers
 pub record Roomy (parts values banks : List ℕ) : Type 0 where
@@ -67,8 +67,8 @@ pub record Roomy (parts values banks : List ℕ) : Type 0 where
   pub values-long : 16384 ≤ length values
   pub banks-long : 16384 ≤ length banks
 
-pub record RecordsNetlist (l₀ : Lists) (wires places parts values banks words : List ℕ) (l : Layout) (r : r.Stated) (l₁ : Lists) : Type 0 where
-  pub so : (limits : Limits) → Checked limits words l → Unmapped wires places → Roomy parts values banks → Wrote l₀ start (lowerNetlist (netlistBy words l)) (stated r) l₁
+pub record RecordsNetlist (l₀ : Lists) (wires places parts values banks words : List ℕ) (l : Layout) (shared : ℕ) (r : r.Stated) (l₁ : Lists) : Type 0 where
+  pub so : shared ≤ 16384 → (limits : Limits) → Checked limits words l → Unmapped wires places → Roomy parts values banks → Wrote l₀ start (lowerNetlist shared (netlistBy words l)) (stated r) l₁
 
 -- a refusal handed on
 abbrev pub unstartedOf : s.Started → r.Stated

@@ -18,6 +18,7 @@ fn emit_ram(
     stmts: &mut [u32],
     parts: &mut [u32],
     values: &mut [u32],
+    seen: &mut [u32],
     wires: &[u32],
     places: &[u32],
     t: Tapes,
@@ -27,15 +28,16 @@ fn emit_ram(
     at: usize,
 ) -> Stated
     requires { (word_at words.now at ≡ 6) ⊎ (word_at words.now at ≡ 7) }
-    ensures { EmitsCell (lists signals.old exprs.old stmts.old) parts.old values.old t (wiresOf wires.now places.now) constants owner (cell_at words.now at) result (lists signals.new exprs.new stmts.new) }
+    ensures { EmitsCell (lists signals.old exprs.old stmts.old) parts.old values.old seen.old t (wiresOf wires.now places.now) constants owner (cell_at words.now at) result (lists signals.new exprs.new stmts.new) seen.new }
 {
     if field(words, at, 0) == 6 {
         return block_ram_cell(
-            signals, exprs, stmts, parts, values, wires, places, t, constants, owner, words, at,
+            signals, exprs, stmts, parts, values, seen, wires, places, t, constants, owner, words,
+            at,
         );
     }
     distributed_ram_cell(
-        signals, exprs, stmts, wires, places, t, constants, owner, words, at,
+        signals, exprs, stmts, seen, wires, places, t, constants, owner, words, at,
     )
 }
 
@@ -46,6 +48,7 @@ fn emit_cell(
     stmts: &mut [u32],
     parts: &mut [u32],
     values: &mut [u32],
+    seen: &mut [u32],
     wires: &[u32],
     places: &[u32],
     t: Tapes,
@@ -54,20 +57,22 @@ fn emit_cell(
     words: &[u32],
     at: usize,
 ) -> Stated
-    ensures { EmitsCell (lists signals.old exprs.old stmts.old) parts.old values.old t (wiresOf wires.now places.now) constants owner (cell_at words.now at) result (lists signals.new exprs.new stmts.new) }
+    ensures { EmitsCell (lists signals.old exprs.old stmts.old) parts.old values.old seen.old t (wiresOf wires.now places.now) constants owner (cell_at words.now at) result (lists signals.new exprs.new stmts.new) seen.new }
 {
     let kind = field(words, at, 0);
     if kind == 6 {
         return emit_ram(
-            signals, exprs, stmts, parts, values, wires, places, t, constants, owner, words, at,
+            signals, exprs, stmts, parts, values, seen, wires, places, t, constants, owner, words,
+            at,
         );
     }
     if kind == 7 {
         return emit_ram(
-            signals, exprs, stmts, parts, values, wires, places, t, constants, owner, words, at,
+            signals, exprs, stmts, parts, values, seen, wires, places, t, constants, owner, words,
+            at,
         );
     }
-    emit_small(exprs, stmts, wires, places, t, words, at, kind)
+    emit_small(exprs, stmts, seen, wires, places, t, words, at, kind)
 }
 
 // The n cells from an index on, numbered from 0.
@@ -77,6 +82,7 @@ pub fn emit_cells(
     stmts: &mut [u32],
     parts: &mut [u32],
     values: &mut [u32],
+    seen: &mut [u32],
     wires: &[u32],
     places: &[u32],
     t: Tapes,
@@ -85,14 +91,15 @@ pub fn emit_cells(
     at: usize,
     n: u32,
 ) -> Stated
-    ensures { EmitsCells (lists signals.old exprs.old stmts.old) parts.old values.old t (wiresOf wires.now places.now) constants words.now at n result (lists signals.new exprs.new stmts.new) }
+    ensures { EmitsCells (lists signals.old exprs.old stmts.old) parts.old values.old seen.old t (wiresOf wires.now places.now) constants words.now at n result (lists signals.new exprs.new stmts.new) seen.new }
 {
     let mut now = t;
     let mut place = at;
     let mut i = 0;
     while i < n {
         let r = emit_cell(
-            signals, exprs, stmts, parts, values, wires, places, now, constants, i, words, place,
+            signals, exprs, stmts, parts, values, seen, wires, places, now, constants, i, words,
+            place,
         );
         let Stated::Done(next) = r else {
             return r;

@@ -22,66 +22,74 @@ fn truth_table(word: u32) -> u16
 fn lut4_cell(
     exprs: &mut [u32],
     stmts: &mut [u32],
+    seen: &mut [u32],
     wires: &[u32],
     places: &[u32],
     t: Tapes,
     words: &[u32],
     at: usize,
 ) -> Stated
-    ensures { EmitsKind exprs.old stmts.old t (wiresOf wires.now places.now) (lut4At words.now at) result exprs.new stmts.new }
+    ensures { EmitsKind exprs.old stmts.old seen.old t (wiresOf wires.now places.now) (lut4At words.now at) result exprs.new stmts.new seen.new }
 {
     let inputs = bits4(words, at, 1);
     let output = field(words, at, 5);
     let init = truth_table(field(words, at, 6));
-    emit_lut4(exprs, stmts, wires, places, t, inputs, output, init)
+    emit_lut4(exprs, stmts, seen, wires, places, t, inputs, output, init)
 }
 
 fn pfumx_cell(
     exprs: &mut [u32],
     stmts: &mut [u32],
+    seen: &mut [u32],
     wires: &[u32],
     places: &[u32],
     t: Tapes,
     words: &[u32],
     at: usize,
 ) -> Stated
-    ensures { EmitsKind exprs.old stmts.old t (wiresOf wires.now places.now) (pfumxAt words.now at) result exprs.new stmts.new }
+    ensures { EmitsKind exprs.old stmts.old seen.old t (wiresOf wires.now places.now) (pfumxAt words.now at) result exprs.new stmts.new seen.new }
 {
     let f = pfumx_at(words, at);
     let high = f.lut_true;
     let low = f.lut_false;
     let select = f.select;
-    emit_pfumx(exprs, stmts, wires, places, t, high, low, select, f.output)
+    emit_pfumx(
+        exprs, stmts, seen, wires, places, t, high, low, select, f.output,
+    )
 }
 
 fn l6mux21_cell(
     exprs: &mut [u32],
     stmts: &mut [u32],
+    seen: &mut [u32],
     wires: &[u32],
     places: &[u32],
     t: Tapes,
     words: &[u32],
     at: usize,
 ) -> Stated
-    ensures { EmitsKind exprs.old stmts.old t (wiresOf wires.now places.now) (l6mux21At words.now at) result exprs.new stmts.new }
+    ensures { EmitsKind exprs.old stmts.old seen.old t (wiresOf wires.now places.now) (l6mux21At words.now at) result exprs.new stmts.new seen.new }
 {
     let f = l6mux21_at(words, at);
     let low = f.data_zero;
     let high = f.data_one;
     let select = f.select;
-    emit_l6mux21(exprs, stmts, wires, places, t, low, high, select, f.output)
+    emit_l6mux21(
+        exprs, stmts, seen, wires, places, t, low, high, select, f.output,
+    )
 }
 
 fn ccu2c_cell(
     exprs: &mut [u32],
     stmts: &mut [u32],
+    seen: &mut [u32],
     wires: &[u32],
     places: &[u32],
     t: Tapes,
     words: &[u32],
     at: usize,
 ) -> Stated
-    ensures { EmitsKind exprs.old stmts.old t (wiresOf wires.now places.now) (ccu2cAt words.now at) result exprs.new stmts.new }
+    ensures { EmitsKind exprs.old stmts.old seen.old t (wiresOf wires.now places.now) (ccu2cAt words.now at) result exprs.new stmts.new seen.new }
 {
     let inputs = ccu2c_inputs(words, at);
     let f = ccu2c_at(words, at);
@@ -92,20 +100,21 @@ fn ccu2c_cell(
     let init = [init0, init1];
     let inject = [f.inject0, f.inject1];
     emit_ccu2c(
-        exprs, stmts, wires, places, t, inputs, carry, sums, f.carry, init, inject,
+        exprs, stmts, seen, wires, places, t, inputs, carry, sums, f.carry, init, inject,
     )
 }
 
 fn io_cell(
     exprs: &mut [u32],
     stmts: &mut [u32],
+    seen: &mut [u32],
     wires: &[u32],
     places: &[u32],
     t: Tapes,
     words: &[u32],
     at: usize,
 ) -> Stated
-    ensures { EmitsKind exprs.old stmts.old t (wiresOf wires.now places.now) (ioAt words.now at) result exprs.new stmts.new }
+    ensures { EmitsKind exprs.old stmts.old seen.old t (wiresOf wires.now places.now) (ioAt words.now at) result exprs.new stmts.new seen.new }
 {
     let f = io_at(words, at);
     let driven = f.fabric_output;
@@ -113,6 +122,7 @@ fn io_cell(
     emit_io(
         exprs,
         stmts,
+        seen,
         wires,
         places,
         t,
@@ -127,6 +137,7 @@ fn io_cell(
 fn emit_late(
     exprs: &mut [u32],
     stmts: &mut [u32],
+    seen: &mut [u32],
     wires: &[u32],
     places: &[u32],
     t: Tapes,
@@ -134,11 +145,11 @@ fn emit_late(
     at: usize,
     kind: u32,
 ) -> Stated
-    ensures { EmitsLate exprs.old stmts.old t (wiresOf wires.now places.now) words.now at kind result exprs.new stmts.new }
+    ensures { EmitsLate exprs.old stmts.old seen.old t (wiresOf wires.now places.now) words.now at kind result exprs.new stmts.new seen.new }
 {
     match kind {
         5 => Stated::Done(t),
-        8 => io_cell(exprs, stmts, wires, places, t, words, at),
+        8 => io_cell(exprs, stmts, seen, wires, places, t, words, at),
         9 => emit_idle_jtagg(stmts, wires, places, t, words, at),
         _ => emit_cycle_pll(exprs, stmts, wires, places, t, words, at),
     }
@@ -148,6 +159,7 @@ fn emit_late(
 pub fn emit_small(
     exprs: &mut [u32],
     stmts: &mut [u32],
+    seen: &mut [u32],
     wires: &[u32],
     places: &[u32],
     t: Tapes,
@@ -155,14 +167,14 @@ pub fn emit_small(
     at: usize,
     kind: u32,
 ) -> Stated
-    ensures { EmitsSmall exprs.old stmts.old t (wiresOf wires.now places.now) words.now at kind result exprs.new stmts.new }
+    ensures { EmitsSmall exprs.old stmts.old seen.old t (wiresOf wires.now places.now) words.now at kind result exprs.new stmts.new seen.new }
 {
     match kind {
-        0 => lut4_cell(exprs, stmts, wires, places, t, words, at),
-        1 => pfumx_cell(exprs, stmts, wires, places, t, words, at),
-        2 => l6mux21_cell(exprs, stmts, wires, places, t, words, at),
-        3 => ccu2c_cell(exprs, stmts, wires, places, t, words, at),
-        4 => emit_multiplier(exprs, stmts, wires, places, t, words, at),
-        _ => emit_late(exprs, stmts, wires, places, t, words, at, kind),
+        0 => lut4_cell(exprs, stmts, seen, wires, places, t, words, at),
+        1 => pfumx_cell(exprs, stmts, seen, wires, places, t, words, at),
+        2 => l6mux21_cell(exprs, stmts, seen, wires, places, t, words, at),
+        3 => ccu2c_cell(exprs, stmts, seen, wires, places, t, words, at),
+        4 => emit_multiplier(exprs, stmts, seen, wires, places, t, words, at),
+        _ => emit_late(exprs, stmts, seen, wires, places, t, words, at, kind),
     }
 }

@@ -19,6 +19,7 @@ pub fn block_ram_cell(
     stmts: &mut [u32],
     parts: &mut [u32],
     values: &mut [u32],
+    seen: &mut [u32],
     wires: &[u32],
     places: &[u32],
     t: Tapes,
@@ -27,7 +28,7 @@ pub fn block_ram_cell(
     words: &[u32],
     at: usize,
 ) -> Stated
-    ensures { EmitsCell (lists signals.old exprs.old stmts.old) parts.old values.old t (wiresOf wires.now places.now) constants owner (blockRamAt words.now at) result (lists signals.new exprs.new stmts.new) }
+    ensures { EmitsCell (lists signals.old exprs.old stmts.old) parts.old values.old seen.old t (wiresOf wires.now places.now) constants owner (blockRamAt words.now at) result (lists signals.new exprs.new stmts.new) seen.new }
 {
     let written = address(words, at, 4);
     let read = address(words, at, 20);
@@ -41,6 +42,7 @@ pub fn block_ram_cell(
         stmts,
         &mut parts[..p],
         &mut values[..v],
+        seen,
         wires,
         places,
         t,
@@ -59,6 +61,7 @@ pub fn distributed_ram_cell(
     signals: &mut [u32],
     exprs: &mut [u32],
     stmts: &mut [u32],
+    seen: &mut [u32],
     wires: &[u32],
     places: &[u32],
     t: Tapes,
@@ -67,7 +70,7 @@ pub fn distributed_ram_cell(
     words: &[u32],
     at: usize,
 ) -> Stated
-    ensures { EmitsDistributed (lists signals.old exprs.old stmts.old) t (wiresOf wires.now places.now) constants owner (distributedRamAt words.now at) result (lists signals.new exprs.new stmts.new) }
+    ensures { EmitsDistributed (lists signals.old exprs.old stmts.old) seen.old t (wiresOf wires.now places.now) constants owner (distributedRamAt words.now at) result (lists signals.new exprs.new stmts.new) seen.new }
 {
     if field(words, at, 21) == 1 {
         return Stated::Refused(Refusal::UnsupportedTrueDualPortMemory(wide(owner)));
@@ -75,6 +78,6 @@ pub fn distributed_ram_cell(
     let written = bits4(words, at, 1);
     let read = bits4(words, at, 11);
     emit_distributed_ram(
-        signals, exprs, stmts, wires, places, t, constants, owner, words, at, written, read,
+        signals, exprs, stmts, seen, wires, places, t, constants, owner, words, at, written, read,
     )
 }

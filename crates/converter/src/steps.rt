@@ -2,6 +2,8 @@
 ghost use Rattle.std.specs.Prelude.{◌≡◌};
 ghost use Rattle.recorder.specs.Lists.{lists};
 ghost use Rattle.lowering.specs.Lower.{start};
+ghost use Rattle.wires.specs.Wires.{wiresOf};
+ghost use Rattle.converter.specs.Emits.{EmitsAll};
 ghost use Rattle.converter.specs.Steps.{ReservesNetlist, EmitsRest, EmitsNetlist, RecordsNetlist, unstartedOf};
 
 use crate::bank::reserve_flip_flop_banks;
@@ -11,8 +13,11 @@ use crate::constants::{Started, emit_constants};
 use crate::outputs::emit_outputs;
 use crate::ports::reserve_ports;
 use crate::register::emit_flip_flop_banks;
+use crate::WORK;
 use crate::reserve::reserve_cells;
+use crate::zeros::cut;
 use netlist::Layout;
+use netlist::fields::wide;
 use recorder::{Stated, Tape, Tapes};
 use wires::Constants;
 
@@ -113,6 +118,42 @@ fn unstarted(r: Started) -> Stated
     }
 }
 
+// All cells, each of which shares its reads of so many wires by itself. The table of what has been read begins with zeros.
+fn emit_shared_cells(
+    signals: &mut [u32],
+    exprs: &mut [u32],
+    stmts: &mut [u32],
+    parts: &mut [u32],
+    values: &mut [u32],
+    wires: &[u32],
+    places: &[u32],
+    t: Tapes,
+    constants: Constants,
+    words: &[u32],
+    layout: Layout,
+    shared: u32,
+) -> Stated
+    ensures { EmitsAll (lists signals.old exprs.old stmts.old) parts.old values.old t (wiresOf wires.now places.now) constants words.now layout shared result (lists signals.new exprs.new stmts.new) }
+{
+    let mut table = [0u32; WORK];
+    let n = cut(&table, wide(shared));
+    emit_cells(
+        signals,
+        exprs,
+        stmts,
+        parts,
+        values,
+        &mut table[..n],
+        wires,
+        places,
+        t,
+        constants,
+        words,
+        layout.start,
+        layout.cells,
+    )
+}
+
 fn emit_netlist(
     signals: &mut [u32],
     exprs: &mut [u32],
@@ -126,26 +167,16 @@ fn emit_netlist(
     layout: Layout,
     banks: &[u32],
     count: u32,
+    shared: u32,
 ) -> Stated
-    ensures { EmitsNetlist (lists signals.old exprs.old stmts.old) parts.old values.old wires.now places.now t words.now layout banks.now count result (lists signals.new exprs.new stmts.new) }
+    ensures { EmitsNetlist (lists signals.old exprs.old stmts.old) parts.old values.old wires.now places.now t words.now layout banks.now count shared result (lists signals.new exprs.new stmts.new) }
 {
     let r = emit_constants(signals, exprs, stmts, t);
     let Started::Done(constants, first) = r else {
         return unstarted(r);
     };
-    let q = emit_cells(
-        signals,
-        exprs,
-        stmts,
-        parts,
-        values,
-        wires,
-        places,
-        first,
-        constants,
-        words,
-        layout.start,
-        layout.cells,
+    let q = emit_shared_cells(
+        signals, exprs, stmts, parts, values, wires, places, first, constants, words, layout, shared,
     );
     let Stated::Done(next) = q else {
         return q;
@@ -167,8 +198,9 @@ pub fn record_netlist(
     banks: &mut [u32],
     words: &[u32],
     layout: Layout,
+    shared: u32,
 ) -> Stated
-    ensures { RecordsNetlist (lists signals.old exprs.old stmts.old) wires.old places.old parts.old values.old banks.old words.now layout result (lists signals.new exprs.new stmts.new) }
+    ensures { RecordsNetlist (lists signals.old exprs.old stmts.old) wires.old places.old parts.old values.old banks.old words.now layout shared result (lists signals.new exprs.new stmts.new) }
 {
     let count = collect_flip_flop_banks(words, layout.start, layout.cells, banks, parts, values);
     let r = reserve_netlist(signals, wires, places, words, layout, banks, count);
@@ -177,5 +209,6 @@ pub fn record_netlist(
     };
     emit_netlist(
         signals, exprs, stmts, parts, values, wires, places, t, words, layout, banks, count,
+        shared,
     )
 }
