@@ -1,18 +1,19 @@
 -- The P case of document 01 that lowering decides, and small netlists for each refusal, exactly full lists, PLL wires and banks.
-use Rattle.std.specs.Prelude.{◌≡◌, refl, List, [], ◌∷◌, ◌++◌, map, ℕ}
+use Rattle.std.specs.Prelude.{◌≡◌, refl, List, [], ◌∷◌, ◌++◌, map, replicate, ℕ, zero, suc}
 use Rattle.netlist.specs.Reader.{base}
 use Rattle.recorder.specs.Writer.{◌>>=◌}
 use Rattle.recorder.specs.Lists.{play, fits, over}
 use Rattle.behaviour.specs.Banks.{collectFlipFlopBanks, banksFrom, leadersFrom, flipFlopsFrom, bankIn, members_of}
-use Rattle.wires.specs.Expressions.{wireRef, bitExpression, bitSignal, assertedExpression, concatParts, vectorExpression, vectorParts, readBits, assignWire}
+use Rattle.wires.specs.Seen.{nothingSeen, standing, noted}
+use Rattle.wires.specs.Expressions.{wireRef, bitExpression, bitSignal, assertedExpression, bitOnce, assertedOnce, readBits, concatParts, vectorParts, vectorOnce, vectorExpression, assignWire}
 use Rattle.optimize.specs.Rewrite.{muxOf, xorOf, emitRewrite}
 use Rattle.optimize.specs.Lut.{lutCofactor, joinCofactors, evens}
-use Rattle.cells.specs.Cells.{emitLut4, emitCyclePll, pllClocks}
+use Rattle.cells.specs.Cells.{emitLut4, emitPfumx, emitMultiplier, ccuRow, emitCcu2c, emitCyclePll, pllClocks}
 use Rattle.address_mux.specs.AddressMux.{muxLevel, muxLevels}
 use Rattle.memories.specs.Memories.{gate, writeWord, ramWord, ramWords, candidatesFrom, emitBlockRamReadPort, updateWords, emitBlockRam}
 use Rattle.lowering.specs.Reserve.{insertWire, insertBits, insertWires, reserveScalar, reserveScalars, reserveVector, reserveAbsent, reserveCellOutput, reserveCells, reservePort, reservePorts, reserveFlipFlopBanks}
 use Rattle.lowering.specs.Emit.{nextBit, nextBits, resetBits, emitFlipFlopBank, emitBanks, emitCell, emitCells, emitOutputs}
-use Rattle.lowering.specs.Lower.{Lowered, Accepted, Refused, lowered, lowerNetlist, reserveNetlist, emitNetlist, emitConstants, overdrivenFrom, statementsOn, lowerWords}
+use Rattle.lowering.specs.Lower.{Lowered, Accepted, Refused, lowered, lowerNetlist, reserveNetlist, emitNetlist, emitConstants, overdrivenFrom, statementsOn, lowerSharing, lowerWords}
 
 -- words; the lengths of the three lists; the counts of an accepted model, or number and place
 pub record Row : Type 0 where
@@ -29,7 +30,11 @@ saidBy (Refused number place) = number ∷ place ∷ []
 abbrev pub lowering : Row → List ℕ
 lowering r = saidBy (lowerWords base r.words r.signals r.exprs r.stmts).answer
 
--- a LUT4 of one input bit, with this output wire
+-- a LUT4 of these input bits, with this output wire and truth table
+abbrev pub lutWith : List ℕ → ℕ → ℕ → List ℕ
+lutWith bits wire init = 0 ∷ (bits ++ (wire ∷ init ∷ []))
+
+-- one of one input bit
 abbrev pub lutOf : ℕ → ℕ → List ℕ
 lutOf bit wire = 0 ∷ bit ∷ 0 ∷ 0 ∷ 0 ∷ wire ∷ 0 ∷ []
 
@@ -37,14 +42,19 @@ lutOf bit wire = 0 ∷ bit ∷ 0 ∷ 0 ∷ 0 ∷ wire ∷ 0 ∷ []
 abbrev pub flopOf : ℕ → ℕ → List ℕ → List ℕ
 flopOf wire clock reset = 5 ∷ 0 ∷ wire ∷ clock ∷ 0 ∷ 0 ∷ 0 ∷ 0 ∷ reset
 
--- a block RAM of one word of one bit, with this output wire and clock enable; all else is constant
+-- from x on, so many
+abbrev pub upwards : ℕ → ℕ → List ℕ
+upwards x zero = []
+upwards x (suc k) = x ∷ upwards (suc x) k
+
+-- a block RAM of words of one bit: depth, the lowest bits of both addresses, clock enable, data bit, output wire; all else is constant
+abbrev pub ramWith : ℕ → List ℕ → List ℕ → List ℕ → ℕ → ℕ → List ℕ
+ramWith depth written read enable bit wire =
+    6 ∷ depth ∷ 1 ∷ 1 ∷ (written ++ (replicate 12 0 ++ (1 ∷ 1 ∷ (read ++ (replicate 12 0 ++ (0 ∷ 0 ∷ 0 ∷ (enable ++ (0 ∷ 0 ∷ 0 ∷ bit ∷ wire ∷ []))))))))
+
+-- one of one word, with this output wire and clock enable; all else is constant
 abbrev pub ramOf : ℕ → List ℕ → List ℕ
-ramOf wire enable =
-    6 ∷ 1 ∷ 1 ∷ 1 ∷
-    0 ∷ 0 ∷ 0 ∷ 0 ∷ 0 ∷ 0 ∷ 0 ∷ 0 ∷ 0 ∷ 0 ∷ 0 ∷ 0 ∷ 0 ∷ 0 ∷
-    1 ∷ 1 ∷
-    0 ∷ 0 ∷ 0 ∷ 0 ∷ 0 ∷ 0 ∷ 0 ∷ 0 ∷ 0 ∷ 0 ∷ 0 ∷ 0 ∷ 0 ∷ 0 ∷
-    0 ∷ 0 ∷ 0 ∷ (enable ++ (0 ∷ 0 ∷ 0 ∷ 0 ∷ wire ∷ []))
+ramOf wire enable = ramWith 1 (0 ∷ 0 ∷ []) (0 ∷ 0 ∷ []) enable 0 wire
 
 abbrev pub cases : List Row
 cases =
@@ -76,8 +86,36 @@ cases =
     -- a clock enable whose wire is missing; one that is a bit of two is read as any bit
     record { words = ramOf 0 (1 ∷ 7 ∷ 1 ∷ []) ++ (0 ∷ 0 ∷ 0 ∷ 1 ∷ []); signals = 99; exprs = 99; stmts = 99; answer = 8 ∷ 5 ∷ [] } ∷
     record { words = 0 ∷ 2 ∷ 2 ∷ 3 ∷ (ramOf 9 (1 ∷ 3 ∷ 1 ∷ []) ++ (0 ∷ 1 ∷ 4 ∷ 1 ∷ [])); signals = 99; exprs = 99; stmts = 99; answer = 5 ∷ 15 ∷ 4 ∷ [] } ∷
+    -- READS THAT A CELL SHARES, in lists that they just fill: a LUT4 of two equal inputs reads one time, and their exclusive or is zero;
+    -- so is that of its own output. One word less is refused
+    record { words = 0 ∷ 1 ∷ 2 ∷ 1 ∷ 1 ∷ 3 ∷ (lutWith (2 ∷ 2 ∷ 0 ∷ 0 ∷ []) 1 26214 ++ (0 ∷ 2 ∷ 6 ∷ 1 ∷ [])); signals = 20; exprs = 18; stmts = 16; answer = 5 ∷ 4 ∷ 4 ∷ [] } ∷
+    record { words = 0 ∷ 1 ∷ 2 ∷ 1 ∷ 1 ∷ 3 ∷ (lutWith (2 ∷ 2 ∷ 0 ∷ 0 ∷ []) 1 26214 ++ (0 ∷ 2 ∷ 6 ∷ 1 ∷ [])); signals = 20; exprs = 17; stmts = 16; answer = 2 ∷ 1 ∷ [] } ∷
+    record { words = 1 ∷ 1 ∷ 2 ∷ (lutWith (2 ∷ 2 ∷ 0 ∷ 0 ∷ []) 0 26214 ++ (0 ∷ 1 ∷ 3 ∷ 1 ∷ [])); signals = 16; exprs = 18; stmts = 16; answer = 4 ∷ 4 ∷ 4 ∷ [] } ∷
+    -- three equal inputs, whose exclusive or is the input; four, of which there are three ands
+    record { words = 0 ∷ 1 ∷ 2 ∷ 1 ∷ 1 ∷ 3 ∷ (lutWith (2 ∷ 2 ∷ 2 ∷ 0 ∷ []) 1 38550 ++ (0 ∷ 2 ∷ 6 ∷ 1 ∷ [])); signals = 20; exprs = 18; stmts = 16; answer = 5 ∷ 4 ∷ 4 ∷ [] } ∷
+    record { words = 0 ∷ 1 ∷ 2 ∷ 1 ∷ 1 ∷ 3 ∷ (lutWith (2 ∷ 2 ∷ 2 ∷ 2 ∷ []) 1 32768 ++ (0 ∷ 2 ∷ 6 ∷ 1 ∷ [])); signals = 20; exprs = 33; stmts = 16; answer = 5 ∷ 7 ∷ 4 ∷ [] } ∷
+    -- two LUT4s of one wire read it twice: each cell shares by itself
+    record { words = 0 ∷ 1 ∷ 2 ∷ (lutWith (2 ∷ 0 ∷ 0 ∷ 0 ∷ []) 1 43690 ++ (lutWith (2 ∷ 0 ∷ 0 ∷ 0 ∷ []) 2 43690 ++ (0 ∷ 1 ∷ 3 ∷ 2 ∷ []))); signals = 20; exprs = 18; stmts = 16; answer = 5 ∷ 4 ∷ 4 ∷ [] } ∷
+    -- a CCU2C whose rows have the same two inputs, one of them its carry in: two reads, six exclusive ors, two muxes
+    record { words = 0 ∷ 2 ∷ 2 ∷ 3 ∷ 3 ∷ 2 ∷ 3 ∷ 0 ∷ 0 ∷ 3 ∷ 2 ∷ 0 ∷ 0 ∷ 2 ∷ 2 ∷ 3 ∷ 4 ∷ 26214 ∷ 26214 ∷ 0 ∷ 0 ∷ 0 ∷ 1 ∷ 4 ∷ 1 ∷ []; signals = 24; exprs = 60; stmts = 20; answer = 6 ∷ 12 ∷ 5 ∷ [] } ∷
+    -- a PFUMX of equal arms is the arm
+    record { words = 0 ∷ 2 ∷ 2 ∷ 3 ∷ 1 ∷ 2 ∷ 2 ∷ 3 ∷ 2 ∷ 0 ∷ 1 ∷ 4 ∷ 1 ∷ []; signals = 16; exprs = 18; stmts = 12; answer = 4 ∷ 4 ∷ 3 ∷ [] } ∷
+    -- a multiplier whose factors are the same wires: 18 reads, two concats
+    record { words = 0 ∷ 18 ∷ (upwards 2 18 ++ (4 ∷ (upwards 2 18 ++ (upwards 2 18 ++ (upwards 18 36 ++ (0 ∷ 1 ∷ 20 ∷ 1 ∷ [])))))); signals = 16; exprs = 181; stmts = 12; answer = 4 ∷ 23 ∷ 3 ∷ [] } ∷
+    -- a block RAM of three words whose addresses are the same wires: two reads, two concats
+    record { words = 0 ∷ 2 ∷ 2 ∷ 3 ∷ (ramWith 3 (2 ∷ 3 ∷ []) (2 ∷ 3 ∷ []) (0 ∷ 0 ∷ 0 ∷ []) 0 2 ++ (0 ∷ 1 ∷ 4 ∷ 1 ∷ [])); signals = 28; exprs = 162; stmts = 40; answer = 7 ∷ 33 ∷ 6 ∷ [] } ∷
+    -- one whose data bit is the wire of its own read, with a clock enable: the own read stands, only its mux is new
+    record { words = ramWith 1 (0 ∷ 0 ∷ []) (0 ∷ 0 ∷ []) (1 ∷ 0 ∷ 1 ∷ []) 2 0 ++ (0 ∷ 0 ∷ 0 ∷ 1 ∷ []); signals = 16; exprs = 68; stmts = 24; answer = 4 ∷ 14 ∷ 4 ∷ [] } ∷
+    -- NOTHING IS SHARED in a bank: a flip-flop whose data is its enable; nor in an output port of one wire twice
+    record { words = 0 ∷ 1 ∷ 2 ∷ 5 ∷ 2 ∷ 1 ∷ 1 ∷ 0 ∷ 1 ∷ 2 ∷ 1 ∷ 0 ∷ 0 ∷ 0 ∷ 0 ∷ 0 ∷ 0 ∷ 1 ∷ 3 ∷ 1 ∷ []; signals = 16; exprs = 29; stmts = 16; answer = 4 ∷ 6 ∷ 3 ∷ [] } ∷
+    record { words = 0 ∷ 1 ∷ 2 ∷ 1 ∷ 2 ∷ 2 ∷ 2 ∷ 0 ∷ 2 ∷ 7 ∷ 0 ∷ []; signals = 16; exprs = 23; stmts = 12; answer = 4 ∷ 5 ∷ 3 ∷ [] } ∷
     []
 
 pub cases-hold : map lowering cases ≡ map (λ (r : Row). r.answer) cases
-unfolding lowered lowerNetlist reserveNetlist emitNetlist emitConstants emitCells emitCell emitBanks emitOutputs emitFlipFlopBank nextBits nextBit resetBits reservePorts reservePort reserveCells reserveCellOutput reserveScalar reserveScalars reserveVector reserveAbsent reserveFlipFlopBanks insertBits insertWire insertWires overdrivenFrom statementsOn play fits over ◌>>=◌ collectFlipFlopBanks banksFrom leadersFrom flipFlopsFrom bankIn members_of emitLut4 readBits bitExpression wireRef lutCofactor joinCofactors evens muxOf xorOf emitRewrite assignWire emitCyclePll pllClocks bitSignal assertedExpression concatParts vectorExpression vectorParts muxLevel muxLevels gate writeWord ramWord ramWords candidatesFrom emitBlockRamReadPort updateWords emitBlockRam
+unfolding lowered lowerNetlist reserveNetlist emitNetlist emitConstants emitCells emitCell emitBanks emitOutputs emitFlipFlopBank nextBits nextBit resetBits reservePorts reservePort reserveCells reserveCellOutput reserveScalar reserveScalars reserveVector reserveAbsent reserveFlipFlopBanks insertBits insertWire insertWires overdrivenFrom statementsOn play fits over ◌>>=◌ collectFlipFlopBanks banksFrom leadersFrom flipFlopsFrom bankIn members_of emitLut4 emitPfumx emitMultiplier ccuRow emitCcu2c nothingSeen standing noted bitOnce assertedOnce readBits bitExpression wireRef lutCofactor joinCofactors evens muxOf xorOf emitRewrite assignWire emitCyclePll pllClocks bitSignal assertedExpression concatParts vectorExpression vectorOnce vectorParts muxLevel muxLevels gate writeWord ramWord ramWords candidatesFrom emitBlockRamReadPort updateWords emitBlockRam
 cases-hold = refl
+
+-- the same LUT4 where nothing is shared: two reads, and their exclusive or
+pub unshared : saidBy (lowerSharing 0 base (0 ∷ 1 ∷ 2 ∷ 1 ∷ 1 ∷ 3 ∷ (lutWith (2 ∷ 2 ∷ 0 ∷ 0 ∷ []) 1 26214 ++ (0 ∷ 2 ∷ 6 ∷ 1 ∷ []))) 20 28 16).answer ≡ 5 ∷ 6 ∷ 4 ∷ []
+unfolding lowered lowerNetlist reserveNetlist emitNetlist emitConstants emitCells emitCell emitBanks emitOutputs emitFlipFlopBank nextBits nextBit resetBits reservePorts reservePort reserveCells reserveCellOutput reserveScalar reserveScalars reserveVector reserveAbsent reserveFlipFlopBanks insertBits insertWire insertWires overdrivenFrom statementsOn play fits over ◌>>=◌ collectFlipFlopBanks banksFrom leadersFrom flipFlopsFrom bankIn members_of emitLut4 emitPfumx emitMultiplier ccuRow emitCcu2c nothingSeen standing noted bitOnce assertedOnce readBits bitExpression wireRef lutCofactor joinCofactors evens muxOf xorOf emitRewrite assignWire emitCyclePll pllClocks bitSignal assertedExpression concatParts vectorExpression vectorOnce vectorParts muxLevel muxLevels gate writeWord ramWord ramWords candidatesFrom emitBlockRamReadPort updateWords emitBlockRam
+unshared = refl
