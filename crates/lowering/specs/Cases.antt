@@ -111,11 +111,10 @@ cases =
     record { words = 0 ∷ 1 ∷ 2 ∷ 1 ∷ 2 ∷ 2 ∷ 2 ∷ 0 ∷ 2 ∷ 7 ∷ 0 ∷ []; signals = 16; exprs = 23; stmts = 12; answer = 4 ∷ 5 ∷ 3 ∷ [] } ∷
     []
 
-pub cases-hold : map lowering cases ≡ map (λ (r : Row). r.answer) cases
-unfolding lowered lowerNetlist reserveNetlist emitNetlist emitConstants emitCells emitCell emitBanks emitOutputs emitFlipFlopBank nextBits nextBit resetBits reservePorts reservePort reserveCells reserveCellOutput reserveScalar reserveScalars reserveVector reserveAbsent reserveFlipFlopBanks insertBits insertWire insertWires overdrivenFrom statementsOn play fits over ◌>>=◌ collectFlipFlopBanks banksFrom leadersFrom flipFlopsFrom bankIn members_of emitLut4 emitPfumx emitMultiplier ccuRow emitCcu2c nothingSeen standing noted bitOnce assertedOnce readBits bitExpression wireRef lutCofactor joinCofactors evens muxOf xorOf emitRewrite assignWire emitCyclePll pllClocks bitSignal assertedExpression concatParts vectorExpression vectorOnce vectorParts muxLevel muxLevels gate writeWord ramWord ramWords candidatesFrom emitBlockRamReadPort updateWords emitBlockRam
-cases-hold = refl
+-- where nothing is shared, the first of the LUT4s with two equal inputs has two reads, and their exclusive or
+abbrev pub unshared : List ℕ
+unshared = saidBy (lowerSharing 0 base (0 ∷ 1 ∷ 2 ∷ 1 ∷ 1 ∷ 3 ∷ (lutWith (2 ∷ 2 ∷ 0 ∷ 0 ∷ []) 1 26214 ++ (0 ∷ 2 ∷ 6 ∷ 1 ∷ []))) 20 28 16).answer
 
--- the same LUT4 where nothing is shared: two reads, and their exclusive or
-pub unshared : saidBy (lowerSharing 0 base (0 ∷ 1 ∷ 2 ∷ 1 ∷ 1 ∷ 3 ∷ (lutWith (2 ∷ 2 ∷ 0 ∷ 0 ∷ []) 1 26214 ++ (0 ∷ 2 ∷ 6 ∷ 1 ∷ []))) 20 28 16).answer ≡ 5 ∷ 6 ∷ 4 ∷ []
+pub cases-hold : (map lowering cases ≡ map (λ (r : Row). r.answer) cases) × (unshared ≡ 5 ∷ 6 ∷ 4 ∷ [])
 unfolding lowered lowerNetlist reserveNetlist emitNetlist emitConstants emitCells emitCell emitBanks emitOutputs emitFlipFlopBank nextBits nextBit resetBits reservePorts reservePort reserveCells reserveCellOutput reserveScalar reserveScalars reserveVector reserveAbsent reserveFlipFlopBanks insertBits insertWire insertWires overdrivenFrom statementsOn play fits over ◌>>=◌ collectFlipFlopBanks banksFrom leadersFrom flipFlopsFrom bankIn members_of emitLut4 emitPfumx emitMultiplier ccuRow emitCcu2c nothingSeen standing noted bitOnce assertedOnce readBits bitExpression wireRef lutCofactor joinCofactors evens muxOf xorOf emitRewrite assignWire emitCyclePll pllClocks bitSignal assertedExpression concatParts vectorExpression vectorOnce vectorParts muxLevel muxLevels gate writeWord ramWord ramWords candidatesFrom emitBlockRamReadPort updateWords emitBlockRam
-unshared = refl
+cases-hold = (refl, refl)
