@@ -3,9 +3,9 @@
 # tables in Markdown. Sorts of netlists may be named: LUT4s logic carry RAM deep chain. Give it a machine with nothing else to do.
 set -eu
 cd "$(dirname "$0")/.."
-rt staticlib capi >&2
-rt check simulate >&2
-SIMULATE=$PWD/target/bin/simulate
+tools/build.sh capi >&2
+tools/build.sh simulate >&2
+SIMULATE=$PWD/crates/simulate/out/simulate
 export SIMULATE
 cd oracle
 unset RUSTFLAGS CARGO_ENCODED_RUSTFLAGS

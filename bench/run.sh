@@ -3,7 +3,7 @@
 # cargo settings. Give it a machine with nothing else to do.
 set -eu
 cd "$(dirname "$0")/.."
-rt staticlib capi
+tools/build.sh capi
 cd oracle
 unset RUSTFLAGS CARGO_ENCODED_RUSTFLAGS
 cargo build --release --offline -j1 --manifest-path ../bench/lower/Cargo.toml --target-dir target/bench

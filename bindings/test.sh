@@ -3,11 +3,11 @@
 # and, beside the oracle, on random ones. From oracle/ for its cargo settings. One to two minutes.
 set -eu
 cd "$(dirname "$0")/.."
-rt staticlib capi
+tools/build.sh capi
 bindings/signatures.py
 new=$(mktemp -d)
 trap 'rm -rf "$new"' EXIT
-cc -std=c11 -Wall -Wextra -Wpedantic -Werror -O1 -o "$new/example" bindings/c/example.c target/staticlib/libcapi.a
+cc -std=c11 -Wall -Wextra -Wpedantic -Werror -O1 -o "$new/example" bindings/c/example.c crates/capi/out/libcapi.a
 "$new/example" | diff bindings/c/example.txt -
 cd oracle
 unset RUSTFLAGS CARGO_ENCODED_RUSTFLAGS

@@ -1,8 +1,8 @@
 #!/bin/sh
-# compare-lower.sh [--clock-enables] [BATCHES [NETLISTS]]: the proved lowering (target/bin/cases_lower) against the Rust, on batches of random
+# compare-lower.sh [--clock-enables] [BATCHES [NETLISTS]]: the proved lowering (crates/cases_lower/out/cases_lower) against the Rust, on batches of random
 # netlists, seeds from 1 on; answers, counts, words used, hashes of all words and of the listing. The Rust is the amended one, and where no block
 # RAM has a clock enable also the unchanged one. With --clock-enables each netlist has a block RAM with a clock enable in both ports.
-# Needs oracle/build.sh and rt check. PROGRAM, if set, is run instead of target/bin/cases_lower.
+# Needs oracle/build.sh and tools/build.sh cases_lower. PROGRAM, if set, is run instead of crates/cases_lower/out/cases_lower.
 set -e
 focus=
 if [ "$1" = --clock-enables ]; then
@@ -11,7 +11,7 @@ if [ "$1" = --clock-enables ]; then
 fi
 cd "$(dirname "$0")"
 batches=${1:-11} netlists=${2:-20000}
-program=${PROGRAM:-../target/bin/cases_lower}
+program=${PROGRAM:-../crates/cases_lower/out/cases_lower}
 work=$(mktemp -d)
 trap 'rm -rf "$work"' EXIT
 seed=1 total=0

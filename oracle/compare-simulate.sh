@@ -1,7 +1,7 @@
 #!/bin/sh
-# compare-simulate.sh [--clock-enables] [BATCHES [CASES [TICKS [WORDS]]]]: the proved lowering and run (target/bin/simulate --batch) against the independent simulators,
+# compare-simulate.sh [--clock-enables] [BATCHES [CASES [TICKS [WORDS]]]]: the proved lowering and run (crates/simulate/out/simulate --batch) against the independent simulators,
 # on batches of random netlists of at most WORDS words and random ticks, seeds from 1 on; every line. With --clock-enables each has a block RAM
-# with a clock enable in both ports. Needs oracle/build.sh and rt check. PROGRAM, if set, is run instead of target/bin/simulate.
+# with a clock enable in both ports. Needs oracle/build.sh and tools/build.sh simulate. PROGRAM, if set, is run instead of crates/simulate/out/simulate.
 set -e
 focus=
 if [ "$1" = --clock-enables ]; then
@@ -10,7 +10,7 @@ if [ "$1" = --clock-enables ]; then
 fi
 cd "$(dirname "$0")"
 batches=${1:-20} cases=${2:-5000} ticks=${3:-40} words=${4:-16384}
-program=${PROGRAM:-../target/bin/simulate}
+program=${PROGRAM:-../crates/simulate/out/simulate}
 work=$(mktemp -d)
 trap 'rm -rf "$work"' EXIT
 seed=1

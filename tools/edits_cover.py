@@ -45,7 +45,7 @@ def functions(file, path, public):
     text = re.sub(r'(?m)//.*$', '', file.read_text())
     imports = {}
     for module, names in re.findall(r'ghost use ([^;{]+)\.\{([^}]*)\};', text):
-        crate = re.match(r'Rattle·(\w+)', module)
+        crate = re.match(r'Rattle\.(\w+)\.specs', module)
         if crate:
             spec = root / 'crates' / crate[1] / 'specs' / (module.split('specs.')[-1].replace('.', '/') + '.antt')
             for one in names.split(','):

@@ -1,11 +1,16 @@
 #!/bin/sh
-# What the programs answer to input that is too long, too short, or not in whole words. Needs `rt check`.
+# What the programs answer to input that is too long, too short, or not in whole words. Needs `tools/build.sh lower simulate`.
 set -eu
 cd "$(dirname "$0")/.."
+run_program() { # PROGRAM [ARGUMENT]
+    program=$1
+    shift
+    "crates/$program/out/$program" "$@"
+}
 try() { # EXPECTED PROGRAM [ARGUMENT], bytes on standard input
     expected=$1
     shift
-    got=$("target/bin/$@" | head -c 100)
+    got=$(run_program "$@" | head -c 100)
     [ "$got" = "$expected" ] || { echo "$*: $got, not $expected"; exit 1; }
 }
 zeros() { head -c "$1" /dev/zero; }
@@ -15,7 +20,7 @@ zeros 18 | try 'refused 3 0' lower
 zeros 65540 | try 'refused 3 0' lower
 zeros 65537 | try 'refused 3 0' lower
 zeros 65536 | try 'refused 4 0' lower
-zeros 16 | target/bin/lower | head -n 1 | grep -q '^model 2 2 2$'
+zeros 16 | crates/lower/out/lower | head -n 1 | grep -q '^model 2 2 2$'
 zeros 0 | try 'refused 3 0' simulate
 zeros 7 | try 'refused 3 0' simulate
 zeros 24 | try '' simulate

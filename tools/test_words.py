@@ -3,7 +3,7 @@
 
   tools/test_words.py [--lower PROGRAM] [--simulate PROGRAM]
 
-With --lower, each stored netlist and example also goes through that program (target/bin/lower) and its refusals and signals are held to those of
+With --lower, each stored netlist and example also goes through that program (crates/lower/out/lower) and its refusals and signals are held to those of
 words.py. With --simulate, the examples' ticks go through that program too. Without, nothing but Python is needed.
 """
 import argparse

@@ -13,7 +13,7 @@ import pathlib, re, sys
 root = pathlib.Path(__file__).resolve().parent.parent
 word = re.compile(r'[^\s(){}\[\],;."«»⌜⌝λ@]+')
 head = re.compile(r'^(\s*)((?:abbrev |unfoldable |opaque |pub )*)(record |data )?([^\s(){}:,.]+)(.*)$')
-path = re.compile(r'Rattle·(\w+?)(?:·specs|·proofs)?\.((?:specs|proofs)\.[\w.]+?)\.(?:\{([^}]*)\}|(\w[^\s.{}]*))')
+path = re.compile(r'Rattle\.(\w+?)\.((?:specs|proofs)\.[\w.+]+?)\.(?:\{([^}]*)\}|(\w[^\s.{}]*))')
 
 
 def code(text):
@@ -116,7 +116,7 @@ for f in files.values():
         for key, name in f.imports.values():
             use(key, name)
     for b in f.blocks:
-        proof = f.file.name == 'Proof.antt'
+        proof = f.file.name in ('Proof.antt', 'Answers.antt', 'Invariants.antt')
         check = f.key[1].startswith('specs.') and re.search('(Cases|Checks|Rows)$', f.key[1])
         if proof or check or f.key[0] in keep or cited & set(b['names']):
             use(f.key, b['names'][0])
@@ -138,7 +138,7 @@ for key, f in files.items():
 for f, text in sources.items():
     crate = f.relative_to(root).parts[1]
     if crate in wanted:
-        for m in re.finditer(r'(#\[no_mangle\]\s*)?pub (?:extern "C" )?fn (\w+)', text):
+        for m in re.finditer(r'(#\[unsafe\(no_mangle\)\]\s*)?pub (?:extern "C" )?fn (\w+)', text):
             others = [g for g, t in sources.items() if g != f and re.search(rf'\b{m[2]}\b', t)]
             here = len(re.findall(rf'\b{m[2]}\b', text))
             if not m[1] and not others:

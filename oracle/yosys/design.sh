@@ -1,7 +1,7 @@
 #!/bin/sh
 # design.sh [TICKS [SEED [BATCH EXPECTED]]]: the designs of design/, synthesised by Yosys, turned into words (convert.py) and run by `simulate`,
 # against Icarus Verilog on their source; the one without block RAM and multiplier also against Icarus on the netlist with Yosys' cell models.
-# Every line of every tick must be the same. Runs the proved program if target/bin/simulate is there, and the oracle's always.
+# Every line of every tick must be the same. Runs the proved program if crates/simulate/out/simulate is there, and the oracle's always.
 # Writes the cases as a batch, with Icarus' lines, where BATCH and EXPECTED are given. Needs oracle/install.sh and oracle/build.sh.
 set -e
 ticks=${1:-2500} seed=${2:-1} batch=$3 expected=$4
@@ -34,7 +34,7 @@ for top in datapath system doorlog; do
         lines $top "$work/$top.v" $cells | cmp "$work/$top.txt" -
         echo "$top: Yosys' cell models show what the source shows"
     fi
-    for simulate in "$oracle/target/release/simulate" "$oracle/../target/bin/simulate"; do
+    for simulate in "$oracle/target/release/simulate" "$oracle/../crates/simulate/out/simulate"; do
         if [ -x "$simulate" ]; then
             "$simulate" < "$work/$top.case" | cmp "$work/$top.txt" -
             echo "$top: $ticks ticks, $(wc -c < "$work/$top.words") bytes of netlist, no difference ($simulate)"

@@ -1,5 +1,5 @@
 -- Lists and works of zeros, and the judgement. Assumes nothing.
-use Prim.Native.Nat.{ℕ, zero, suc}
+use Prim.Native.Nat.{ℕ}
 use mathlib.Core.Path.{◌≡◌, refl, sym, ◌∙◌, ap, ap₂}
 use mathlib.Core.Bool.{Bool, true, false}
 use mathlib.Core.List.{List, [], ◌∷◌}
@@ -11,7 +11,7 @@ use Rattle.refusal.specs.declared.Refusal as x
 use Rattle.recorder.specs.declared.Tapes.{Tapes}
 use Rattle.recorder.specs.declared.Stated as r
 use Rattle.recorder.specs.Lists.{Lists, lists}
-use Rattle.lowering.specs.Lower.{Lowered, Accepted, Refused, judged}
+use Rattle.lowering.specs.Lower.{Refused, judged}
 use Rattle.conflict.specs.declared.Conflict as f
 use Rattle.conflict.specs.Conflicts.{foundOf}
 use Rattle.conflict.specs.Counting.{counted, lowestFrom, restored}

@@ -2,7 +2,7 @@
 use Prim.Native.Nat.{ℕ, ◌≤◌}
 use mathlib.Core.Path.{◌≡◌, refl, sym, ◌∙◌, ap, subst}
 use mathlib.Core.Bool.{Bool, true, false}
-use mathlib.Core.List.{List, [], ◌∷◌, map}
+use mathlib.Core.List.{List, [], ◌∷◌}
 use native.Mathlib.Omega.{arith}
 use lib.ListN.{length, replicate, length-replicate}
 use borrow.Author.Tests.{ltb-false}
@@ -12,7 +12,7 @@ use Rattle.netlist.specs.declared.Limits.{Limits}
 use Rattle.netlist.specs.Reader.{base}
 use Rattle.recorder.specs.Lists.{Lists, lists}
 use Rattle.recorder.specs.Words.{zeroed, blank}
-use Rattle.lowering.specs.Lower.{Lowered, Refused, Lowering, lowerWords}
+use Rattle.lowering.specs.Lower.{Refused, lowerWords}
 use Rattle.converter.specs.Steps.{Within}
 use Rattle.converter.specs.declared.Lowered as c
 use Rattle.converter.specs.Entry.{answer_of, short, anyShort, call_of, Lowers, LowersWithin, LowersLists, kept, blankOf, Keeps, Ready, Attempts, ZerosTwo, ZerosThree, ZerosFive}

@@ -1,7 +1,7 @@
 -- Loops over records, cells or ports: what was done and what is left.
-use mathlib.Core.Path.{◌≡◌, refl, ap, sym, ◌∙◌, subst, fun_ext}
+use mathlib.Core.Path.{◌≡◌, refl, ap, sym, ◌∙◌, subst}
 use mathlib.Core.List.{List, [], ◌∷◌}
-use Prim.Native.Nat.{ℕ, zero, suc, ◌+◌, ◌-◌, ◌≤◌, ◌<◌}
+use Prim.Native.Nat.{ℕ, suc, ◌+◌, ◌-◌, ◌≤◌, ◌<◌}
 use native.Mathlib.Numerals.{add-one}
 use native.Mathlib.Omega.{arith}
 use lib.ListN.{length}
@@ -15,12 +15,11 @@ use Rattle.recorder.specs.declared.Tapes.{Tapes}
 use Rattle.recorder.specs.declared.Stated.{Stated}
 use Rattle.recorder.specs.declared.Stated.TheVariants as S
 use Rattle.recorder.specs.Writer.{Writer, pure, ◌>>=◌}
-use Rattle.recorder.specs.Lists.{Lists, lists, Answer.Failed, Wrote, stated}
+use Rattle.recorder.specs.Lists.{Lists, lists, Wrote, stated}
 use Rattle.recorder.proofs.Wrote.{wrote-pure, Going, going_start, going_step, going-stop, going_end}
 use Rattle.wires.specs.declared.Constants.{Constants}
 use Rattle.wires.specs.Wires.{Wires}
 use Rattle.lowering.specs.Emit.{emitCell, emitCells, emitOutputs}
-use Rattle.converter.specs.Reserves.{Fitting}
 use Rattle.converter.specs.Emits.{Emits, emitOutput, CellsFit, PortsFit, EmitsCell, EmitsCells, EmitsPort, EmitsPorts}
 
 unfoldable pub eachOf : {A : Type 0} → (ℕ → A → Writer (Unit {0})) → ℕ → List A → Writer (Unit {0})

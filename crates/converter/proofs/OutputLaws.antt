@@ -1,11 +1,10 @@
 -- An output port.
-use mathlib.Core.Path.{◌≡◌, refl, ap, sym, ◌∙◌, subst}
-use mathlib.Core.Bool.{Bool, true, false}
+use mathlib.Core.Path.{◌≡◌, ap, sym, ◌∙◌}
+use mathlib.Core.Bool.{Bool}
 use mathlib.Core.List.{List}
 use Prim.Native.Nat.{ℕ, ◌+◌, ◌≤◌, min}
 use native.Mathlib.Nat.{add-zero}
 use native.Mathlib.Omega.{arith}
-use lib.Dec.{eqb}
 use lib.ListN.{length, take}
 use lib.Seq.{length-take-le}
 use borrow.Author.Tests.{eq-eqb, ne_eqb}
@@ -22,7 +21,7 @@ use Rattle.recorder.specs.declared.Emitted.TheVariants as E
 use Rattle.recorder.specs.declared.Stated.{Stated}
 use Rattle.recorder.specs.declared.Stated.TheVariants as S
 use Rattle.recorder.specs.Writer.{Writer, pure, state, ◌>>=◌}
-use Rattle.recorder.specs.Lists.{lists, Wrote, WroteExprs, WroteStmts, emitted, stated}
+use Rattle.recorder.specs.Lists.{WroteExprs, WroteStmts, emitted, stated}
 use Rattle.recorder.proofs.Wrote.{wrote_as, wrote-pure, then-done}
 use Rattle.wires.specs.Wires.{Wires}
 use Rattle.wires.specs.Expressions.{vectorExpression, bitsExpression, roomy}

@@ -1,37 +1,35 @@
 -- One step after another. Assumes nothing.
-use Prim.Native.Nat.{ℕ, ◌≤◌, ◌<◌}
+use Prim.Native.Nat.{ℕ, ◌≤◌}
 use mathlib.Core.Path.{◌≡◌, refl, sym, ◌∙◌, ap, subst}
-use mathlib.Core.Bool.{Bool, true, false}
+use mathlib.Core.Bool.{Bool}
 use mathlib.Core.List.{List}
 use native.Mathlib.Omega.{arith}
-use lib.Dec.{leb}
 use lib.ListN.{length}
 use borrow.Author.Tests.{le-leb}
 use Rattle.bits.specs.Bits.{pick}
 use Rattle.refusal.specs.declared.Refusal.{Refusal}
 use Rattle.netlist.specs.declared.Limits.{Limits}
 use Rattle.netlist.specs.declared.Layout.{Layout}
-use Rattle.netlist.specs.Fields.{portAt, portEnd, portsAt, cell_at, cellEnd, cellsAt}
-use Rattle.netlist.specs.Shape.{FitsPort, FitsCell}
+use Rattle.netlist.specs.Fields.{portsAt, cellsAt}
 use Rattle.behaviour.specs.Banks.{collectFlipFlopBanks}
 use Rattle.recorder.specs.declared.Tapes.{Tapes}
 use Rattle.recorder.specs.declared.Stated as r
 use Rattle.recorder.specs.Writer.{Writer, refuse, ◌>>=◌, ◌>>◌}
-use Rattle.recorder.specs.Lists.{Lists, lists, stated, Answer, Wrote, WroteSignals, WroteBoth}
+use Rattle.recorder.specs.Lists.{Lists, lists, stated, Wrote, WroteSignals, WroteBoth}
 use Rattle.recorder.proofs.Wrote.{then-done, then-stop, then_same, wrote_as}
 use Rattle.wires.specs.declared.Constants.{Constants}
-use Rattle.wires.specs.Wires.{Wires, noWires, wiresOf}
+use Rattle.wires.specs.Wires.{Wires, wiresOf}
 use Rattle.wires.specs.Expressions.{roomy}
 use Rattle.converter.specs.Tables.{mapped}
 use Rattle.lowering.specs.Reserve.{reservePorts, reserveCells, reserveFlipFlopBanks}
-use Rattle.converter.specs.Reserves.{Room, Reserves, ReservesPorts, ReservesCells, Fitting}
+use Rattle.converter.specs.Reserves.{Room, ReservesPorts, ReservesCells}
 use Rattle.lowering.specs.Emit.{emitCells, emitBanks, emitOutputs}
 use Rattle.lowering.specs.Lower.{start, emitConstants, reserveNetlist, emitNetlist, lowerNetlist}
-use Rattle.converter.specs.Banked.{Collected, Collects, Work}
+use Rattle.converter.specs.Banked.{Collects}
 use Rattle.converter.specs.Reserved.{ReservesBanks}
 use Rattle.converter.specs.BankEmits.{EmitsBanks}
 use Rattle.converter.specs.declared.constants.Started as s
-use Rattle.converter.specs.Emits.{started, Emits, EmitsCells, EmitsPorts}
+use Rattle.converter.specs.Emits.{started, EmitsCells, EmitsPorts}
 use Rattle.converter.specs.Steps.{netlistBy, Within, Checked, Unmapped, Noted, ReservesNetlist, emitRest, EmitsRest, EmitsNetlist, Roomy, RecordsNetlist, unstartedOf}
 
 room : {limits : Limits} {wires places : List ℕ} → Within limits → 16384 ≤ length wires → 16384 ≤ length places → Room limits wires places

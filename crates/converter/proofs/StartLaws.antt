@@ -1,8 +1,6 @@
 -- The constants, in two parts.
 use mathlib.Core.Path.{◌≡◌, sym}
-use Prim.Native.Nat.{ℕ}
-use Rattle.recorder.specs.Writer.{Writer, declare, ◌>>=◌}
-use Rattle.wires.specs.declared.Constants.{Constants}
+use Rattle.recorder.specs.Writer.{declare, ◌>>=◌}
 use Rattle.address_mux.proofs.Binds.{bind-two}
 use Rattle.lowering.specs.Reserve.{signalOf}
 use Rattle.lowering.specs.Lower.{emitConstants}

@@ -1,7 +1,7 @@
 -- A checked netlist's records, judged, are what the definition says. Assumes nothing.
-use Prim.Native.Nat.{ℕ, zero, suc, ◌+◌, ◌≤◌, ◌<◌}
+use Prim.Native.Nat.{ℕ, zero, suc}
 use mathlib.Core.Path.{◌≡◌, refl, sym, ◌∙◌, ap, ap₂, subst, fun_ext}
-use mathlib.Core.List.{List, [], ◌∷◌}
+use mathlib.Core.List.{List}
 use mathlib.Core.Option.{Option, none, some}
 use native.Mathlib.Omega.{arith}
 use lib.ListN.{length, get_or, replicate}
@@ -11,22 +11,21 @@ use Rattle.netlist.specs.declared.Limits.{Limits}
 use Rattle.netlist.specs.declared.Layout.{Layout}
 use Rattle.netlist.specs.Netlist.{Netlist}
 use Rattle.netlist.specs.Reader.{Read, netlist, refused, readWords}
-use Rattle.netlist.specs.Fields.{layout_of, netlistAt, end_at, portEnd, cellEnd}
+use Rattle.netlist.specs.Fields.{layout_of, netlistAt}
 use Rattle.reader.specs.declared.Checked as k
 use Rattle.reader.specs.Checks.{Checks}
-use Rattle.netlist.specs.Placed.{Laid}
 use Rattle.netlist.proofs.FieldLaws.{laid, port-placed, cell-placed}
 use Rattle.recorder.specs.declared.Tapes.{Tapes}
 use Rattle.recorder.specs.declared.Stated as r
-use Rattle.recorder.specs.Record.{Signal, Stmt, Model, signalWords, stmtWords}
-use Rattle.recorder.specs.Writer.{modelOf, Out, Writer}
-use Rattle.recorder.specs.Lists.{Lists, lists, Answer, Answer.Done, Answer.Failed, Left, stated, Wrote}
+use Rattle.recorder.specs.Record.{Model, signalWords, stmtWords}
+use Rattle.recorder.specs.Writer.{modelOf, Out}
+use Rattle.recorder.specs.Lists.{Lists, lists, Answer, Answer.Done, Left, stated, Wrote}
 use Rattle.recorder.specs.Words.{listWords, holding, holdingAll, blank}
 use Rattle.recorder.specs.Outcome.{none_yet, Ended, done, refused as turned, filled}
 use Rattle.recorder.proofs.Outcomes.{wrote-ended}
 use Rattle.wires.specs.Wires.{entry, noWires, wiresOf}
-use Rattle.lowering.specs.Lower.{start, Lowered, Accepted, Refused, Lowering, overdrivenFrom, judged, ended, lowerNetlist, lowered, loweredRead, lowerWords}
-use Rattle.converter.specs.Steps.{Within, netlistBy, Checked, Unmapped, Roomy, RecordsNetlist}
+use Rattle.lowering.specs.Lower.{start, Lowered, overdrivenFrom, judged, ended, lowerNetlist, lowered, loweredRead}
+use Rattle.converter.specs.Steps.{Within, netlistBy, Checked, Unmapped, RecordsNetlist}
 use Rattle.converter.specs.declared.Lowered as c
 use Rattle.converter.specs.Entry.{answer_of, kept, Ready, Attempts, AnswersTo}
 

@@ -1,6 +1,6 @@
 -- What the functions of next.rt and register.rt promise.
 use Rattle.std.specs.Prelude.{◌≡◌, List, [], ◌∷◌, ℕ, length}
-use Rattle.std.proofs.Math.Option.{Option, none, some}
+use Rattle.std.proofs.Math.Option.{Option, none}
 use Rattle.refusal.specs.Refusal.{number_of, place_of}
 use Rattle.netlist.specs.Netlist.{FlipFlop}
 use Rattle.netlist.specs.Fields.{cellsAt}

@@ -10,7 +10,7 @@ use Rattle.netlist.specs.Shape.{FitsCell, FitsPort}
 use Rattle.recorder.specs.declared.Tapes.{Tapes}
 use Rattle.recorder.specs.declared.Stated.{Stated}
 use Rattle.recorder.specs.Record.{Expr.const, Stmt.assign}
-use Rattle.recorder.specs.Writer.{Count, Out, Writer, pure, declare, emit, state, ◌>>=◌, ◌>>◌}
+use Rattle.recorder.specs.Writer.{Writer, pure, declare, emit, state, ◌>>=◌, ◌>>◌}
 use Rattle.recorder.specs.Lists.{Lists, lists, Answer, Answer.Done, Answer.Failed, Wrote, stated}
 use Rattle.wires.specs.declared.Constants.{Constants}
 use Rattle.wires.specs.Wires.{Wires}

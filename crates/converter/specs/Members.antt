@@ -1,5 +1,5 @@
 -- The members of a bank, by the numbers that were noted for the cells.
-use Rattle.std.specs.Prelude.{◌≡◌, List, [], ◌∷◌, ℕ, zero, suc, ◌-◌, ◌<◌, ◌≤◌, eqb, length, get_or}
+use Rattle.std.specs.Prelude.{◌≡◌, List, [], ℕ, zero, suc, ◌-◌, ◌<◌, ◌≤◌, eqb, get_or}
 use Rattle.netlist.specs.Fields.{cellEnd}
 use Rattle.behaviour.specs.Banks.{Member, kept}
 use Rattle.converter.specs.declared.members.Scan.{Scan}

@@ -1,5 +1,5 @@
 -- What the functions of bank.rt promise: with tables that have the netlist's wires, they write what the definitions say.
-use Rattle.std.specs.Prelude.{◌≡◌, List, [], ◌∷◌, ℕ, ◌<◌, ◌≤◌, length}
+use Rattle.std.specs.Prelude.{◌≡◌, List, ℕ, ◌<◌, ◌≤◌, length}
 use Rattle.netlist.specs.declared.Limits.{Limits}
 use Rattle.netlist.specs.Fields.{cellsAt}
 use Rattle.netlist.specs.Shape.{Each, FitsWire}

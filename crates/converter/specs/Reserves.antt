@@ -1,9 +1,9 @@
 -- What the functions of ports.rt, reserve.rt and scalar.rt promise: with tables that have the netlist's wires, they write what the definitions say.
-use Rattle.std.specs.Prelude.{List, [], ◌∷◌, ℕ, zero, suc, ◌+◌, ◌<◌, ◌≤◌, length, get_or}
+use Rattle.std.specs.Prelude.{List, ℕ, ◌<◌, ◌≤◌, length, get_or}
 use Rattle.netlist.specs.declared.Limits.{Limits}
 use Rattle.netlist.specs.declared.Bit.{Bit}
 use Rattle.netlist.specs.Netlist.{Cell, Port}
-use Rattle.netlist.specs.Fields.{end_at, wiresAt, kindsAt, pllAt, cell_at, cellEnd, cellsAt, portAt, portEnd, portsAt}
+use Rattle.netlist.specs.Fields.{end_at, kindsAt, pllAt, cell_at, cellEnd, cellsAt, portAt, portEnd, portsAt}
 use Rattle.netlist.specs.Shape.{Each, FitsBit, FitsWire, FitsCell, FitsPort}
 use Rattle.recorder.specs.declared.Tapes.{Tapes}
 use Rattle.recorder.specs.declared.Stated.{Stated}
@@ -11,7 +11,7 @@ use Rattle.recorder.specs.Writer.{Writer, declare, ◌>>=◌}
 use Rattle.recorder.specs.Lists.{WroteSignals}
 use Rattle.wires.specs.Wires.{Wires, wiresOf}
 use Rattle.lowering.specs.Reserve.{signalOf, insertBits, reserveScalars, reserveUnless, reserveAbsent, reserveCellOutput, reserveCells, reservePort, reservePorts}
-use Rattle.converter.specs.Tables.{mapped, heldBits}
+use Rattle.converter.specs.Tables.{mapped}
 
 -- the tables have the wires, and hold the widths
 pub record Room (limits : Limits) (wires places : List ℕ) : Type 0 where

@@ -1,6 +1,5 @@
 -- What the steps promise: of a checked netlist, with works that have room, they write what the definitions say.
 use Rattle.std.specs.Prelude.{◌≡◌, List, ℕ, ◌≤◌, length}
-use Rattle.refusal.specs.Refusal.{number_of, place_of}
 use Rattle.netlist.specs.declared.Limits.{Limits}
 use Rattle.netlist.specs.declared.Layout.{Layout}
 use Rattle.netlist.specs.Netlist.{Netlist}
@@ -9,7 +8,7 @@ use Rattle.netlist.specs.Shape.{FitsPort, FitsCell}
 use Rattle.behaviour.specs.Banks.{collectFlipFlopBanks}
 use Rattle.recorder.specs.declared.Tapes.{Tapes}
 use Rattle.recorder.specs.declared.Stated as r
-use Rattle.recorder.specs.Writer.{Writer, ◌>>=◌, ◌>>◌}
+use Rattle.recorder.specs.Writer.{Writer, ◌>>◌}
 use Rattle.recorder.specs.Lists.{Lists, lists, stated, Wrote, WroteSignals}
 use Rattle.wires.specs.declared.Constants.{Constants}
 use Rattle.wires.specs.Wires.{Wires, noWires, wiresOf}

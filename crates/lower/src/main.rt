@@ -2,7 +2,7 @@
 
 #![tactic(auto)]
 
-ghost use Rattle.io.specs.Counts.{IsPrefixLen};
+ghost use Rattle.std.specs.Counts.{IsPrefixLen};
 ghost use Rattle.recorder.specs.Lists.{lists};
 ghost use Rattle.lower.specs.Entry.{LowersWords, Unread, LowersBytes};
 
@@ -12,8 +12,9 @@ use listing::{put_expressions, put_first_line, put_signals, put_statements};
 use recorder::words::zero_words;
 use recorder::{Tape, Tapes};
 use refusal::Refusal;
+use std::io::Write;
 use text::{Place, flush, put_byte};
-use words::words_of;
+use words::{read_full, words_of};
 
 // The model's lists, or the refusal. Works are this program's own.
 fn lower_words(words: &[u32], signals: &mut [u32], exprs: &mut [u32], stmts: &mut [u32]) -> Lowered
@@ -61,9 +62,9 @@ fn used(list: &[u32], tape: Tape) -> usize
     if n <= list.len() { n } else { 0 }
 }
 
-fn print(out: &[u8], end: Place) -> bool {
+fn print<W: Write>(to: &mut W, out: &[u8], end: Place) -> bool {
     match end {
-        Place::At(a) => flush(out, a),
+        Place::At(a) => flush(to, out, a),
         Place::Full => false,
     }
 }
@@ -80,27 +81,35 @@ fn put_head(out: &mut [u8], t: Tapes, signals: &[u32]) -> Place {
     put_signals(out, a, &signals[..n])
 }
 
-fn print_model(out: &mut [u8], t: Tapes, signals: &[u32], exprs: &[u32], stmts: &[u32]) -> bool {
+fn print_model<W: Write>(
+    to: &mut W,
+    out: &mut [u8],
+    t: Tapes,
+    signals: &[u32],
+    exprs: &[u32],
+    stmts: &[u32],
+) -> bool {
     let head = put_head(out, t, signals);
-    print(out, head);
+    print(to, out, head);
     let n = used(exprs, t.exprs);
     let middle = put_expressions(out, 0, &exprs[..n]);
-    print(out, middle);
+    print(to, out, middle);
     let n = used(stmts, t.stmts);
     let tail = put_statements(out, 0, &stmts[..n]);
-    print(out, tail)
+    print(to, out, tail)
 }
 
-fn print_refusal(out: &mut [u8], x: Refusal) -> bool {
+fn print_refusal<W: Write>(to: &mut W, out: &mut [u8], x: Refusal) -> bool {
     let r = put_refused(out, 0, x.number(), x.place());
     let Place::At(a) = r else {
         return false;
     };
     let end = put_byte(out, a, b'\n');
-    print(out, end)
+    print(to, out, end)
 }
 
-fn print_answer(
+fn print_answer<W: Write>(
+    to: &mut W,
     out: &mut [u8],
     answer: Lowered,
     signals: &[u32],
@@ -108,19 +117,21 @@ fn print_answer(
     stmts: &[u32],
 ) -> bool {
     match answer {
-        Lowered::Accepted(t) => print_model(out, t, signals, exprs, stmts),
-        Lowered::Refused(x) => print_refusal(out, x),
+        Lowered::Accepted(t) => print_model(to, out, t, signals, exprs, stmts),
+        Lowered::Refused(x) => print_refusal(to, out, x),
     }
 }
 
 // A word of a list prints as 12 bytes at most, so that 262,144 hold the text of any of the three lists.
-fn main() {
+fn main(rt: HostRuntime) {
     let mut bytes = [0u8; 65537];
     let mut signals = [0u32; 16384];
     let mut exprs = [0u32; 16384];
     let mut stmts = [0u32; 16384];
     let mut out = [0u8; 262144];
-    let n = io::read_full(0, &mut bytes);
+    let mut from = rt.stdin();
+    let n = read_full(&mut from, &mut bytes);
     let answer = lower_bytes(&bytes[..n], &mut signals, &mut exprs, &mut stmts);
-    print_answer(&mut out, answer, &signals, &exprs, &stmts);
+    let mut to = rt.stdout();
+    print_answer(&mut to, &mut out, answer, &signals, &exprs, &stmts);
 }
