@@ -20,7 +20,7 @@ use Rattle.recorder.proofs.Wrote.{wrote-pure, Going, going_start, going_step, go
 use Rattle.wires.specs.declared.Constants.{Constants}
 use Rattle.wires.specs.Wires.{Wires}
 use Rattle.lowering.specs.Emit.{emitCell, emitCells, emitOutputs}
-use Rattle.converter.specs.Emits.{Emits, emitOutput, CellsFit, PortsFit, EmitsCell, EmitsCells, EmitsPort, EmitsPorts}
+use Rattle.converter.specs.Emits.{Emits, emitOutput, Old, OldAfter, CellFits, CellsFit, PortsFit, EmitsCell, EmitsCells, EmitsPort, EmitsPorts}
 
 unfoldable pub eachOf : {A : Type 0} → (ℕ → A → Writer (Unit {0})) → ℕ → List A → Writer (Unit {0})
 eachOf f i [] = pure tt
@@ -75,38 +75,64 @@ module _ {A : Type 0} (f : ℕ → A → Writer (Unit {0})) (value : ℕ → A) 
 
 -- CELLS
 
-cells-each : (m : Wires) (z : Constants) (i : ℕ) (xs : List Cell) → emitCells m z i xs ≡ eachOf (emitCell m z) i xs
+cells-each : (shared : ℕ) (m : Wires) (z : Constants) (i : ℕ) (xs : List Cell) → emitCells shared m z i xs ≡ eachOf (emitCell shared m z) i xs
 unfolding emitCells eachOf
-cells-each m z i [] = refl
-cells-each m z i (x ∷ xs) = ap (λ (k : Writer (Unit {0})). emitCell m z i x >>= λ u. k) (cells-each m z (suc i) xs)
+cells-each shared m z i [] = refl
+cells-each shared m z i (x ∷ xs) = ap (λ (k : Writer (Unit {0})). emitCell shared m z i x >>= λ u. k) (cells-each shared m z (suc i) xs)
 
--- the map, the constants' signals, the words, and both works at entry
-module _ (m : Wires) (z : Constants) (words : List ℕ) (at n : ℕ) (parts₀ values₀ : List ℕ) where
-  abbrev pub CellsLoop : Lists → Tapes → Lists → Tapes → ℕ → Type 0
-  CellsLoop l₀ t₀ l t i = Emitting (emitCell m z) (cell_at words) (cellEnd words) n at (CellsFit parts₀ values₀ words at n) (emitCells m z 0 (cellsAt words at n)) l₀ t₀ l t i
+-- the map, the constants' signals, the words, both works and the table of what has been read at entry
+module _ (m : Wires) (z : Constants) (words : List ℕ) (at n : ℕ) (parts₀ values₀ seen₀ : List ℕ) where
+  -- the cells fit, and the table is old at the loop's start
+  abbrev pub Begins : Tapes → Limits → Type 0
+  Begins t₀ limits = CellsFit parts₀ values₀ words at n limits × Old t₀ seen₀
+
+  -- and the table is old now
+  pub record CellsLoop (l₀ : Lists) (t₀ : Tapes) (l : Lists) (t : Tapes) (seen : List ℕ) (i : ℕ) : Type 0 where
+    pub goes : Emitting (emitCell (length seen₀) m z) (cell_at words) (cellEnd words) n at (Begins t₀) (emitCells (length seen₀) m z 0 (cellsAt words at n)) l₀ t₀ l t i
+    pub old : (limits : Limits) → Begins t₀ limits → Old t seen
 
   -- where the code is
   abbrev pub CellIs : ℕ → ℕ → Type 0
   CellIs i place = (limits : Limits) → CellsFit parts₀ values₀ words at n limits → place ≡ end_at (cellEnd words) i at
 
-  pub cells-start : (l₀ : Lists) (t₀ : Tapes) → CellsLoop l₀ t₀ l₀ t₀ 0
-  cells-start l₀ t₀ = emitting-start (emitCell m z) (cell_at words) (cellEnd words) n at (cells-each m z 0 (cellsAt words at n))
+  pub cells-start : (l₀ : Lists) (t₀ : Tapes) → CellsLoop l₀ t₀ l₀ t₀ seen₀ 0
+  cells-start l₀ t₀ = record {
+    goes = emitting-start (emitCell (length seen₀) m z) (cell_at words) (cellEnd words) n at (cells-each (length seen₀) m z 0 (cellsAt words at n));
+    old = λ limits p. p.1;
+  }
 
-  module _ {l₀ : Lists} {t₀ : Tapes} {l : Lists} {t : Tapes} {i : ℕ} (now : CellsLoop l₀ t₀ l t i) where
-    module _ {place : ℕ} (is : CellIs i place) (inside : i < n) (parts values : List ℕ) (in_parts : length parts ≡ length parts₀) (in-values : length values ≡ length values₀) (r : Stated) (l₁ : Lists) (h : EmitsCell l parts values t m z i (cell_at words place) r l₁) where
-      cells-one : (limits : Limits) → CellsFit parts₀ values₀ words at n limits → Wrote l t (emitCell m z i (cell_at words (end_at (cellEnd words) i at))) (stated r) l₁
+  module _ {l₀ : Lists} {t₀ : Tapes} {l : Lists} {t : Tapes} {seen : List ℕ} {i : ℕ} (now : CellsLoop l₀ t₀ l t seen i) where
+    module _ {place : ℕ} (is : CellIs i place) (inside : i < n) (parts values : List ℕ) (in_parts : length parts ≡ length parts₀) (in-values : length values ≡ length values₀) (in-seen : length seen ≡ length seen₀)
+        (r : Stated) (l₁ : Lists) (seen₁ : List ℕ) (h : EmitsCell l parts values seen t m z i (cell_at words place) r l₁ seen₁) where
+      fits-one : (limits : Limits) → Begins t₀ limits → CellFits parts values (cell_at words place) limits
+      fits-one limits p = (omega (arith, p.0.0, in_parts), omega (arith, p.0.1, in-values), subst (λ (k : ℕ). FitsCell limits (cell_at words k)) (sym (is limits p.0)) (p.0.2.fit i inside))
+
+      cells-one : (limits : Limits) → Begins t₀ limits → Wrote l t (emitCell (length seen₀) m z i (cell_at words (end_at (cellEnd words) i at))) (stated r) l₁
       cells-one limits p =
-          subst (λ (k : ℕ). Wrote l t (emitCell m z i (cell_at words k)) (stated r) l₁) (is limits p)
-          (h.so limits (omega (arith, p.0, in_parts), omega (arith, p.1, in-values), subst (λ (k : ℕ). FitsCell limits (cell_at words k)) (sym (is limits p)) (p.2.fit i inside)))
+          subst (λ (k : ℕ). Wrote l t (emitCell (length seen₀) m z i (cell_at words k)) (stated r) l₁) (is limits p.0)
+          (subst (λ (k : ℕ). Wrote l t (emitCell k m z i (cell_at words place)) (stated r) l₁) in-seen (h.so limits (fits-one limits p) (now.old limits p)))
 
-      pub cells-step : {u : Tapes} → r ≡ S.Done u → CellsLoop l₀ t₀ l₁ u (i + 1)
-      cells-step d = emitting-step (emitCell m z) (cell_at words) (cellEnd words) n at now inside r cells-one d
+      pub cells-step : {u : Tapes} → r ≡ S.Done u → CellsLoop l₀ t₀ l₁ u seen₁ (i + 1)
+      cells-step {u} d = record {
+        goes = emitting-step (emitCell (length seen₀) m z) (cell_at words) (cellEnd words) n at now.goes inside r cells-one d;
+        old = λ limits p. subst (λ (x : Stated). OldAfter (stated x) seen₁) d (h.old limits (fits-one limits p) (now.old limits p));
+      }
 
-      pub cells-stop : {x : Refusal} → r ≡ S.Refused x → EmitsCells l₀ parts₀ values₀ t₀ m z words at n r l₁
-      cells-stop d = emitting-stop (emitCell m z) (cell_at words) (cellEnd words) n at now inside r cells-one d
+      pub cells-stop : {x : Refusal} → r ≡ S.Refused x → EmitsCells l₀ parts₀ values₀ seen₀ t₀ m z words at n r l₁ seen₁
+      cells-stop {x} d =
+          let all = emitting-stop (emitCell (length seen₀) m z) (cell_at words) (cellEnd words) n at now.goes inside r cells-one d in
+          record {
+            so = λ limits p old. all.so limits (p, old);
+            old = λ limits p old. subst (λ (x : Stated). OldAfter (stated x) seen₁) (sym d) tt;
+          }
 
-    pub cells-end : n ≤ i → EmitsCells l₀ parts₀ values₀ t₀ m z words at n (S.Done t) l
-    cells-end h = emitting-end (emitCell m z) (cell_at words) (cellEnd words) n at now h
+    pub cells-end : n ≤ i → EmitsCells l₀ parts₀ values₀ seen₀ t₀ m z words at n (S.Done t) l seen
+    cells-end h =
+        let all = emitting-end (emitCell (length seen₀) m z) (cell_at words) (cellEnd words) n at now.goes h in
+        record {
+          so = λ limits p old. all.so limits (p, old);
+          old = λ limits p old. now.old limits (p, old);
+        }
 
 -- PORTS
 

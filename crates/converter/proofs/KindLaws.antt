@@ -6,7 +6,9 @@ use Prim.Native.Nat.{ℕ, suc, ◌+◌, ◌≤◌, ◌<◌, ◌%◌, min}
 use native.Mathlib.Nat.{add-zero}
 use native.Mathlib.Omega.{arith}
 use native.Mathlib.Decide.{ℕ_discrete}
-use lib.ListN.{length, take, get_or-eq_default}
+use lib.ListN.{length, take, get_or, get_or-eq_default}
+use Rattle.std.specs.Prelude.{◌⊎◌}
+use Rattle.std.proofs.Common.{inl, inr}
 use lib.Seq.{length-take-le}
 use borrow.Author.Tests.{eq-eqb, ne_eqb}
 use Rattle.bits.specs.Bits.{pick}
@@ -23,22 +25,25 @@ use Rattle.netlist.specs.Shape.{FitsCell}
 use Rattle.recorder.specs.declared.Tapes.{Tapes}
 use Rattle.recorder.specs.declared.Stated.{Stated}
 use Rattle.recorder.specs.declared.Stated.TheVariants as S
-use Rattle.recorder.specs.Writer.{refuse}
-use Rattle.recorder.specs.Lists.{Lists, lists, Answer.Failed, Wrote, WroteStmts, stated, WroteBoth}
+use Rattle.recorder.specs.Writer.{Writer, refuse}
+use Rattle.recorder.specs.Lists.{Lists, lists, Answer, Answer.Done, Answer.Failed, Wrote, WroteStmts, stated, WroteBoth}
 use Rattle.recorder.proofs.Wrote.{wrote_as, wrote-pure, wrote-refuse}
 use Rattle.wires.specs.declared.Constants.{Constants}
 use Rattle.wires.specs.Wires.{Wires}
+use Rattle.wires.specs.Seen.{Seen, nothingSeen, Reading, forgetting}
+use Rattle.wires.specs.Once.{seenOf, Leaves, Once, OnceAll, OnceBoth}
 use Rattle.wires.proofs.Laws.{roomy-yes}
+use Rattle.wires.proofs.OnceLaws.{seen-nothing, once-forget, wrote-grows}
 use Rattle.cells.specs.Cells.{emitLut4, emitPfumx, emitL6mux21, emitCcu2c, emitMultiplier, emitIo, emitIdleJtagg, emitCyclePll}
 use Rattle.cells.specs.Answers.{ccuOf, pllOf}
 use Rattle.cells.proofs.Laws.{bits-ahead}
 use Rattle.address_mux.proofs.Addresses.{at-most-yes}
-use Rattle.memories.specs.Memories.{emitDistributedRam}
+use Rattle.memories.specs.Memories.{emitBlockRam, emitDistributedRam}
 use Rattle.memories.specs.Rams.{dramAt, dramAddressed, addressed, workOf, blockRamIn}
 use Rattle.memories.proofs.PortLaws.{addressed-same}
 use Rattle.lowering.specs.Emit.{emitCell}
 use Rattle.converter.specs.Reserves.{ofKind}
-use Rattle.converter.specs.Emits.{Emits, Work, EmitsCell, EmitsDistributed, EmitsKind}
+use Rattle.converter.specs.Emits.{Work, Old, OldAfter, Shares, EmitsCell, EmitsDistributed, EmitsKind}
 
 -- ---- a kind's cell
 
@@ -58,94 +63,130 @@ pub kind_at : (words : List ℕ) (at k : ℕ) → k ≡ word_at words (at + 0) �
 unfolding cell_at
 kind_at words at k e = ap (λ (j : ℕ). ofKind words at j) (ap (λ (j : ℕ). word_at words j) (sym (add-zero at)) ∙ sym e)
 
+-- ---- a table of what earlier cells have read has nothing of this one
+
+module _ {P : Limits → Type 0} {l : Lists} {t : Tapes} {seen : List ℕ} where
+  old-after : {w : Writer (Reading (Unit {0}))} (r : Answer (Unit {0})) {l' : Lists} {seen' : List ℕ} → Once l t t.exprs.count seen w r l' seen' → Old t seen → OldAfter r seen'
+  old-after (Done u v) {l'} {seen'} h old w = go (h.leaves w) (wrote-grows h.wrote)
+    where
+      go : (get_or seen' w 0 ≡ get_or seen w 0) ⊎ ((t.exprs.count < get_or seen' w 0) × (get_or seen' w 0 ≤ v.exprs.count)) → t.exprs.count ≤ v.exprs.count → get_or seen' w 0 ≤ v.exprs.count
+      go (inl p) g = let k : get_or seen w 0 ≤ t.exprs.count = old w in omega arith
+      go (inr p) g = p.1
+  old-after (Failed x y) h old = tt
+
+  pub shares : (w : Seen → Writer (Reading (Unit {0}))) {cell : Writer (Unit {0})} {r : Stated} {l' : Lists} {seen' : List ℕ} → ((limits : Limits) → P limits → cell ≡ forgetting (w (nothingSeen (length seen))))
+      → OnceAll l t t.exprs.count seen w (stated r) l' seen' → Shares P l t seen cell r l' seen'
+  shares w {cell} {r} {l'} {seen'} is h =
+      let q : t.exprs.count ≡ min t.exprs.count t.exprs.count = omega arith in
+      let once : Once l t t.exprs.count seen (w (seenOf t.exprs.count seen)) (stated r) l' seen' = h t.exprs.count q in
+      record {
+        so = λ limits p old. wrote_as (is limits p ∙ ap (λ (x : Seen). forgetting (w x)) (sym (seen-nothing t.exprs.count seen old))) (once-forget once);
+        old = λ limits p old. old-after (stated r) once old;
+      }
+
+  -- one that reads nothing, or shares nothing
+  pub shares-none : {cell : Writer (Unit {0})} {r : Stated} {l' : Lists} {seen' : List ℕ} → ((limits : Limits) → P limits → Wrote l t cell (stated r) l') → seen ≡ seen' → Shares P l t seen cell r l' seen'
+  shares-none {cell} {r} {l'} {seen'} h same = subst (λ (x : List ℕ). Shares P l t seen cell r l' x) same (record { so = λ limits p old. h limits p; old = λ limits p old. go (stated r) (h limits p) old })
+    where
+      go : (a : Answer (Unit {0})) → Wrote l t cell a l' → Old t seen → OldAfter a seen
+      go (Done u v) g old w = let k : get_or seen w 0 ≤ t.exprs.count = old w in let n : t.exprs.count ≤ v.exprs.count = wrote-grows g in omega arith
+      go (Failed x y) g old = tt
+
 -- ---- the same cell, the same records
 
 table : {f w init : ℕ} → f ≡ w → init ≡ f % 65536 → w < 65536 → w ≡ init
 table a b h = omega (arith, a, b, h)
 
-module _ (m : Wires) (z : Constants) (owner : ℕ) (words : List ℕ) (at : ℕ) where
+module _ (shared : ℕ) (m : Wires) (z : Constants) (owner : ℕ) (words : List ℕ) (at : ℕ) where
   lut4-is : {inputs : List Bit} {output f init : ℕ} → inputs ≡ bits_at words (at + 1) 4 → output ≡ word_at words (at + 5) → f ≡ word_at words (at + 6) → init ≡ f % 65536
-      → word_at words (at + 6) < 65536 → emitCell m z owner (lut4At words at) ≡ emitLut4 m inputs output init
+      → word_at words (at + 6) < 65536 → emitCell shared m z owner (lut4At words at) ≡ forgetting (emitLut4 m (nothingSeen shared) inputs output init)
   unfolding emitCell
-  lut4-is a b c d q = λ i. emitLut4 m (sym a i) (sym b i) (table c d q i)
+  lut4-is a b c d q = λ i. forgetting (emitLut4 m (nothingSeen shared) (sym a i) (sym b i) (table c d q i))
 
   ccu2c-is : (f : code-ccu2c.Ccu2c) {inputs : List (List Bit)} {init0 init1 : ℕ} → inputs ≡ bits_at words (at + 1) 4 ∷ bits_at words (at + 5) 4 ∷ [] → init0 ≡ f.init0 % 65536 → init1 ≡ f.init1 % 65536
       → f.init0 < 65536 → f.init1 < 65536
-      → emitCell m z owner (ccu2cWith words at f) ≡ emitCcu2c m (ccuOf inputs f.carry_in (f.sum0 ∷ f.sum1 ∷ []) f.carry (init0 ∷ init1 ∷ []) (f.inject0 ∷ f.inject1 ∷ []))
+      → emitCell shared m z owner (ccu2cWith words at f) ≡ forgetting (emitCcu2c m (nothingSeen shared) (ccuOf inputs f.carry_in (f.sum0 ∷ f.sum1 ∷ []) f.carry (init0 ∷ init1 ∷ []) (f.inject0 ∷ f.inject1 ∷ [])))
   unfolding emitCell
-  ccu2c-is f a b c p q = λ i. emitCcu2c m (ccuOf (sym a i) f.carry_in (f.sum0 ∷ f.sum1 ∷ []) f.carry (table refl b p i ∷ table refl c q i ∷ []) (f.inject0 ∷ f.inject1 ∷ []))
+  ccu2c-is f a b c p q = λ i. forgetting (emitCcu2c m (nothingSeen shared) (ccuOf (sym a i) f.carry_in (f.sum0 ∷ f.sum1 ∷ []) f.carry (table refl b p i ∷ table refl c q i ∷ []) (f.inject0 ∷ f.inject1 ∷ [])))
 
   -- so many words of each work
   block-is : (parts values : List ℕ) (written read second : List Bit) {work p v : ℕ} → work ≡ workOf (ramAt words at) → p ≡ min work (length parts) → v ≡ min work (length values)
       → addressed (ramAt words at) written read second ≡ ramAt words at
       → Work parts → Work values → word_at words (at + 1) ≤ 16384 → word_at words (at + 2) ≤ 18
-      → emitCell m z owner (blockRamAt words at) ≡ blockRamIn (take p parts) (take v values) m z owner (addressed (ramAt words at) written read second)
+      → emitCell shared m z owner (blockRamAt words at) ≡ forgetting (blockRamIn (take p parts) (take v values) m z (nothingSeen shared) owner (addressed (ramAt words at) written read second))
   unfolding emitCell
   block-is parts values written read second {work} {p} {v} is ip iv same a b d w =
       let need = workOf (ramAt words at) in
       let few : need ≤ 16384 = omega (arith, d, w) in
       let fp : need ≤ length (take p parts) = omega (arith, length-take-le p parts (omega (arith, ip)), is, ip, few, a) in
       let fv : need ≤ length (take v values) = omega (arith, length-take-le v values (omega (arith, iv)), is, iv, few, b) in
-      sym (ap (blockRamIn (take p parts) (take v values) m z owner) same ∙ roomy-yes need (take p parts) _ fp ∙ roomy-yes need (take v values) _ fv ∙ at-most-yes 16384 (word_at words (at + 1)) _ d)
+      ap forgetting (sym (ap (blockRamIn (take p parts) (take v values) m z (nothingSeen shared) owner) same ∙ roomy-yes need (take p parts) _ fp ∙ roomy-yes need (take v values) _ fv ∙ at-most-yes 16384 (word_at words (at + 1)) _ d))
 
   distributed-one : {written read : List Bit} → written ≡ bits_at words (at + 1) 4 → read ≡ bits_at words (at + 11) 4 → (word_at words (at + 21) ≡ 1 → ⊥)
-      → emitCell m z owner (distributedRamAt words at) ≡ emitDistributedRam m z owner (dramAddressed (dramAt words at) written read)
+      → emitCell shared m z owner (distributedRamAt words at) ≡ forgetting (emitDistributedRam m z (nothingSeen shared) owner (dramAddressed (dramAt words at) written read))
   unfolding emitCell
   distributed-one a b n =
-      ap (λ (b : Bool). pick b (refuse 10 owner) (emitDistributedRam m z owner (dramAt words at))) (ne_eqb (word_at words (at + 21)) 1 n)
-      ∙ (λ i. emitDistributedRam m z owner (dramAddressed (dramAt words at) (sym a i) (sym b i)))
+      ap (λ (b : Bool). pick b (refuse 10 owner) (forgetting (emitDistributedRam m z (nothingSeen shared) owner (dramAt words at)))) (ne_eqb (word_at words (at + 21)) 1 n)
+      ∙ (λ i. forgetting (emitDistributedRam m z (nothingSeen shared) owner (dramAddressed (dramAt words at) (sym a i) (sym b i))))
 
-  distributed-two : word_at words (at + 21) ≡ 1 → emitCell m z owner (distributedRamAt words at) ≡ refuse 10 owner
+  distributed-two : word_at words (at + 21) ≡ 1 → emitCell shared m z owner (distributedRamAt words at) ≡ refuse 10 owner
   unfolding emitCell
-  distributed-two e = ap (λ (b : Bool). pick b (refuse 10 owner) (emitDistributedRam m z owner (dramAt words at))) (eq-eqb (word_at words (at + 21)) 1 e)
+  distributed-two e = ap (λ (b : Bool). pick b (refuse 10 owner) (forgetting (emitDistributedRam m z (nothingSeen shared) owner (dramAt words at)))) (eq-eqb (word_at words (at + 21)) 1 e)
 
--- ---- the small cells: lists and tapes, the map, the answer
+-- ---- the small cells: lists and tapes, the table of what has been read, the map, the answer
 
-module _ (e s : List ℕ) (t : Tapes) (m : Wires) (r : Stated) (e' s' : List ℕ) where
-  pub kind-as : {x y : Cell} → x ≡ y → EmitsKind e s t m y r e' s' → EmitsKind e s t m x r e' s'
-  kind-as q h = subst (λ (x : Cell). EmitsKind e s t m x r e' s') (sym q) h
+module _ (e s : List ℕ) (t : Tapes) (seen : List ℕ) (m : Wires) (r : Stated) (e' s' seen' : List ℕ) where
+  pub kind-as : {x y : Cell} → x ≡ y → EmitsKind e s seen t m y r e' s' seen' → EmitsKind e s seen t m x r e' s' seen'
+  kind-as q h = subst (λ (x : Cell). EmitsKind e s seen t m x r e' s' seen') (sym q) h
+
+  -- what a cell writes that begins with such a table
+  abbrev Kept : (Seen → Writer (Reading (Unit {0}))) → Type 0
+  Kept w = OnceBoth e s t t.exprs.count seen w (stated r) e' s' seen'
 
   module _ (words : List ℕ) (at : ℕ) where
     pub kind-lut4 : {inputs : List Bit} {output f init : ℕ} → inputs ≡ bits_at words (at + 1) 4 → output ≡ word_at words (at + 5) → f ≡ word_at words (at + 6) → init ≡ f % 65536
-        → WroteBoth e s t (emitLut4 m inputs output init) (stated r) e' s' → EmitsKind e s t m (lut4At words at) r e' s'
-    kind-lut4 a b c d h l z owner = record { so = λ limits p. wrote_as (lut4-is m z owner words at a b c d p.2) (h l) }
+        → Kept (λ x. emitLut4 m x inputs output init) → EmitsKind e s seen t m (lut4At words at) r e' s' seen'
+    kind-lut4 {inputs} {output} {f} {init} a b c d h l z owner = shares (λ x. emitLut4 m x inputs output init) (λ limits p. lut4-is (length seen) m z owner words at a b c d p.2) (λ n q. h n q l)
 
-    pub kind-pfumx : (f : Pfumx) → pfumxOf f ≡ pfumxAt words at → WroteBoth e s t (emitPfumx m f.lut_true f.lut_false f.select f.output) (stated r) e' s' → EmitsKind e s t m (pfumxAt words at) r e' s'
+    pub kind-pfumx : (f : Pfumx) → pfumxOf f ≡ pfumxAt words at → Kept (λ x. emitPfumx m x f.lut_true f.lut_false f.select f.output) → EmitsKind e s seen t m (pfumxAt words at) r e' s' seen'
     unfolding emitCell
-    kind-pfumx f q h = subst (λ (x : Cell). EmitsKind e s t m x r e' s') q (λ l z owner. record { so = λ limits p. h l })
+    kind-pfumx f q h = subst (λ (x : Cell). EmitsKind e s seen t m x r e' s' seen') q (λ l z owner. shares (λ x. emitPfumx m x f.lut_true f.lut_false f.select f.output) (λ limits p. refl) (λ n o. h n o l))
 
-    pub kind-l6mux21 : (f : L6mux21) → l6mux21Of f ≡ l6mux21At words at → WroteBoth e s t (emitL6mux21 m f.data_zero f.data_one f.select f.output) (stated r) e' s' → EmitsKind e s t m (l6mux21At words at) r e' s'
+    pub kind-l6mux21 : (f : L6mux21) → l6mux21Of f ≡ l6mux21At words at → Kept (λ x. emitL6mux21 m x f.data_zero f.data_one f.select f.output) → EmitsKind e s seen t m (l6mux21At words at) r e' s' seen'
     unfolding emitCell
-    kind-l6mux21 f q h = subst (λ (x : Cell). EmitsKind e s t m x r e' s') q (λ l z owner. record { so = λ limits p. h l })
+    kind-l6mux21 f q h = subst (λ (x : Cell). EmitsKind e s seen t m x r e' s' seen') q (λ l z owner. shares (λ x. emitL6mux21 m x f.data_zero f.data_one f.select f.output) (λ limits p. refl) (λ n o. h n o l))
 
-    pub kind-io : (f : Io) → ioOf f ≡ ioAt words at → WroteBoth e s t (emitIo m f.pad f.fabric_output f.fabric_input f.tristate) (stated r) e' s' → EmitsKind e s t m (ioAt words at) r e' s'
+    pub kind-io : (f : Io) → ioOf f ≡ ioAt words at → Kept (λ x. emitIo m x f.pad f.fabric_output f.fabric_input f.tristate) → EmitsKind e s seen t m (ioAt words at) r e' s' seen'
     unfolding emitCell
-    kind-io f q h = subst (λ (x : Cell). EmitsKind e s t m x r e' s') q (λ l z owner. record { so = λ limits p. h l })
+    kind-io f q h = subst (λ (x : Cell). EmitsKind e s seen t m x r e' s' seen') q (λ l z owner. shares (λ x. emitIo m x f.pad f.fabric_output f.fabric_input f.tristate) (λ limits p. refl) (λ n o. h n o l))
 
     pub kind-ccu2c : (f : code-ccu2c.Ccu2c) {inputs : List (List Bit)} {init0 init1 : ℕ} → ccu2cWith words at f ≡ ccu2cAt words at → inputs ≡ bits_at words (at + 1) 4 ∷ bits_at words (at + 5) 4 ∷ [] → init0 ≡ f.init0 % 65536 → init1 ≡ f.init1 % 65536
-        → WroteBoth e s t (emitCcu2c m (ccuOf inputs f.carry_in (f.sum0 ∷ f.sum1 ∷ []) f.carry (init0 ∷ init1 ∷ []) (f.inject0 ∷ f.inject1 ∷ []))) (stated r) e' s' → EmitsKind e s t m (ccu2cAt words at) r e' s'
-    kind-ccu2c f q a b c h = subst (λ (x : Cell). EmitsKind e s t m x r e' s') q (λ l z owner. record { so = λ limits p. wrote_as (ccu2c-is m z owner words at f a b c p.init0 p.init1) (h l) })
+        → Kept (λ x. emitCcu2c m x (ccuOf inputs f.carry_in (f.sum0 ∷ f.sum1 ∷ []) f.carry (init0 ∷ init1 ∷ []) (f.inject0 ∷ f.inject1 ∷ []))) → EmitsKind e s seen t m (ccu2cAt words at) r e' s' seen'
+    kind-ccu2c f {inputs} {init0} {init1} q a b c h =
+        subst (λ (x : Cell). EmitsKind e s seen t m x r e' s' seen') q
+        (λ l z owner. shares (λ x. emitCcu2c m x (ccuOf inputs f.carry_in (f.sum0 ∷ f.sum1 ∷ []) f.carry (init0 ∷ init1 ∷ []) (f.inject0 ∷ f.inject1 ∷ []))) (λ limits p. ccu2c-is (length seen) m z owner words at f a b c p.init0 p.init1) (λ n o. h n o l))
 
-    pub kind-multiplier : WroteBoth e s t (emitMultiplier m (bits_at words (at + 1) 18) (bits_at words (at + 19) 18) (wiresAt words (at + 37) 36)) (stated r) e' s' → EmitsKind e s t m (multiplierAt words at) r e' s'
+    pub kind-multiplier : Kept (λ x. emitMultiplier m x (bits_at words (at + 1) 18) (bits_at words (at + 19) 18) (wiresAt words (at + 37) 36)) → EmitsKind e s seen t m (multiplierAt words at) r e' s' seen'
     unfolding emitCell
-    kind-multiplier h l z owner = record { so = λ limits p. h l }
+    kind-multiplier h l z owner = shares (λ x. emitMultiplier m x (bits_at words (at + 1) 18) (bits_at words (at + 19) 18) (wiresAt words (at + 37) 36)) (λ limits p. refl) (λ n o. h n o l)
 
-    pub kind-jtagg : e ≡ e' → WroteStmts s t (emitIdleJtagg m (wiresAt words (at + 1) 9)) (stated r) s' → EmitsKind e s t m (jtaggAt words at) r e' s'
+    pub kind-jtagg : e ≡ e' → seen ≡ seen' → WroteStmts s t (emitIdleJtagg m (wiresAt words (at + 1) 9)) (stated r) s' → EmitsKind e s seen t m (jtaggAt words at) r e' s' seen'
     unfolding emitCell
-    kind-jtagg q h l z owner = subst (λ (x : List ℕ). Emits (λ limits. FitsCell limits (jtaggAt words at)) (lists l e s) t (emitCell m z owner (jtaggAt words at)) r (lists l x s')) q (record { so = λ limits p. h l e })
+    kind-jtagg q same h l z owner =
+        subst (λ (x : List ℕ). Shares (λ limits. FitsCell limits (jtaggAt words at)) (lists l e s) t seen (emitCell (length seen) m z owner (jtaggAt words at)) r (lists l x s') seen') q (shares-none (λ limits p. h l e) same)
 
-    pub kind-pll : WroteBoth e s t (emitCyclePll m (pllOf words at)) (stated r) e' s' → EmitsKind e s t m (pllAt words at) r e' s'
+    pub kind-pll : seen ≡ seen' → WroteBoth e s t (emitCyclePll m (pllOf words at)) (stated r) e' s' → EmitsKind e s seen t m (pllAt words at) r e' s' seen'
     unfolding emitCell
-    kind-pll h l z owner = record { so = λ limits p. h l }
+    kind-pll same h l z owner = shares-none (λ limits p. h l) same
 
     -- the kind is n
-    pub late-as : {k : ℕ} (n : ℕ) → k ≡ n → EmitsKind e s t m (ofKind words at n) r e' s' → EmitsKind e s t m (ofKind words at k) r e' s'
+    pub late-as : {k : ℕ} (n : ℕ) → k ≡ n → EmitsKind e s seen t m (ofKind words at n) r e' s' seen' → EmitsKind e s seen t m (ofKind words at k) r e' s' seen'
     late-as n q h = kind-as (ap (λ (j : ℕ). ofKind words at j) q) h
 
 -- a flip-flop writes nothing here
-pub kind-flip-flop : (e s : List ℕ) (t : Tapes) (m : Wires) (words : List ℕ) (at : ℕ) → EmitsKind e s t m (flipFlopAt words at) (S.Done t) e s
+pub kind-flip-flop : (e s : List ℕ) (t : Tapes) (seen : List ℕ) (m : Wires) (words : List ℕ) (at : ℕ) → EmitsKind e s seen t m (flipFlopAt words at) (S.Done t) e s seen
 unfolding emitCell
-kind-flip-flop e s t m words at l z owner = record { so = λ limits p. wrote-pure }
+kind-flip-flop e s t seen m words at l z owner = shares-none (λ limits p. wrote-pure) refl
 
 -- ---- the RAMs, and every cell
 
@@ -157,32 +198,32 @@ addressed-read words at {second = second} a b cut d =
     let e = d ∙ ap (λ (k : ℕ). bits_at words k 14) (add-zero second) ∙ bits-ahead words s second cut 14 in
     (λ i. addressed (ramAt words at) (a i) (b i) (e i)) ∙ addressed-same words at
 
-module _ (l : Lists) (t : Tapes) (m : Wires) (z : Constants) (owner : ℕ) (words : List ℕ) (at : ℕ) where
-  pub distributed-refused : {f o : ℕ} → f ≡ word_at words (at + 21) → f ≡ 1 → o ≡ owner → EmitsDistributed l t m z owner (distributedRamAt words at) (S.Refused (UnsupportedTrueDualPortMemory o)) l
-  distributed-refused {f} {o} a b c = record {
-    so = λ limits p. wrote_as (distributed-two m z owner words at (sym a ∙ b)) (subst (λ (i : ℕ). Wrote {A = Unit {0}} l t (refuse 10 owner) (Failed 10 i) l) (sym c) wrote-refuse);
-  }
+module _ (l : Lists) (t : Tapes) (seen : List ℕ) (m : Wires) (z : Constants) (owner : ℕ) (words : List ℕ) (at : ℕ) where
+  pub distributed-refused : {f o : ℕ} → f ≡ word_at words (at + 21) → f ≡ 1 → o ≡ owner → EmitsDistributed l seen t m z owner (distributedRamAt words at) (S.Refused (UnsupportedTrueDualPortMemory o)) l seen
+  distributed-refused {f} {o} a b c =
+      shares-none (λ limits p. wrote_as (distributed-two (length seen) m z owner words at (sym a ∙ b)) (subst (λ (i : ℕ). Wrote {A = Unit {0}} l t (refuse 10 owner) (Failed 10 i) l) (sym c) wrote-refuse)) refl
 
-  module _ (r : Stated) (l' : Lists) where
+  module _ (r : Stated) (l' : Lists) (seen' : List ℕ) where
     pub distributed-wrote : {f : ℕ} {written read : List Bit} → f ≡ word_at words (at + 21) → (f ≡ 1 → ⊥) → written ≡ bits_at words (at + 1) 4 → read ≡ bits_at words (at + 11) 4
-        → Wrote l t (emitDistributedRam m z owner (dramAddressed (dramAt words at) written read)) (stated r) l' → EmitsDistributed l t m z owner (distributedRamAt words at) r l'
-    distributed-wrote a n w d h = record { so = λ limits p. wrote_as (distributed-one m z owner words at w d (λ e. n (a ∙ e))) h }
+        → OnceAll l t t.exprs.count seen (λ x. emitDistributedRam m z x owner (dramAddressed (dramAt words at) written read)) (stated r) l' seen' → EmitsDistributed l seen t m z owner (distributedRamAt words at) r l' seen'
+    distributed-wrote {f} {written} {read} a n w d h = shares (λ x. emitDistributedRam m z x owner (dramAddressed (dramAt words at) written read)) (λ limits p. distributed-one (length seen) m z owner words at w d (λ e. n (a ∙ e))) h
 
     module _ (parts values : List ℕ) where
       abbrev Cells : Cell → Type 0
-      Cells x = EmitsCell l parts values t m z owner x r l'
+      Cells x = EmitsCell l parts values seen t m z owner x r l' seen'
 
       -- the kind is n
-      pub cell-kind : {k : ℕ} (n : ℕ) → k ≡ word_at words (at + 0) → k ≡ n → EmitsCell l parts values t m z owner (ofKind words at n) r l' → EmitsCell l parts values t m z owner (cell_at words at) r l'
+      pub cell-kind : {k : ℕ} (n : ℕ) → k ≡ word_at words (at + 0) → k ≡ n → EmitsCell l parts values seen t m z owner (ofKind words at n) r l' seen' → EmitsCell l parts values seen t m z owner (cell_at words at) r l' seen'
       cell-kind {k} n a b h = subst Cells (sym (kind_at words at k a ∙ ap (λ (j : ℕ). ofKind words at j) b)) h
 
       pub cell-block : (written read second : List Bit) {work p v : ℕ} → work ≡ workOf (ramAt words at) → p ≡ min work (length parts) → v ≡ min work (length values) → addressed (ramAt words at) written read second ≡ ramAt words at
-          → Wrote l t (blockRamIn (take p parts) (take v values) m z owner (addressed (ramAt words at) written read second)) (stated r) l' → EmitsCell l parts values t m z owner (blockRamAt words at) r l'
-      cell-block written read second is ip iv same h = record { so = λ limits p. wrote_as (block-is m z owner words at parts values written read second is ip iv same p.0 p.1 p.2.depth.1 p.2.width.1) h }
+          → OnceAll l t t.exprs.count seen (λ x. blockRamIn (take p parts) (take v values) m z x owner (addressed (ramAt words at) written read second)) (stated r) l' seen' → EmitsCell l parts values seen t m z owner (blockRamAt words at) r l' seen'
+      cell-block written read second {work} {p} {v} is ip iv same h =
+          shares (λ x. blockRamIn (take p parts) (take v values) m z x owner (addressed (ramAt words at) written read second)) (λ limits f. block-is (length seen) m z owner words at parts values written read second is ip iv same f.0 f.1 f.2.depth.1 f.2.width.1) h
 
       -- one that takes no work
-      pub cell-alone : (x : Cell) → Emits (λ limits. FitsCell limits x) l t (emitCell m z owner x) r l' → EmitsCell l parts values t m z owner x r l'
-      cell-alone x h = record { so = λ limits p. h.so limits p.2 }
+      pub cell-alone : (x : Cell) → Shares (λ limits. FitsCell limits x) l t seen (emitCell (length seen) m z owner x) r l' seen' → EmitsCell l parts values seen t m z owner x r l' seen'
+      cell-alone x h = record { so = λ limits p. h.so limits p.2; old = λ limits p. h.old limits p.2 }
 
-      pub cell-rest : {k : ℕ} → k ≡ word_at words (at + 0) → Emits (λ limits. FitsCell limits (ofKind words at k)) l t (emitCell m z owner (ofKind words at k)) r l' → EmitsCell l parts values t m z owner (cell_at words at) r l'
+      pub cell-rest : {k : ℕ} → k ≡ word_at words (at + 0) → Shares (λ limits. FitsCell limits (ofKind words at k)) l t seen (emitCell (length seen) m z owner (ofKind words at k)) r l' seen' → EmitsCell l parts values seen t m z owner (cell_at words at) r l' seen'
       cell-rest {k} a h = subst Cells (sym (kind_at words at k a)) (cell-alone (ofKind words at k) h)

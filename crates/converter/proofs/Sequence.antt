@@ -1,10 +1,11 @@
 -- One step after another. Assumes nothing.
-use Prim.Native.Nat.{ℕ, ◌≤◌}
+use Prim.Native.Nat.{ℕ, zero, suc, min, ◌≤◌}
+use lib.Seq.{length-take-le}
 use mathlib.Core.Path.{◌≡◌, refl, sym, ◌∙◌, ap, subst}
 use mathlib.Core.Bool.{Bool}
 use mathlib.Core.List.{List}
 use native.Mathlib.Omega.{arith}
-use lib.ListN.{length}
+use lib.ListN.{length, take, get_or, replicate}
 use borrow.Author.Tests.{le-leb}
 use Rattle.bits.specs.Bits.{pick}
 use Rattle.refusal.specs.declared.Refusal.{Refusal}
@@ -29,7 +30,7 @@ use Rattle.converter.specs.Banked.{Collects}
 use Rattle.converter.specs.Reserved.{ReservesBanks}
 use Rattle.converter.specs.BankEmits.{EmitsBanks}
 use Rattle.converter.specs.declared.constants.Started as s
-use Rattle.converter.specs.Emits.{started, EmitsCells, EmitsPorts}
+use Rattle.converter.specs.Emits.{started, Old, EmitsCells, EmitsAll, EmitsPorts}
 use Rattle.converter.specs.Steps.{netlistBy, Within, Checked, Unmapped, Noted, ReservesNetlist, emitRest, EmitsRest, EmitsNetlist, Roomy, RecordsNetlist, unstartedOf}
 
 room : {limits : Limits} {wires places : List ℕ} → Within limits → 16384 ≤ length wires → 16384 ≤ length places → Room limits wires places
@@ -103,75 +104,97 @@ module _ (e s parts wires places : List ℕ) (t : Tapes) (z : Constants) (words 
         ((second signals).so limits (omega (arith, c.within.width), c.ports));
   }
 
+-- ALL CELLS, with a table of zeros
+
+pub zeros-old : (t : Tapes) (k n : ℕ) → Old t (take k (replicate n 0))
+zeros-old t k n w = let z : get_or (take k (replicate n 0)) w 0 ≡ 0 = zero-at k n w in omega arith
+  where
+    zero-at : (k n w : ℕ) → get_or (take k (replicate {A = ℕ} n 0)) w 0 ≡ 0
+    zero-at zero n w = refl
+    zero-at (suc k) zero w = refl
+    zero-at (suc k) (suc n) zero = refl
+    zero-at (suc k) (suc n) (suc w) = zero-at k n w
+
+pub shared-cells : (l : Lists) (parts values : List ℕ) (t : Tapes) (m : Wires) (z : Constants) (words : List ℕ) (layout : Layout) (shared : ℕ) (k n : ℕ) {r : r.Stated} {l' : Lists} {seen : List ℕ}
+    → k ≡ 16384 → n ≡ min shared (length (replicate {A = ℕ} k 0)) → EmitsCells l parts values (take n (replicate k 0)) t m z words layout.start layout.cells r l' seen → EmitsAll l parts values t m z words layout shared r l'
+shared-cells l parts values t m z words layout shared k n {r} {l'} {seen} is cut h = record {
+  so = λ few limits p.
+      let all : length (replicate {A = ℕ} k 0) ≡ k = length_replicate k 0 in
+      let room : n ≤ length (replicate {A = ℕ} k 0) = omega arith in
+      let long : length (take n (replicate {A = ℕ} k 0)) ≡ n = length-take-le n (replicate k 0) room in
+      let same : length (take n (replicate {A = ℕ} k 0)) ≡ shared = omega arith in
+      subst (λ (i : ℕ). Wrote l t (emitCells i m z 0 (cellsAt words layout.start layout.cells)) (stated r) l') same (h.so limits p (zeros-old t n k));
+}
+
 -- ALL THAT IS EMITTED
 
-module _ (l₀ : Lists) (parts values wires places : List ℕ) (t : Tapes) (words : List ℕ) (l : Layout) (banks : List ℕ) (count : ℕ) (p : s.Started) (l₁ : Lists) (first : Wrote l₀ t emitConstants (started p) l₁) where
+module _ (l₀ : Lists) (parts values wires places : List ℕ) (t : Tapes) (words : List ℕ) (l : Layout) (banks : List ℕ) (count shared : ℕ) (p : s.Started) (l₁ : Lists) (first : Wrote l₀ t emitConstants (started p) l₁) where
   abbrev after-start : Constants → Writer (Unit {0})
-  after-start z = emitCells (wiresOf wires places) z 0 (cellsAt words l.start l.cells) >> emitRest (wiresOf wires places) z (netlistBy words l)
+  after-start z = emitCells shared (wiresOf wires places) z 0 (cellsAt words l.start l.cells) >> emitRest (wiresOf wires places) z (netlistBy words l)
 
-  emit-is : emitNetlist (netlistBy words l) (wiresOf wires places) ≡ (emitConstants >>= after-start)
+  emit-is : emitNetlist shared (netlistBy words l) (wiresOf wires places) ≡ (emitConstants >>= after-start)
   unfolding emitNetlist
   emit-is = refl
 
-  pub emit-stop : {x : Refusal} {q : r.Stated} → p ≡ s.TheVariants.Refused x → q ≡ unstartedOf p → EmitsNetlist l₀ parts values wires places t words l banks count q l₁
+  pub emit-stop : {x : Refusal} {q : r.Stated} → p ≡ s.TheVariants.Refused x → q ≡ unstartedOf p → EmitsNetlist l₀ parts values wires places t words l banks count shared q l₁
   emit-stop d e = record {
-    so = λ limits c n h g.
+    so = λ k limits c n h g.
         wrote_as emit-is
         (subst (λ (y : r.Stated). Wrote l₀ t (emitConstants >>= after-start) (stated y) l₁) (sym (e ∙ ap unstartedOf d)) (then-stop first after-start (ap started d)));
   }
 
-  module _ {z : Constants} {t₁ : Tapes} (done : p ≡ s.TheVariants.Done z t₁) {q : r.Stated} (l₂ : Lists) (second : EmitsCells l₁ parts values t₁ (wiresOf wires places) z words l.start l.cells q l₂) where
-    wrote-all-cells : (limits : Limits) → Checked limits words l → 16384 ≤ length parts → 16384 ≤ length values → Wrote l₁ t₁ (emitCells (wiresOf wires places) z 0 (cellsAt words l.start l.cells)) (stated q) l₂
-    wrote-all-cells limits c h g = second.so limits (h, g, c.cells)
+  module _ {z : Constants} {t₁ : Tapes} (done : p ≡ s.TheVariants.Done z t₁) {q : r.Stated} (l₂ : Lists) (second : EmitsAll l₁ parts values t₁ (wiresOf wires places) z words l shared q l₂) where
+    wrote-all-cells : shared ≤ 16384 → (limits : Limits) → Checked limits words l → 16384 ≤ length parts → 16384 ≤ length values → Wrote l₁ t₁ (emitCells shared (wiresOf wires places) z 0 (cellsAt words l.start l.cells)) (stated q) l₂
+    wrote-all-cells k limits c h g = second.so k limits (h, g, c.cells)
 
-    pub emit-stop-2 : {x : Refusal} → q ≡ r.TheVariants.Refused x → EmitsNetlist l₀ parts values wires places t words l banks count q l₂
+    pub emit-stop-2 : {x : Refusal} → q ≡ r.TheVariants.Refused x → EmitsNetlist l₀ parts values wires places t words l banks count shared q l₂
     emit-stop-2 d = record {
-      so = λ limits c n h g.
+      so = λ k limits c n h g.
           wrote_as emit-is
           (then-done first after-start (ap started done)
-          (then_same (wrote-all-cells limits c h g) (λ u. emitRest (wiresOf wires places) z (netlistBy words l)) (ap stated d)));
+          (then_same (wrote-all-cells k limits c h g) (λ u. emitRest (wiresOf wires places) z (netlistBy words l)) (ap stated d)));
     }
 
     pub emit-end : {t₂ : Tapes} → q ≡ r.TheVariants.Done t₂ → (parts₁ : List ℕ) → length parts₁ ≡ length parts → {o : r.Stated} (e s : List ℕ)
         → EmitsRest l₂.exprs l₂.stmts parts₁ wires places t₂ z words l banks count o e s
-        → EmitsNetlist l₀ parts values wires places t words l banks count o (lists l₂.signals e s)
+        → EmitsNetlist l₀ parts values wires places t words l banks count shared o (lists l₂.signals e s)
     emit-end d parts₁ ep e s third = record {
-      so = λ limits c n h g.
-          let k : 16384 ≤ length parts₁ = omega arith in
+      so = λ k limits c n h g.
+          let room : 16384 ≤ length parts₁ = omega arith in
           wrote_as emit-is
           (then-done first after-start (ap started done)
-          (then-done (wrote-all-cells limits c h g) (λ u. emitRest (wiresOf wires places) z (netlistBy words l)) (ap stated d)
-          (third.so limits c n k l₂.signals)));
+          (then-done (wrote-all-cells k limits c h g) (λ u. emitRest (wiresOf wires places) z (netlistBy words l)) (ap stated d)
+          (third.so limits c n room l₂.signals)));
     }
 
 -- THE WHOLE
 
-module _ (e s wires places parts values banks words : List ℕ) (l : Layout) (count : ℕ) (banks₁ : List ℕ) (noting : Collects words l.start l.cells banks parts values count banks₁) where
+module _ (e s wires places parts values banks words : List ℕ) (l : Layout) (count : ℕ) (banks₁ : List ℕ) (shared : ℕ) (noting : Collects words l.start l.cells banks parts values count banks₁) where
   noted : (limits : Limits) → Checked limits words l → Roomy parts values banks → Noted words l banks₁ count
   noted limits c k =
       noting limits (omega (arith, c.within.wires)) c.cells
       (record { numbers = omega (arith, c.few, k.banks-long); clocks = omega (arith, c.few, k.parts-long); resets = omega (arith, c.few, k.values-long) })
 
   module _ (signals : List ℕ) {p : r.Stated} (signals₁ wires₁ places₁ : List ℕ) (first : ReservesNetlist signals wires places words l banks₁ count p signals₁ wires₁ places₁) where
-    lower-is : lowerNetlist (netlistBy words l) ≡ (reserveNetlist (netlistBy words l) >>= λ m. emitNetlist (netlistBy words l) m)
+    lower-is : lowerNetlist shared (netlistBy words l) ≡ (reserveNetlist (netlistBy words l) >>= λ m. emitNetlist shared (netlistBy words l) m)
     unfolding lowerNetlist
     lower-is = refl
 
-    pub record-stop : {x : Refusal} → p ≡ r.TheVariants.Refused x → RecordsNetlist (lists signals e s) wires places parts values banks words l p (lists signals₁ e s)
+    pub record-stop : {x : Refusal} → p ≡ r.TheVariants.Refused x → RecordsNetlist (lists signals e s) wires places parts values banks words l shared p (lists signals₁ e s)
     record-stop d = record {
-      so = λ limits c u k.
+      so = λ few limits c u k.
           wrote_as lower-is
-          (subst (λ (y : r.Stated). Wrote (lists signals e s) start (reserveNetlist (netlistBy words l) >>= λ m. emitNetlist (netlistBy words l) m) (stated y) (lists signals₁ e s)) (sym d)
-          (then-stop (first.so limits c u (noted limits c k) e s) (λ m. emitNetlist (netlistBy words l) m) (ap (λ (y : r.Stated). mapped y (wiresOf wires₁ places₁)) d)));
+          (subst (λ (y : r.Stated). Wrote (lists signals e s) start (reserveNetlist (netlistBy words l) >>= λ m. emitNetlist shared (netlistBy words l) m) (stated y) (lists signals₁ e s)) (sym d)
+          (then-stop (first.so limits c u (noted limits c k) e s) (λ m. emitNetlist shared (netlistBy words l) m) (ap (λ (y : r.Stated). mapped y (wiresOf wires₁ places₁)) d)));
     }
 
     pub record-end : {t : Tapes} (parts₁ values₁ : List ℕ) → p ≡ r.TheVariants.Done t → length parts₁ ≡ length parts → length values₁ ≡ length values → {q : r.Stated} {l₂ : Lists}
-        → EmitsNetlist (lists signals₁ e s) parts₁ values₁ wires₁ places₁ t words l banks₁ count q l₂
-        → RecordsNetlist (lists signals e s) wires places parts values banks words l q l₂
+        → EmitsNetlist (lists signals₁ e s) parts₁ values₁ wires₁ places₁ t words l banks₁ count shared q l₂
+        → RecordsNetlist (lists signals e s) wires places parts values banks words l shared q l₂
     record-end parts₁ values₁ d ep ev second = record {
-      so = λ limits c u k.
+      so = λ few limits c u k.
           let n = noted limits c k in
           wrote_as lower-is
-          (then-done (first.so limits c u n e s) (λ m. emitNetlist (netlistBy words l) m) (ap (λ (y : r.Stated). mapped y (wiresOf wires₁ places₁)) d)
-          (second.so limits c n (omega (arith, k.parts-long)) (omega (arith, k.values-long))));
+          (then-done (first.so limits c u n e s) (λ m. emitNetlist shared (netlistBy words l) m) (ap (λ (y : r.Stated). mapped y (wiresOf wires₁ places₁)) d)
+          (second.so few limits c n (omega (arith, k.parts-long)) (omega (arith, k.values-long))));
     }

@@ -62,14 +62,14 @@ by_layout words = refl
 
 -- HOW IT ENDS
 
-module _ (n : Netlist) (s e t : ℕ) where
+module _ (shared : ℕ) (n : Netlist) (s e t : ℕ) where
   abbrev model : Model
-  model = modelOf (lowerNetlist n none_yet).events
+  model = modelOf (lowerNetlist shared n none_yet).events
 
   abbrev conflict : Option ℕ
   conflict = overdrivenFrom 0 model.signals model.stmts
 
-  lowered-as : {a : Answer (Unit {0})} {l : Lists} → Wrote (blank s e t) start (lowerNetlist n) a l → lowered n s e t ≡ ended a conflict l (blank s e t)
+  lowered-as : {a : Answer (Unit {0})} {l : Lists} → Wrote (blank s e t) start (lowerNetlist shared n) a l → lowered shared n s e t ≡ ended a conflict l (blank s e t)
   unfolding lowered
   lowered-as h = ap (λ (x : Left (Unit {0})). ended x.answer conflict x.lists (blank s e t)) h.wrote
 
@@ -94,32 +94,32 @@ check-refused limits words h e = subst (Checks limits words) e h
 module _ (limits : Limits) (words : List ℕ) (l : Lists) (wires places parts values banks : List ℕ) where
   -- the words are refused
   pub attempt-refused : {w : x.Refusal} {l' : Lists} → readWords limits words ≡ refused (number_of w) (place_of w) → Attempts limits words l wires places parts values banks (c.TheVariants.Refused w) l'
-  attempt-refused read = record { value = λ h g s e t q. sym (ap (λ (y : Read). loweredRead y s e t) read) }
+  attempt-refused read = record { value = λ h g s e t q. sym (ap (λ (y : Read). loweredRead limits.wires y s e t) read) }
 
-  module _ {layout : Layout} (read : readWords limits words ≡ netlist (netlistAt words)) (is : layout ≡ layout_of words) {p : r.Stated} {l₁ : Lists} (recorded : RecordsNetlist l wires places parts values banks words layout p l₁)
+  module _ {layout : Layout} (read : readWords limits words ≡ netlist (netlistAt words)) (is : layout ≡ layout_of words) {p : r.Stated} {l₁ : Lists} (recorded : RecordsNetlist l wires places parts values banks words layout limits.wires p l₁)
       {q : c.Lowered} {s' : List ℕ} (answer : AnswersTo l₁.signals l₁.stmts p q s') (s e t : ℕ) (from : l ≡ blank s e t) (h : Within limits) (g : Ready wires places parts values banks) where
-    wrote : Wrote (blank s e t) start (lowerNetlist (netlistAt words)) (stated p) l₁
+    wrote : Wrote (blank s e t) start (lowerNetlist limits.wires (netlistAt words)) (stated p) l₁
     wrote =
         let k : Checked limits words layout = subst (Checked limits words) (sym is) (checked limits words (netlistAt words) read h) in
-        let w = recorded.so limits k (unmapped g) (record { parts-long = g.parts-long; values-long = g.values-long; banks-long = g.banks-long }) in
+        let w = recorded.so h.wires limits k (unmapped g) (record { parts-long = g.parts-long; values-long = g.values-long; banks-long = g.banks-long }) in
         let b : netlistBy words layout ≡ netlistAt words = ap (netlistBy words) is ∙ by_layout words in
-        subst (λ (y : Lists). Wrote y start (lowerNetlist (netlistAt words)) (stated p) l₁) from (subst (λ (y : Netlist). Wrote l start (lowerNetlist y) (stated p) l₁) b w)
+        subst (λ (y : Lists). Wrote y start (lowerNetlist limits.wires (netlistAt words)) (stated p) l₁) from (subst (λ (y : Netlist). Wrote l start (lowerNetlist limits.wires y) (stated p) l₁) b w)
 
-    by_end : (y : r.Stated) → p ≡ y → record { answer = answer_of q; lists = kept (answer_of q) (lists s' l₁.exprs l₁.stmts) (blank s e t) } ≡ lowered (netlistAt words) s e t
+    by_end : (y : r.Stated) → p ≡ y → record { answer = answer_of q; lists = kept (answer_of q) (lists s' l₁.exprs l₁.stmts) (blank s e t) } ≡ lowered limits.wires (netlistAt words) s e t
     by_end (r.TheVariants.Refused w) d =
         (λ i. record { answer = answer.refused w d i; lists = kept (answer.refused w d i) (lists s' l₁.exprs l₁.stmts) (blank s e t) })
-        ∙ sym (lowered-as (netlistAt words) s e t (subst (λ (y : r.Stated). Wrote (blank s e t) start (lowerNetlist (netlistAt words)) (stated y) l₁) d wrote))
+        ∙ sym (lowered-as limits.wires (netlistAt words) s e t (subst (λ (y : r.Stated). Wrote (blank s e t) start (lowerNetlist limits.wires (netlistAt words)) (stated y) l₁) d wrote))
     by_end (r.TheVariants.Done u) d =
-        let m = model (netlistAt words) s e t in
-        let lies : l₁ ≡ holdingAll s e t m = held (netlistAt words) s e t (wrote-ended s e t (lowerNetlist (netlistAt words)) wrote) (ap stated d) in
+        let m = model limits.wires (netlistAt words) s e t in
+        let lies : l₁ ≡ holdingAll s e t m = held limits.wires (netlistAt words) s e t (wrote-ended s e t (lowerNetlist limits.wires (netlistAt words)) wrote) (ap stated d) in
         let hs : l₁.signals ≡ holding s (listWords signalWords m.signals) = ap (λ (y : Lists). y.signals) lies in
         let ht : l₁.stmts ≡ holding t (listWords stmtWords m.stmts) = ap (λ (y : Lists). y.stmts) lies in
         let back : lists s' l₁.exprs l₁.stmts ≡ l₁ = ap (λ (y : List ℕ). lists y l₁.exprs l₁.stmts) (answer.same u d s t m.signals m.stmts hs ht) in
-        finish (conflict (netlistAt words) s e t) u (answer_of q) l₁ (lists s' l₁.exprs l₁.stmts) (blank s e t) (answer.recorded u d s t m.signals m.stmts hs ht l₁) back
-        ∙ sym (lowered-as (netlistAt words) s e t (subst (λ (y : r.Stated). Wrote (blank s e t) start (lowerNetlist (netlistAt words)) (stated y) l₁) d wrote))
+        finish (conflict limits.wires (netlistAt words) s e t) u (answer_of q) l₁ (lists s' l₁.exprs l₁.stmts) (blank s e t) (answer.recorded u d s t m.signals m.stmts hs ht l₁) back
+        ∙ sym (lowered-as limits.wires (netlistAt words) s e t (subst (λ (y : r.Stated). Wrote (blank s e t) start (lowerNetlist limits.wires (netlistAt words)) (stated y) l₁) d wrote))
 
-  pub attempt-done : {layout : Layout} → readWords limits words ≡ netlist (netlistAt words) → layout ≡ layout_of words → {p : r.Stated} {l₁ : Lists} → RecordsNetlist l wires places parts values banks words layout p l₁
+  pub attempt-done : {layout : Layout} → readWords limits words ≡ netlist (netlistAt words) → layout ≡ layout_of words → {p : r.Stated} {l₁ : Lists} → RecordsNetlist l wires places parts values banks words layout limits.wires p l₁
       → {q : c.Lowered} {s' : List ℕ} → AnswersTo l₁.signals l₁.stmts p q s' → Attempts limits words l wires places parts values banks q (lists s' l₁.exprs l₁.stmts)
   attempt-done read is {p} recorded answer = record {
-    value = λ h g s e t from. by_end read is recorded answer s e t from h g p refl ∙ sym (ap (λ (y : Read). loweredRead y s e t) read);
+    value = λ h g s e t from. by_end read is recorded answer s e t from h g p refl ∙ sym (ap (λ (y : Read). loweredRead limits.wires y s e t) read);
   }

@@ -7,8 +7,8 @@ use Rattle.converter.proofs.cell.emit_cells.Given as goal
 abbrev pub invariant-loop-i : goal.invariant-loop-i
 invariant-loop-i l =
     (l.i ≤ l.n)
-    × CellsLoop (wiresOf l.wires l.places) l.constants l.words l.at l.n l.initial.parts l.initial.values (lists l.initial.signals l.initial.exprs l.initial.stmts) l.initial.now (lists l.signals l.exprs l.stmts) l.now l.i
-    × CellIs (wiresOf l.wires l.places) l.constants l.words l.at l.n l.initial.parts l.initial.values l.i l.place
+    × CellsLoop (wiresOf l.wires l.places) l.constants l.words l.at l.n l.initial.parts l.initial.values l.initial.seen (lists l.initial.signals l.initial.exprs l.initial.stmts) l.initial.now (lists l.signals l.exprs l.stmts) l.now l.seen l.i
+    × CellIs (wiresOf l.wires l.places) l.constants l.words l.at l.n l.initial.parts l.initial.values l.initial.seen l.i l.place
 
 abbrev pub decreases-loop-i : goal.decreases-loop-i
 decreases-loop-i l = l.n - l.i

@@ -1,6 +1,5 @@
-use Rattle.wires.specs.Wires.{wiresOf}
 use Rattle.converter.proofs.KindLaws.{kind-ccu2c}
 use Rattle.converter.proofs.kinds.ccu2c_cell.Goals as goal
 
 pub returns : goal.returns
-returns c = kind-ccu2c c.args.exprs.now c.args.stmts.now c.args.t (wiresOf c.args.wires.now c.args.places.now) c.emit_ccu2c.result c.emit_ccu2c.new.exprs c.emit_ccu2c.new.stmts c.args.words.now c.args.at c.ccu2c_at-f.result c.ccu2c_at-f.ensures c.ccu2c_inputs-inputs.ensures c.truth_table-init0.ensures c.truth_table-init1.ensures c.emit_ccu2c.ensures
+returns c = kind-ccu2c _ _ _ _ _ _ _ _ _ c.args.words.now c.args.at c.ccu2c_at-f.result c.ccu2c_at-f.ensures c.ccu2c_inputs-inputs.ensures c.truth_table-init0.ensures c.truth_table-init1.ensures c.emit_ccu2c.wrote
