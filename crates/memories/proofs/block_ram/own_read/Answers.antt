@@ -1,4 +1,4 @@
-use Rattle.std.proofs.Common.{ap, ◌∙◌, ℕ, ◌+◌, get_or, arith}
+use Rattle.std.proofs.Common.{ap, ◌∙◌, ℕ, ◌+◌, get_or}
 use Rattle.wires.specs.Once.{seenOf}
 use Rattle.memories.proofs.PortLaws.{own-other, own-known, own-unknown}
 use Rattle.memories.proofs.block_ram.own_read.Goals as goal

@@ -1,5 +1,5 @@
 use Rattle.std.proofs.Common.{ap, sym, refl, ◌∙◌, ℕ, List}
-use Rattle.recorder.proofs.Wrote.{wrote_as, wrote-refuse}
+use Rattle.recorder.proofs.Wrote.{wrote_as}
 use Rattle.netlist.specs.Fields.{ramAt}
 use Rattle.netlist.specs.Reader.{addressWidth, shift_of}
 use Rattle.behaviour.specs.Behaviour.{shiftIn}

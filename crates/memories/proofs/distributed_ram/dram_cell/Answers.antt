@@ -1,4 +1,4 @@
-use Rattle.std.proofs.Common.{sym, refl, ◌∙◌}
+use Rattle.std.proofs.Common.{sym, refl}
 use Rattle.std.proofs.Math.Option.{none}
 use Rattle.recorder.proofs.Wrote.{wrote_as}
 use Rattle.netlist.specs.Fields.{recordsAt}
