@@ -10,14 +10,15 @@ use lib.ListN.{get_or}
 use Rattle.netlist.specs.declared.Control.{Control}
 use Rattle.netlist.specs.Netlist.{DistributedRam}
 use Rattle.recorder.specs.declared.Tapes.{Tapes}
-use Rattle.recorder.specs.Record.{Stmt.reg}
-use Rattle.recorder.specs.Writer.{Count, End.ok, Writer, pure, state, further, ◌>>=◌}
+use Rattle.recorder.specs.Record.{Expr.const, Stmt.reg}
+use Rattle.recorder.specs.Writer.{Count, End.ok, Writer, pure, emit, state, further, ◌>>=◌}
 use Rattle.recorder.specs.Lists.{Lists, lists, count_of, Wrote, WroteExprs, Answer, Answer.Done, Answer.Failed}
 use Rattle.recorder.proofs.Wrote.{wrote-pure, Going, going_start, going_step, going-stop, going-same, going_end}
 use Rattle.recorder.proofs.Events.{bind_assoc}
 use Rattle.wires.specs.declared.Constants.{Constants}
 use Rattle.wires.specs.Wires.{Wires}
-use Rattle.wires.specs.Expressions.{bitSignal, assertedExpression, vectorExpression}
+use Rattle.wires.specs.Seen.{Seen, Reading, withSeen, keeping}
+use Rattle.wires.specs.Expressions.{bitSignal, assertedOnce, vectorOnce, assignWire}
 use Rattle.memories.specs.declared.Port.{Port}
 use Rattle.memories.specs.Memories.{Word, PortExprs, writeWord, ramWord, dramWords, dramSelect, emitDistributedRam}
 use Rattle.address_mux.specs.Address.{matchAddress}
@@ -186,16 +187,29 @@ module _ {address q₀ z₀ : ℕ} {e₀ : List ℕ} {t₀ : Tapes} where
 
 -- THE WHOLE
 
-pub dram-split : (m : Wires) (z : Constants) (owner : ℕ) (r : DistributedRam)
-    → emitDistributedRam m z owner r ≡ (dramExprs m r >>= λ p. bitSignal m z r.clock >>= λ clock. dramBody m owner p clock r.edge (get_or r.output 0 0))
-unfolding emitDistributedRam dramExprs dramBody dramRead
-dram-split m z owner r = sym (bind-four
-    (vectorExpression m r.writeAddress 0 4)
-    (λ wa. vectorExpression m r.readAddress 0 4)
-    (λ wa ra. vectorExpression m r.input 0 4)
-    (λ wa ra d. assertedExpression m r.write)
-    (λ wa ra d y. record { writeAddress = wa; writeData = d; writeAsserted = y; readAddress = ra; readData = r.output; readEnable = none; clockEnabled = none })
-    (λ p. bitSignal m z r.clock >>= λ clock. dramBody m owner p clock r.edge (get_or r.output 0 0)))
+-- what has been read is kept behind the last step
+keeping-dram : (m : Wires) (owner : ℕ) (p : PortExprs) (clock edge output : ℕ) (seen : Seen)
+    → keeping seen (dramBody m owner p clock edge output)
+    ≡ (dramWords p owner clock edge 16 0 [] >>= λ words. emit (const 4 0) >>= λ e. dramSelect p.readAddress 0 words e >>= λ v. keeping seen (assignWire m output v))
+unfolding dramBody dramRead
+keeping-dram m owner p clock edge output seen = bind_assoc _ _ _ ∙ bind-cong _ (λ words. bind_assoc _ _ _ ∙ bind-cong _ (λ e. bind_assoc _ _ _))
+
+module _ (m : Wires) (z : Constants) (seen : Seen) (owner : ℕ) (r : DistributedRam) where
+  abbrev afterPort : Reading PortExprs → Writer (Reading (Unit {0}))
+  afterPort p = bitSignal m z r.clock >>= λ clock. dramWords p.value owner clock r.edge 16 0 [] >>= λ words. emit (const 4 0) >>= λ e. dramSelect p.value.readAddress 0 words e >>= λ v. keeping p.seen (assignWire m (get_or r.output 0 0) v)
+
+  split : emitDistributedRam m z seen owner r ≡ (dramExprs m seen r >>= afterPort)
+  unfolding emitDistributedRam dramExprs
+  split = sym (bind-four
+      (vectorOnce m seen r.writeAddress 0 4)
+      (λ wa. vectorOnce m wa.seen r.readAddress 0 4)
+      (λ wa ra. vectorOnce m ra.seen r.input 0 4)
+      (λ wa ra d. assertedOnce m d.seen r.write)
+      (λ wa ra d y. withSeen (record { writeAddress = wa.value; writeData = d.value; writeAsserted = y.value; readAddress = ra.value; readData = r.output; readEnable = none; clockEnabled = none }) y.seen)
+      afterPort)
+
+  pub dram-split : emitDistributedRam m z seen owner r ≡ (dramExprs m seen r >>= λ p. bitSignal m z r.clock >>= λ clock. keeping p.seen (dramBody m owner p.value clock r.edge (get_or r.output 0 0)))
+  dram-split = split ∙ bind-cong _ (λ p. bind-cong _ (λ clock. sym (keeping-dram m owner p.value clock r.edge (get_or r.output 0 0) p.seen)))
 
 pub dram-body-writing : (m : Wires) (out : List ℕ) (en : Option Control) (p : Port) (owner clock : ℕ) {edge edge' output output' : ℕ} → edge ≡ edge' → output ≡ output'
     → dramBody m owner (portOf out en p) clock edge' output' ≡ dramBody m owner (writing p) clock edge output

@@ -82,47 +82,47 @@ module _ {B : Type 0} {w : Writer ℕ} {q : Controlled} (h : Reads w q) (k : ℕ
 
 -- THE REGISTER
 
-module _ (m : Wires) (z : Constants) (output : ℕ) (clocked : Option ℕ) (width v clock edge : ℕ) where
+module _ (m : Wires) (z : Constants) (output : ℕ) (clocked own : Option ℕ) (width v clock edge : ℕ) where
   abbrev loads : ℕ → Option RegEnable → Writer (Unit {0})
-  loads s en = nextRead clocked width s v >>= λ n. state (reg s n clock edge none en)
+  loads s en = nextRead clocked own width s v >>= λ n. state (reg s n clock edge none en)
 
-  read_held : (enable : Option Control) {r : WireRef} → m output ≡ some r → readRegister m z output enable clocked width v clock edge ≡ (enableOf m z enable >>= loads r.signal)
+  read_held : (enable : Option Control) {r : WireRef} → m output ≡ some r → readRegister m z output enable clocked own width v clock edge ≡ (enableOf m z enable >>= loads r.signal)
   unfolding readRegister
   read_held enable {r} h = ap (λ (x : Writer WireRef). x >>= λ r. enableOf m z enable >>= loads r.signal) (ref-held m h) ∙ bind-pure r (λ r. enableOf m z enable >>= loads r.signal)
 
-  pub read-missing : (enable : Option Control) → m output ≡ none → readRegister m z output enable clocked width v clock edge ≡ refuse 8 output
+  pub read-missing : (enable : Option Control) → m output ≡ none → readRegister m z output enable clocked own width v clock edge ≡ refuse 8 output
   unfolding readRegister
   read-missing enable h = ap (λ (x : Writer WireRef). x >>= λ r. enableOf m z enable >>= loads r.signal) (ref-missing m h) ∙ bind-refuse 8 output (λ r. enableOf m z enable >>= loads r.signal)
 
-  pub read-enabled : (enable : Option Control) {en : Option RegEnable} {r : WireRef} → m output ≡ some r → enableOf m z enable ≡ pure en → readRegister m z output enable clocked width v clock edge ≡ loads r.signal en
+  pub read-enabled : (enable : Option Control) {en : Option RegEnable} {r : WireRef} → m output ≡ some r → enableOf m z enable ≡ pure en → readRegister m z output enable clocked own width v clock edge ≡ loads r.signal en
   read-enabled enable {en} {r} h e = read_held enable h ∙ ap (λ (x : Writer (Option RegEnable)). x >>= loads r.signal) e ∙ bind-pure en (loads r.signal)
 
-  pub read-refused : (enable : Option Control) {number place : ℕ} {r : WireRef} → m output ≡ some r → enableOf m z enable ≡ refuse number place → readRegister m z output enable clocked width v clock edge ≡ refuse number place
+  pub read-refused : (enable : Option Control) {number place : ℕ} {r : WireRef} → m output ≡ some r → enableOf m z enable ≡ refuse number place → readRegister m z output enable clocked own width v clock edge ≡ refuse number place
   read-refused enable {number} {place} {r} h e = read_held enable h ∙ ap (λ (x : Writer (Option RegEnable)). x >>= loads r.signal) e ∙ bind-refuse number place (loads r.signal)
 
 -- THE PORT
 
-module _ (m : Wires) (z : Constants) (words : List Word) (width aw clock edge : ℕ) where
+module _ (m : Wires) (z : Constants) (own : Option ℕ) (words : List Word) (width aw clock edge : ℕ) where
   pub read-port : (p : PortExprs)
-      → emitBlockRamReadPort m z p words width aw clock edge ≡ (selectWord p.readAddress words width aw >>= λ v. readRegister m z (get_or p.readData 0 0) p.readEnable p.clockEnabled width v clock edge)
+      → emitBlockRamReadPort m z p own words width aw clock edge ≡ (selectWord p.readAddress words width aw >>= λ v. readRegister m z (get_or p.readData 0 0) p.readEnable p.clockEnabled own width v clock edge)
   unfolding emitBlockRamReadPort selectWord readRegister
   read-port p = sym (bind_assoc _ _ _ ∙ bind-cong _ (λ e. bind_assoc (candidatesFrom p.readAddress aw 0 words []) (λ nodes. balancedAddressMux width nodes e) _))
 
   -- only its reading counts
-  pub reading-as : (out : List ℕ) (en : Option Control) (p : Port) → emitBlockRamReadPort m z (portOf out en p) words width aw clock edge ≡ emitBlockRamReadPort m z (reading p.reads.0 (get_or out 0 0) en p.clock_enabled) words width aw clock edge
+  pub reading-as : (out : List ℕ) (en : Option Control) (p : Port) → emitBlockRamReadPort m z (portOf out en p) own words width aw clock edge ≡ emitBlockRamReadPort m z (reading p.reads.0 (get_or out 0 0) en p.clock_enabled) own words width aw clock edge
   unfolding emitBlockRamReadPort
   reading-as out en p = refl
 
   pub reading-same : (address : ℕ) (c : ClockEnabled) {output output' : ℕ} {en en' : Option Control} → output ≡ output' → en ≡ en'
-      → emitBlockRamReadPort m z (reading address output' en' c) words width aw clock edge ≡ emitBlockRamReadPort m z (reading address output en c) words width aw clock edge
-  reading-same address c p q = ap₂ (λ (o : ℕ) (x : Option Control). emitBlockRamReadPort m z (reading address o x c) words width aw clock edge) (sym p) (sym q)
+      → emitBlockRamReadPort m z (reading address output' en' c) own words width aw clock edge ≡ emitBlockRamReadPort m z (reading address output en c) own words width aw clock edge
+  reading-same address c p q = ap₂ (λ (o : ℕ) (x : Option Control). emitBlockRamReadPort m z (reading address o x c) own words width aw clock edge) (sym p) (sym q)
 
-  pub second-absent : (out : List ℕ) (en : Option Control) {b : Second} → b ≡ B.Absent → emitSecondReadPort m z (second_of out en b) words width aw clock edge ≡ pure tt
-  second-absent out en e = ap (λ (b : Second). emitSecondReadPort m z (second_of out en b) words width aw clock edge) e
+  pub second-absent : (out : List ℕ) (en : Option Control) {b : Second} → b ≡ B.Absent → emitSecondReadPort m z (second_of out en b) own words width aw clock edge ≡ pure tt
+  second-absent out en e = ap (λ (b : Second). emitSecondReadPort m z (second_of out en b) own words width aw clock edge) e
 
   pub second-present : (out : List ℕ) (en : Option Control) {b : Second} {p : Port} → b ≡ B.Present p
-      → emitSecondReadPort m z (second_of out en b) words width aw clock edge ≡ emitBlockRamReadPort m z (reading p.reads.0 (get_or out 0 0) en p.clock_enabled) words width aw clock edge
-  second-present out en {b} {p} e = ap (λ (b : Second). emitSecondReadPort m z (second_of out en b) words width aw clock edge) e ∙ reading-as out en p
+      → emitSecondReadPort m z (second_of out en b) own words width aw clock edge ≡ emitBlockRamReadPort m z (reading p.reads.0 (get_or out 0 0) en p.clock_enabled) own words width aw clock edge
+  second-present out en {b} {p} e = ap (λ (b : Second). emitSecondReadPort m z (second_of out en b) own words width aw clock edge) e ∙ reading-as out en p
 
 -- THE WIRE
 

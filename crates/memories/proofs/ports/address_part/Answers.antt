@@ -1,7 +1,7 @@
-use Rattle.std.proofs.Common.{sym}
-use Rattle.recorder.proofs.Wrote.{wrote_as}
+use Rattle.std.proofs.Common.{sym, arith}
+use Rattle.wires.proofs.OnceLaws.{once-as}
 use Rattle.address_mux.proofs.Addresses.{at-most-yes}
 use Rattle.memories.proofs.ports.address_part.Goals as goal
 
-pub returns : goal.returns
-returns c = λ s m. wrote_as (sym (at-most-yes 33 c.args.width _ c.requires)) (c.address_expression.ensures s m)
+pub returns-clause-wrote : goal.returns-clause-wrote
+returns-clause-wrote c = λ s m. once-as (sym (at-most-yes 33 c.args.width _ c.requires.0)) (c.address_once.ensures.wrote c.args.first (omega arith) s m)

@@ -1,26 +1,29 @@
-use Rattle.std.proofs.Common.{refl}
-use Rattle.recorder.proofs.Wrote.{wrote-pure, then-done, then-stop}
+use Rattle.std.proofs.Common.{refl, []}
 use Rattle.wires.specs.Wires.{wiresOf}
+use Rattle.wires.proofs.OnceLaws.{once-done, once-stop, once-pure, once-growing}
 use Rattle.memories.specs.Rams.{dramExprs}
 use Rattle.memories.proofs.PortLaws.{vector-as}
 use Rattle.memories.proofs.ports.dram_port.Goals as goal
 
-pub returns-in-Done-asserted_at : goal.returns-in-Done-asserted_at
+pub returns-in-Done-asserted_at-clause-wrote : goal.returns-in-Done-asserted_at-clause-wrote
 unfolding dramExprs
-returns-in-Done-asserted_at c = λ s m. then-done (c.in-Done.ensures s m) _ refl (then-done (c.in-Done-four_bits.ensures s m) _ refl (then-done (vector-as (wiresOf c.args.wires.now c.args.places.now) 0 4 c.bits4-data.ensures c.in-Done-four_bits-2.ensures s m) _ refl (then-done (c.in-Done-asserted_at.ensures s m) _ refl wrote-pure)))
+returns-in-Done-asserted_at-clause-wrote c = λ s m. once-done (c.in-Done.ensures.wrote s m) _ refl (once-done (c.in-Done-four_bits.ensures.wrote s m) _ refl (once-done (vector-as (wiresOf c.args.wires.now c.args.places.now) 0 4 c.bits4-data.ensures c.in-Done-four_bits-2.ensures.wrote s m) _ refl (once-done (c.in-Done-asserted_at.ensures.wrote s m) _ refl (once-pure))))
 
-pub returns-in-Refused-asserted_at : goal.returns-in-Refused-asserted_at
-unfolding dramExprs
-returns-in-Refused-asserted_at c = λ s m. then-done (c.in-Done.ensures s m) _ refl (then-done (c.in-Done-four_bits.ensures s m) _ refl (then-done (vector-as (wiresOf c.args.wires.now c.args.places.now) 0 4 c.bits4-data.ensures c.in-Done-four_bits-2.ensures s m) _ refl (then-stop (c.in-Refused-asserted_at.ensures s m) _ refl)))
+pub returns-in-Done-asserted_at-clause-grows : goal.returns-in-Done-asserted_at-clause-grows
+returns-in-Done-asserted_at-clause-grows c = once-growing _ (returns-in-Done-asserted_at-clause-wrote c [] [])
 
-pub returns-in-Refused-four_bits-2 : goal.returns-in-Refused-four_bits-2
+pub returns-in-Refused-asserted_at-clause-wrote : goal.returns-in-Refused-asserted_at-clause-wrote
 unfolding dramExprs
-returns-in-Refused-four_bits-2 c = λ s m. then-done (c.in-Done.ensures s m) _ refl (then-done (c.in-Done-four_bits.ensures s m) _ refl (then-stop (vector-as (wiresOf c.args.wires.now c.args.places.now) 0 4 c.bits4-data.ensures c.in-Refused-four_bits-2.ensures s m) _ refl))
+returns-in-Refused-asserted_at-clause-wrote c = λ s m. once-done (c.in-Done.ensures.wrote s m) _ refl (once-done (c.in-Done-four_bits.ensures.wrote s m) _ refl (once-done (vector-as (wiresOf c.args.wires.now c.args.places.now) 0 4 c.bits4-data.ensures c.in-Done-four_bits-2.ensures.wrote s m) _ refl (once-stop (c.in-Refused-asserted_at.ensures.wrote s m) _ refl refl)))
 
-pub returns-in-Refused-four_bits : goal.returns-in-Refused-four_bits
+pub returns-in-Refused-four_bits-2-clause-wrote : goal.returns-in-Refused-four_bits-2-clause-wrote
 unfolding dramExprs
-returns-in-Refused-four_bits c = λ s m. then-done (c.in-Done.ensures s m) _ refl (then-stop (c.in-Refused-four_bits.ensures s m) _ refl)
+returns-in-Refused-four_bits-2-clause-wrote c = λ s m. once-done (c.in-Done.ensures.wrote s m) _ refl (once-done (c.in-Done-four_bits.ensures.wrote s m) _ refl (once-stop (vector-as (wiresOf c.args.wires.now c.args.places.now) 0 4 c.bits4-data.ensures c.in-Refused-four_bits-2.ensures.wrote s m) _ refl refl))
 
-pub returns-in-Refused : goal.returns-in-Refused
+pub returns-in-Refused-four_bits-clause-wrote : goal.returns-in-Refused-four_bits-clause-wrote
 unfolding dramExprs
-returns-in-Refused c = λ s m. then-stop (c.in-Refused.ensures s m) _ refl
+returns-in-Refused-four_bits-clause-wrote c = λ s m. once-done (c.in-Done.ensures.wrote s m) _ refl (once-stop (c.in-Refused-four_bits.ensures.wrote s m) _ refl refl)
+
+pub returns-in-Refused-clause-wrote : goal.returns-in-Refused-clause-wrote
+unfolding dramExprs
+returns-in-Refused-clause-wrote c = λ s m. once-stop (c.in-Refused.ensures.wrote s m) _ refl refl

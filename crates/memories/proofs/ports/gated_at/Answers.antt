@@ -1,26 +1,32 @@
-use Rattle.std.proofs.Common.{refl, ◌+◌}
-use Rattle.recorder.proofs.Wrote.{wrote-pure, then-done, then-stop}
+use Rattle.std.proofs.Common.{refl, arith, ◌+◌, []}
 use Rattle.netlist.specs.Fields.{controlAt, optionalControlAt}
 use Rattle.wires.specs.Wires.{wiresOf}
+use Rattle.wires.proofs.OnceLaws.{once-done, once-stop, once-then, once-failed, once-pure, once-growing}
 use Rattle.memories.specs.Memories.{gate}
 use Rattle.memories.proofs.PortLaws.{gate-as, gate-stop}
 use Rattle.memories.proofs.ports.gated_at.Goals as goal
 
-pub returns-in-Absent : goal.returns-in-Absent
+pub returns-in-Absent-clause-wrote : goal.returns-in-Absent-clause-wrote
 unfolding gate
-returns-in-Absent c = gate-as (wiresOf c.args.wires.now c.args.places.now) refl c.in-Absent.ensures (λ s m. then-done (c.in-Done.ensures s m) _ refl wrote-pure)
+returns-in-Absent-clause-wrote c = gate-as (wiresOf c.args.wires.now c.args.places.now) refl c.in-Absent.ensures (λ s m. once-done (c.in-Done.ensures.wrote s m) _ refl (once-pure))
 
-pub returns-in-Done-and : goal.returns-in-Done-and
+pub returns-in-Absent-clause-grows : goal.returns-in-Absent-clause-grows
+returns-in-Absent-clause-grows c = c.in-Done.ensures.grows
+
+pub returns-in-Done-and-clause-wrote : goal.returns-in-Done-and-clause-wrote
 unfolding gate
-returns-in-Done-and c = gate-as (wiresOf c.args.wires.now c.args.places.now) refl c.in-Present.ensures (λ s m. then-done (c.in-Done.ensures s m) _ refl (then-done (c.in-Done-asserted_expression.ensures s m) _ refl (then-done (c.in-Done-and.ensures s m) _ refl wrote-pure)))
+returns-in-Done-and-clause-wrote c = gate-as (wiresOf c.args.wires.now c.args.places.now) refl c.in-Present.ensures (λ s m. once-done (c.in-Done.ensures.wrote s m) _ refl (once-done (c.in-Done-asserted_once.ensures.wrote c.args.first (omega (arith, c.in-Done.ensures.grows)) s m) _ refl (once-then (c.in-Done-and.ensures s m) _ refl once-pure)))
 
-pub returns-in-Refused-and : goal.returns-in-Refused-and
+pub returns-in-Done-and-clause-grows : goal.returns-in-Done-and-clause-grows
+returns-in-Done-and-clause-grows c = once-growing _ (returns-in-Done-and-clause-wrote c [] [])
+
+pub returns-in-Refused-and-clause-wrote : goal.returns-in-Refused-and-clause-wrote
 unfolding gate
-returns-in-Refused-and c = gate-as (wiresOf c.args.wires.now c.args.places.now) refl c.in-Present.ensures (λ s m. then-done (c.in-Done.ensures s m) _ refl (then-done (c.in-Done-asserted_expression.ensures s m) _ refl (then-stop (c.in-Refused-and.ensures s m) _ refl)))
+returns-in-Refused-and-clause-wrote c = gate-as (wiresOf c.args.wires.now c.args.places.now) refl c.in-Present.ensures (λ s m. once-done (c.in-Done.ensures.wrote s m) _ refl (once-done (c.in-Done-asserted_once.ensures.wrote c.args.first (omega (arith, c.in-Done.ensures.grows)) s m) _ refl (once-failed (c.in-Refused-and.ensures s m) _ refl refl)))
 
-pub returns-in-Refused-asserted_expression : goal.returns-in-Refused-asserted_expression
+pub returns-in-Refused-asserted_once-clause-wrote : goal.returns-in-Refused-asserted_once-clause-wrote
 unfolding gate
-returns-in-Refused-asserted_expression c = gate-as (wiresOf c.args.wires.now c.args.places.now) refl c.in-Present.ensures (λ s m. then-done (c.in-Done.ensures s m) _ refl (then-stop (c.in-Refused-asserted_expression.ensures s m) _ refl))
+returns-in-Refused-asserted_once-clause-wrote c = gate-as (wiresOf c.args.wires.now c.args.places.now) refl c.in-Present.ensures (λ s m. once-done (c.in-Done.ensures.wrote s m) _ refl (once-stop (c.in-Refused-asserted_once.ensures.wrote c.args.first (omega (arith, c.in-Done.ensures.grows)) s m) _ refl refl))
 
-pub returns-in-Refused : goal.returns-in-Refused
-returns-in-Refused c = gate-stop (wiresOf c.args.wires.now c.args.places.now) (controlAt c.args.words.now (c.args.at + c.args.write_offset)) (optionalControlAt c.args.words.now (c.args.at + c.args.enable_offset)) c.in-Refused.ensures refl
+pub returns-in-Refused-clause-wrote : goal.returns-in-Refused-clause-wrote
+returns-in-Refused-clause-wrote c = gate-stop (wiresOf c.args.wires.now c.args.places.now) (controlAt c.args.words.now (c.args.at + c.args.write_offset)) (optionalControlAt c.args.words.now (c.args.at + c.args.enable_offset)) c.in-Refused.ensures.wrote refl
