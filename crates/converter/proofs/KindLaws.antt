@@ -13,6 +13,7 @@ use lib.Seq.{length-take-le}
 use borrow.Author.Tests.{eq-eqb, ne_eqb}
 use Rattle.bits.specs.Bits.{pick}
 use Rattle.refusal.specs.declared.Refusal.TheVariants.{UnsupportedTrueDualPortMemory}
+use Rattle.netlist.specs.declared.Limits.{Limits}
 use Rattle.netlist.specs.declared.Bit.{Bit}
 use Rattle.netlist.specs.declared.records.Pfumx.{Pfumx}
 use Rattle.netlist.specs.declared.records.L6mux21.{L6mux21}
@@ -65,15 +66,19 @@ kind_at words at k e = ap (λ (j : ℕ). ofKind words at j) (ap (λ (j : ℕ). w
 
 -- ---- a table of what earlier cells have read has nothing of this one
 
-module _ {P : Limits → Type 0} {l : Lists} {t : Tapes} {seen : List ℕ} where
-  old-after : {w : Writer (Reading (Unit {0}))} (r : Answer (Unit {0})) {l' : Lists} {seen' : List ℕ} → Once l t t.exprs.count seen w r l' seen' → Old t seen → OldAfter r seen'
-  old-after (Done u v) {l'} {seen'} h old w = go (h.leaves w) (wrote-grows h.wrote)
-    where
-      go : (get_or seen' w 0 ≡ get_or seen w 0) ⊎ ((t.exprs.count < get_or seen' w 0) × (get_or seen' w 0 ≤ v.exprs.count)) → t.exprs.count ≤ v.exprs.count → get_or seen' w 0 ≤ v.exprs.count
-      go (inl p) g = let k : get_or seen w 0 ≤ t.exprs.count = old w in omega arith
-      go (inr p) g = p.1
-  old-after (Failed x y) h old = tt
+old-after : {l : Lists} {t : Tapes} {seen : List ℕ} {w : Writer (Reading (Unit {0}))} (r : Answer (Unit {0})) {l' : Lists} {seen' : List ℕ} → Once l t t.exprs.count seen w r l' seen' → Old t seen → OldAfter r seen'
+old-after {l} {t} {seen} (Done u v) {l'} {seen'} h old = λ w. go w (h.leaves w) (wrote-grows h.wrote)
+  where
+    go : (w : ℕ) → (get_or seen' w 0 ≡ get_or seen w 0) ⊎ ((t.exprs.count < get_or seen' w 0) × (get_or seen' w 0 ≤ v.exprs.count)) → t.exprs.count ≤ v.exprs.count → get_or seen' w 0 ≤ v.exprs.count
+    go w (inl p) g = let k : get_or seen w 0 ≤ t.exprs.count = old w in omega arith
+    go w (inr p) g = p.1
+old-after (Failed x y) h old = tt
 
+old-still : (seen : List ℕ) {l : Lists} {t : Tapes} {cell : Writer (Unit {0})} (r : Answer (Unit {0})) {l' : Lists} → Wrote l t cell r l' → Old t seen → OldAfter r seen
+old-still seen {l} {t} (Done u v) g old = λ w. let k : get_or seen w 0 ≤ t.exprs.count = old w in let n : t.exprs.count ≤ v.exprs.count = wrote-grows g in omega arith
+old-still seen (Failed x y) g old = tt
+
+module _ {P : Limits → Type 0} {l : Lists} {t : Tapes} {seen : List ℕ} where
   pub shares : (w : Seen → Writer (Reading (Unit {0}))) {cell : Writer (Unit {0})} {r : Stated} {l' : Lists} {seen' : List ℕ} → ((limits : Limits) → P limits → cell ≡ forgetting (w (nothingSeen (length seen))))
       → OnceAll l t t.exprs.count seen w (stated r) l' seen' → Shares P l t seen cell r l' seen'
   shares w {cell} {r} {l'} {seen'} is h =
@@ -86,11 +91,7 @@ module _ {P : Limits → Type 0} {l : Lists} {t : Tapes} {seen : List ℕ} where
 
   -- one that reads nothing, or shares nothing
   pub shares-none : {cell : Writer (Unit {0})} {r : Stated} {l' : Lists} {seen' : List ℕ} → ((limits : Limits) → P limits → Wrote l t cell (stated r) l') → seen ≡ seen' → Shares P l t seen cell r l' seen'
-  shares-none {cell} {r} {l'} {seen'} h same = subst (λ (x : List ℕ). Shares P l t seen cell r l' x) same (record { so = λ limits p old. h limits p; old = λ limits p old. go (stated r) (h limits p) old })
-    where
-      go : (a : Answer (Unit {0})) → Wrote l t cell a l' → Old t seen → OldAfter a seen
-      go (Done u v) g old w = let k : get_or seen w 0 ≤ t.exprs.count = old w in let n : t.exprs.count ≤ v.exprs.count = wrote-grows g in omega arith
-      go (Failed x y) g old = tt
+  shares-none {cell} {r} {l'} {seen'} h same = subst (λ (x : List ℕ). Shares P l t seen cell r l' x) same (record { so = λ limits p old. h limits p; old = λ limits p old. old-still seen (stated r) (h limits p) old })
 
 -- ---- the same cell, the same records
 

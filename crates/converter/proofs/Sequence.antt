@@ -6,6 +6,7 @@ use mathlib.Core.Bool.{Bool}
 use mathlib.Core.List.{List}
 use native.Mathlib.Omega.{arith}
 use lib.ListN.{length, take, get_or, replicate}
+use Rattle.std.proofs.lemmas.List.{length-replicate}
 use borrow.Author.Tests.{le-leb}
 use Rattle.bits.specs.Bits.{pick}
 use Rattle.refusal.specs.declared.Refusal.{Refusal}
@@ -107,7 +108,7 @@ module _ (e s parts wires places : List ℕ) (t : Tapes) (z : Constants) (words 
 -- ALL CELLS, with a table of zeros
 
 pub zeros-old : (t : Tapes) (k n : ℕ) → Old t (take k (replicate n 0))
-zeros-old t k n w = let z : get_or (take k (replicate n 0)) w 0 ≡ 0 = zero-at k n w in omega arith
+zeros-old t k n w = omega (arith, zero-at k n w)
   where
     zero-at : (k n w : ℕ) → get_or (take k (replicate {A = ℕ} n 0)) w 0 ≡ 0
     zero-at zero n w = refl
@@ -116,10 +117,10 @@ zeros-old t k n w = let z : get_or (take k (replicate n 0)) w 0 ≡ 0 = zero-at 
     zero-at (suc k) (suc n) (suc w) = zero-at k n w
 
 pub shared-cells : (l : Lists) (parts values : List ℕ) (t : Tapes) (m : Wires) (z : Constants) (words : List ℕ) (layout : Layout) (shared : ℕ) (k n : ℕ) {r : r.Stated} {l' : Lists} {seen : List ℕ}
-    → k ≡ 16384 → n ≡ min shared (length (replicate {A = ℕ} k 0)) → EmitsCells l parts values (take n (replicate k 0)) t m z words layout.start layout.cells r l' seen → EmitsAll l parts values t m z words layout shared r l'
-shared-cells l parts values t m z words layout shared k n {r} {l'} {seen} is cut h = record {
+    → k ≡ 16384 → {w : ℕ} → w ≡ shared → n ≡ min w (length (replicate {A = ℕ} k 0)) → EmitsCells l parts values (take n (replicate k 0)) t m z words layout.start layout.cells r l' seen → EmitsAll l parts values t m z words layout shared r l'
+shared-cells l parts values t m z words layout shared k n {r} {l'} {seen} is {w} wide cut h = record {
   so = λ few limits p.
-      let all : length (replicate {A = ℕ} k 0) ≡ k = length_replicate k 0 in
+      let all : length (replicate {A = ℕ} k 0) ≡ k = length-replicate k 0 in
       let room : n ≤ length (replicate {A = ℕ} k 0) = omega arith in
       let long : length (take n (replicate {A = ℕ} k 0)) ≡ n = length-take-le n (replicate k 0) room in
       let same : length (take n (replicate {A = ℕ} k 0)) ≡ shared = omega arith in

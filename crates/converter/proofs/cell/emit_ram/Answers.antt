@@ -10,4 +10,4 @@ pub returns : goal.returns
 returns c =
     cell-kind _ _ _ _ _ _ _ _ _ _ _ _ _ 7 c.field.ensures
     (⊎_elim (λ w. absurd (c.if-field-eq6.false (c.field.ensures ∙ ap (word_at c.args.words.now) (add-zero c.args.at) ∙ w))) (λ w. c.field.ensures ∙ ap (word_at c.args.words.now) (add-zero c.args.at) ∙ w) c.requires)
-    (cell-alone _ _ _ _ _ _ _ _ _ _ _ _ _ (distributedRamAt c.args.words.now c.args.at) c.distributed_ram_cell.ensures)
+    (cell-alone _ _ _ _ _ _ c.args.words.now c.args.at _ _ _ c.args.parts.now c.args.values.now (distributedRamAt c.args.words.now c.args.at) c.distributed_ram_cell.ensures)

@@ -5,4 +5,4 @@ pub returns-then-field-eq1 : goal.returns-then-field-eq1
 returns-then-field-eq1 c = distributed-refused _ _ _ _ _ _ _ _ c.field.ensures c.if-field-eq1.true c.wide.ensures
 
 pub returns : goal.returns
-returns c = distributed-wrote _ _ _ _ _ _ _ _ _ _ _ c.field.ensures c.if-field-eq1.false c.bits4-written.ensures c.bits4-read.ensures c.emit_distributed_ram.wrote
+returns c = distributed-wrote _ _ _ _ _ _ _ _ _ _ _ c.field.ensures c.if-field-eq1.false c.bits4-written.ensures c.bits4-read.ensures c.emit_distributed_ram.ensures.wrote
