@@ -1,32 +1,28 @@
--- Numbers handed out one after the other are those of the answer. Assumes nothing.
+-- What is handed out where `answer` has room, and where it has none. Assumes nothing.
 use mathlib.Core.Path.{◌≡◌, refl, sym, ◌∙◌, ap, subst}
 use mathlib.Core.Bool.{Bool, true, false, ◌&&◌}
 use mathlib.Core.List.{List, [], ◌∷◌, ◌++◌, map}
 use mathlib.Core.Option.{Option, none, some, some-ne-none}
-use Prim.Native.Nat.{ℕ, zero, suc, ◌+◌, ◌-◌, ◌≤◌, ◌<◌}
-use native.Mathlib.Nat.{not-suc-le-zero}
+use Prim.Native.Nat.{ℕ, suc}
 use native.Mathlib.Omega.{arith}
 use lib.Dec.{eqb, leb, ltb}
-use lib.ListN.{length, set, take, drop}
-use lib.Seq.{take-length, length-take-le}
-use borrow.Author.Tests.{ltb-true, lt-ltb, le-ltb, eq-eqb, ne_eqb}
+use lib.ListN.{length, take, drop}
+use lib.Seq.{take-length}
+use borrow.Author.Tests.{ltb-true}
 use Rattle.bits.specs.Bits.{pick}
-use Rattle.refusal.specs.Refusal.{number_of, place_of}
-use Rattle.refusal.specs.declared.Refusal.{Refusal}
 use Rattle.netlist.specs.Reader.{base}
-use Rattle.recorder.specs.declared.Tapes.{Tapes}
 use Rattle.recorder.specs.Record.{Model}
 use Rattle.recorder.specs.Lists.{Lists}
 use Rattle.recorder.specs.Read.{only}
-use Rattle.lowering.specs.Lower.{Lowered, Accepted, Refused, Lowering, lowerWords}
+use Rattle.lowering.specs.Lower.{Lowered, Refused, Lowering, lowerWords}
 use Rattle.simulation.specs.declared.Ran as s
 use Rattle.simulation.specs.Wellformed.{or_else, largest, malformed}
 use Rattle.simulation.specs.Tick.{looped}
-use Rattle.simulation.specs.Run.{Call, callModel, Outcome, signalBytes, exprBits, tickBits, zeroed, noBit, onLoop, first_of, causes, refusal, verdict, answer, run, bytesAfter}
+use Rattle.simulation.specs.Run.{Call, callModel, Outcome, signalBytes, exprBits, tickBits, noBit, onLoop, first_of, causes, refusal, verdict, answer, run, bytesAfter}
 use Rattle.simulation.specs.Run.{answer_of as ranOf}
 use Rattle.simulation.specs.Fault.{call_of}
 use Rattle.simulation.proofs.Kept.{accepted-good}
-use Rattle.runner.specs.Calls.{firedBy, Runs}
+use Rattle.runner.specs.Calls.{Runs}
 use Rattle.converter.specs.declared.Lowered as c
 use Rattle.converter.specs.Entry.{answer_of, anyShort, blankOf, Lowers}
 use Rattle.converter.specs.Entry as lowers
@@ -34,88 +30,6 @@ use Rattle.simulator.specs.Entry.{Simulation, simulation, Simulated, Simulates, 
 use Rattle.simulator.specs.Entry as simulator
 use Rattle.capi.specs.Answer.{refusalNumbers, numbersOf, Hands, HandsLowered, HandsSimulated, HandsRan, orNoRoom, orNoRoomRan}
 use Rattle.capi.specs.Answer as handed
-
--- nothing is put past the end
-pub put-past : (l : List ℕ) (i v : ℕ) → length l ≤ i → l ≡ set l i v
-put-past [] i v h = refl
-put-past (x ∷ l) zero v h = absurd (not-suc-le-zero h)
-put-past (x ∷ l) (suc i) v h = ap (λ (k : List ℕ). x ∷ k) (put-past l i v (omega arith))
-
-abbrev two : List ℕ → ℕ → ℕ → ℕ → List ℕ
-two l i a b = set (set l i a) (i + 1) b
-
-pub accepted : {r : c.Lowered} {t : Tapes} {l l₁ l₂ l₃ l₄ l₅ : List ℕ} → r ≡ c.TheVariants.Accepted t
-    → l₁ ≡ zeroed l → l₂ ≡ two l₁ 0 0 0
-    → l₃ ≡ two l₂ 2 t.signals.count t.signals.used
-    → l₄ ≡ two l₃ 4 t.exprs.count t.exprs.used
-    → l₅ ≡ two l₄ 6 t.stmts.count t.stmts.used
-    → Hands (numbersOf (answer_of r)) l 0 l₅
-accepted {r} {t} {l} {l₁} {l₂} {l₃} {l₄} {l₅} e a b f g h =
-    subst (λ (x : c.Lowered). Hands (numbersOf (answer_of x)) l 0 l₅) (sym e)
-    (record { coded = refl; handed = h ∙ ap (λ (k : List ℕ). two k 6 t.stmts.count t.stmts.used) (g ∙ ap (λ (k : List ℕ). two k 4 t.exprs.count t.exprs.used) (f ∙ ap (λ (k : List ℕ). two k 2 t.signals.count t.signals.used) (b ∙ ap (λ (k : List ℕ). two k 0 0 0) a))) })
-
-pub refused : {r : c.Lowered} {x : Refusal} {number place n : ℕ} {l l₁ l₂ : List ℕ} → r ≡ c.TheVariants.Refused x
-    → l₁ ≡ zeroed l → number ≡ number_of x → place ≡ place_of x → l₂ ≡ two l₁ 0 number place → n ≡ number_of x
-    → Hands (numbersOf (answer_of r)) l n l₂
-refused {r} {x} {number} {place} {n} {l} {l₁} {l₂} e a p q b o =
-    subst (λ (y : c.Lowered). Hands (numbersOf (answer_of y)) l n l₂) (sym e)
-    (record { coded = o; handed = b ∙ (λ i. two (a i) 0 (p i) (q i)) })
-
-pub done : {r : s.Ran} {l l₁ l₂ : List ℕ} → r ≡ s.TheVariants.Done → l₁ ≡ zeroed l → l₂ ≡ two l₁ 0 0 0 → Hands (refusalNumbers (ranOf r)) l 0 l₂
-done {r} {l} {l₁} {l₂} e a b = subst (λ (y : s.Ran). Hands (refusalNumbers (ranOf y)) l 0 l₂) (sym e) (record { coded = refl; handed = b ∙ ap (λ (k : List ℕ). two k 0 0 0) a })
-
-pub ran-refused : {r : s.Ran} {x : Refusal} {number place n : ℕ} {l l₁ l₂ : List ℕ} → r ≡ s.TheVariants.Refused x
-    → l₁ ≡ zeroed l → number ≡ number_of x → place ≡ place_of x → l₂ ≡ two l₁ 0 number place → n ≡ number_of x
-    → Hands (refusalNumbers (ranOf r)) l n l₂
-ran-refused {r} {x} {number} {place} {n} {l} {l₁} {l₂} e a p q b o =
-    subst (λ (y : s.Ran). Hands (refusalNumbers (ranOf y)) l n l₂) (sym e)
-    (record { coded = o; handed = b ∙ (λ i. two (a i) 0 (p i) (q i)) })
-
-pub fired-edge : (f s : ℕ) → (f ≡ 0 → ⊥) → some (s, f - 1) ≡ firedBy f s
-fired-edge zero s d = absurd (d refl)
-fired-edge (suc f) s d = ap (λ (k : ℕ). some (s, k)) (omega arith)
-
--- A SHORT `answer`
-
-module _ {A : Type 0} (x y : A) (room : ℕ) where
-  pub without-room : {z : A} → room < 8 → z ≡ x → z ≡ pick (ltb room 8) x y
-  without-room h e = e ∙ sym (ap (λ (b : Bool). pick b x y) (lt-ltb room 8 h))
-
-  pub with-room : {z : A} → 8 ≤ room → z ≡ y → z ≡ pick (ltb room 8) x y
-  with-room h e = e ∙ sym (ap (λ (b : Bool). pick b x y) (le-ltb room 8 h))
-
-module _ {r : c.Lowered} where
-  pub short-accepted : {t : Tapes} → r ≡ c.TheVariants.Accepted t → Refused 1 8 ≡ orNoRoom (answer_of r)
-  short-accepted e = sym (ap (λ (y : c.Lowered). orNoRoom (answer_of y)) e)
-
-  module _ {x : Refusal} {n : ℕ} (e : r ≡ c.TheVariants.Refused x) (o : n ≡ number_of x) where
-    by_number : (b : Bool) → eqb n 1 ≡ b → pick b (Refused (number_of x) (place_of x)) (Refused 1 8) ≡ orNoRoom (answer_of r)
-    by_number b h = ap (λ (y : Bool). pick y (Refused (number_of x) (place_of x)) (Refused 1 8)) (sym h ∙ ap (λ (k : ℕ). eqb k 1) o) ∙ sym (ap (λ (y : c.Lowered). orNoRoom (answer_of y)) e)
-
-    pub short-work : n ≡ 1 → Refused (number_of x) (place_of x) ≡ orNoRoom (answer_of r)
-    short-work h = by_number true (eq-eqb n 1 h)
-
-    pub short-other : (n ≡ 1 → ⊥) → Refused 1 8 ≡ orNoRoom (answer_of r)
-    short-other h = by_number false (ne_eqb n 1 h)
-
-module _ {r : s.Ran} where
-  pub short-done : r ≡ s.TheVariants.Done → some (1, 8) ≡ orNoRoomRan (ranOf r)
-  short-done e = sym (ap (λ (y : s.Ran). orNoRoomRan (ranOf y)) e)
-
-  module _ {x : Refusal} {n : ℕ} (e : r ≡ s.TheVariants.Refused x) (o : n ≡ number_of x) where
-    ran-by-number : (b : Bool) → ltb n 13 ≡ b → pick b (some (number_of x, place_of x)) (some (1, 8)) ≡ orNoRoomRan (ranOf r)
-    ran-by-number b h = ap (λ (y : Bool). pick y (some (number_of x, place_of x)) (some (1, 8))) (sym h ∙ ap (λ (k : ℕ). ltb k 13) o) ∙ sym (ap (λ (y : s.Ran). orNoRoomRan (ranOf y)) e)
-
-    pub short-buffer : n < 13 → some (number_of x, place_of x) ≡ orNoRoomRan (ranOf r)
-    short-buffer h = ran-by-number true (lt-ltb n 13 h)
-
-    pub short-later : 13 ≤ n → some (1, 8) ≡ orNoRoomRan (ranOf r)
-    short-later h = ran-by-number false (le-ltb n 13 h)
-
--- as many words are read as are asked for
-pub read_length : {used : ℕ} (words : List ℕ) (b : Bool) → used ≡ pick b 0 (length words) → used ≡ length (take used words)
-read_length words true e = sym (length-take-le _ words (omega (arith, e)))
-read_length words false e = sym (length-take-le _ words (omega (arith, e)))
 
 picked : (s : Bool) {A : Type 0} (x y : A) → y ≡ pick (pick s false false) x y
 picked true x y = refl

@@ -5,7 +5,7 @@
 #![tactic(auto)]
 
 ghost use Rattle.std.specs.Prelude.{◌≡◌};
-ghost use Rattle.io.specs.Counts.{IsPrefixLen};
+ghost use Rattle.std.specs.Counts.{IsPrefixLen};
 
 use converter::{Lowered, lower};
 use lines::fields::put_fields;
@@ -14,6 +14,7 @@ use listing::{put_expressions, put_first_line, put_signals, put_statements};
 use recorder::read::word;
 use recorder::{Tape, Tapes};
 use refusal::Refusal;
+use std::io::{Read, Write};
 use text::{Place, flush, put_byte, put_text};
 use words::read_words;
 
@@ -133,12 +134,12 @@ fn hash_text(text: &mut [u8], t: Tapes, signals: &[u32], exprs: &[u32], stmts: &
 
 // LINES
 
-fn end_line(text: &mut [u8], end: Place) -> bool {
+fn end_line<W: Write>(to: &mut W, text: &mut [u8], end: Place) -> bool {
     let Place::At(a) = end else {
         return false;
     };
     match put_byte(text, a, b'\n') {
-        Place::At(b) => flush(text, b),
+        Place::At(b) => flush(to, text, b),
         Place::Full => false,
     }
 }
@@ -151,7 +152,7 @@ fn put_numbers(text: &mut [u8], numbers: [u32; 8]) -> Place {
     put_fields(text, a, b"", b'-', &numbers)
 }
 
-fn print_model(text: &mut [u8], t: Tapes, words: u32, listing: u32) -> bool {
+fn print_model<W: Write>(to: &mut W, text: &mut [u8], t: Tapes, words: u32, listing: u32) -> bool {
     let s = t.signals;
     let e = t.exprs;
     let m = t.stmts;
@@ -166,15 +167,16 @@ fn print_model(text: &mut [u8], t: Tapes, words: u32, listing: u32) -> bool {
         listing,
     ];
     let end = put_numbers(text, numbers);
-    end_line(text, end)
+    end_line(to, text, end)
 }
 
-fn print_refusal(text: &mut [u8], x: Refusal) -> bool {
+fn print_refusal<W: Write>(to: &mut W, text: &mut [u8], x: Refusal) -> bool {
     let end = put_refused(text, 0, x.number(), x.place());
-    end_line(text, end)
+    end_line(to, text, end)
 }
 
-fn print_answer(
+fn print_answer<W: Write>(
+    to: &mut W,
     text: &mut [u8],
     answer: Lowered,
     signals: &[u32],
@@ -185,16 +187,17 @@ fn print_answer(
         Lowered::Accepted(t) => {
             let h = hash_words(t, signals, exprs, stmts);
             let k = hash_text(text, t, signals, exprs, stmts);
-            print_model(text, t, h, k)
+            print_model(to, text, t, h, k)
         }
-        Lowered::Refused(x) => print_refusal(text, x),
+        Lowered::Refused(x) => print_refusal(to, text, x),
     }
 }
 
 // REPLAY
 
 // A netlist with lists of these lengths; false where they are not to be had.
-fn replay(
+fn replay<W: Write>(
+    to: &mut W,
     words: &[u32],
     signals: &mut [u32],
     exprs: &mut [u32],
@@ -215,11 +218,13 @@ fn replay(
         return false;
     }
     let answer = lower_words(words, &mut signals[..a], &mut exprs[..b], &mut stmts[..c]);
-    print_answer(text, answer, signals, exprs, stmts)
+    print_answer(to, text, answer, signals, exprs, stmts)
 }
 
 // The next netlist; false where the input ends.
-fn replay_next(
+fn replay_next<R: Read, W: Write>(
+    from: &mut R,
+    to: &mut W,
     bytes: &mut [u8],
     words: &mut [u32],
     signals: &mut [u32],
@@ -227,7 +232,7 @@ fn replay_next(
     stmts: &mut [u32],
     text: &mut [u8],
 ) -> bool {
-    let h = read_words(bytes, words, 4);
+    let h = read_words(from, bytes, words, 4);
     if h != 4 {
         return false;
     }
@@ -237,15 +242,17 @@ fn replay_next(
         wide(word(words, 2)),
         wide(word(words, 3)),
     ];
-    let m = read_words(bytes, words, n);
+    let m = read_words(from, bytes, words, n);
     if m != n {
         return false;
     }
-    replay(&words[..m], signals, exprs, stmts, text, lengths)
+    replay(to, &words[..m], signals, exprs, stmts, text, lengths)
 }
 
 // At most so many netlists, and how many there were.
-fn replay_all(
+fn replay_all<R: Read, W: Write>(
+    from: &mut R,
+    to: &mut W,
     bytes: &mut [u8],
     words: &mut [u32],
     signals: &mut [u32],
@@ -256,7 +263,7 @@ fn replay_all(
 ) -> u32 {
     let mut n = 0;
     while n < most {
-        if replay_next(bytes, words, signals, exprs, stmts, text) {
+        if replay_next(from, to, bytes, words, signals, exprs, stmts, text) {
             n += 1;
         } else {
             return n;
@@ -265,7 +272,9 @@ fn replay_all(
     n
 }
 
-fn main() {
+fn main(rt: HostRuntime) {
+    let mut from = rt.stdin();
+    let mut to = rt.stdout();
     let mut bytes = [0u8; 65536];
     let mut words = [0u32; 16384];
     let mut signals = [0u32; 65536];
@@ -273,6 +282,8 @@ fn main() {
     let mut stmts = [0u32; 65536];
     let mut text = [0u8; 524288];
     replay_all(
+        &mut from,
+        &mut to,
         &mut bytes,
         &mut words,
         &mut signals,

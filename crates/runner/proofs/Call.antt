@@ -1,29 +1,26 @@
 -- One call: what its checks leave, and what it answers. Assumes nothing.
 use Prim.Native.Nat.{ℕ, zero, suc, ◌+◌, ◌-◌, ◌≤◌}
-use mathlib.Core.Path.{◌≡◌, refl, sym, ◌∙◌, ap, ap₂, subst}
-use mathlib.Core.Bool.{Bool, false}
-use mathlib.Core.List.{List, [], ◌∷◌, ◌++◌, map, map-append, append_assoc}
+use mathlib.Core.Path.{◌≡◌, refl, sym, ◌∙◌, ap, ap₂}
+use mathlib.Core.Bool.{false}
+use mathlib.Core.List.{List, [], ◌∷◌, ◌++◌, map, map-append}
 use mathlib.Core.Option.{Option, none, some, some-ne-none}
 use native.Mathlib.Omega.{arith}
-use native.Mathlib.Nat.{not-suc-le-zero}
-use lib.ListN.{length, take, drop, replicate, length-map, length-replicate, replicate-append-replicate}
+use lib.ListN.{length, take, drop, replicate, length-replicate, replicate-append-replicate}
 use Rattle.bits.specs.Bits.{Bits, digit}
 use Rattle.recorder.specs.Lists.{Lists, lists}
-use Rattle.recorder.specs.Record.{Model}
 use Rattle.recorder.specs.Read.{modelOf}
 use Rattle.recorder.specs.Words.{rawOf}
 use Rattle.simulation.specs.declared.Ran.{Ran}
-use Rattle.simulation.specs.declared.Ran.TheVariants.{Done, Refused}
 use Rattle.simulation.specs.Wellformed.{largest, firstFault, malformed, or_else}
 use Rattle.simulation.specs.Tick.{looped}
 use Rattle.simulation.specs.Index.{recordsIn, widthsIn, offset}
-use Rattle.simulation.specs.Run.{Call, callModel, total, exprWidth, flat, noBit, tickBits, inputWidth, answer_of, isOne, firing, signalBytes, exprBits, causes, first_of, onLoop, perSignal, ticked, bytesAfter, answer, run, zeroed}
+use Rattle.simulation.specs.Run.{Call, callModel, total, exprWidth, flat, tickBits, answer_of, isOne, firing, signalBytes, exprBits, causes, first_of, onLoop, perSignal, ticked, bytesAfter, answer, run, zeroed}
 use Rattle.simulation.specs.Fault.{call_of, checked, checkedBy}
 use Rattle.simulation.proofs.Calls.{answer-checked}
 use Rattle.simulation.proofs.Flat.{Wide}
 use Rattle.simulation.proofs.Steps.{length-widths}
 use Rattle.simulation.proofs.Found.{faultless, signals-count, exprs-count, exprs-wide}
-use Rattle.simulation.proofs.Kept.{AllNone, all_none, short_none, count_none}
+use Rattle.simulation.proofs.Kept.{AllNone, all_none, short_none}
 use Rattle.ordering.specs.declared.Loop.{Loop}
 use Rattle.ordering.specs.declared.Loop.TheVariants.{Free, At}
 use Rattle.ordering.specs.Loops.{loop_of}
@@ -32,7 +29,7 @@ use Rattle.evaluation.specs.Ready.{Room, modelIn}
 use Rattle.evaluation.specs.Ticks.{NoFault, Filled, GoodTicks, Ticks}
 use Rattle.evaluation.proofs.Calling.{bytes-hold, bytes_count}
 use Rattle.runner.specs.Calls.{Answers, Runs}
-use Rattle.runner.specs.Parts.{tickCauses, Enough, Unrefused, Tries}
+use Rattle.runner.specs.Parts.{Unrefused, Tries}
 use Rattle.runner.proofs.Ticking.{good-ticks}
 
 firsts-none : {a b d : Option (ℕ × ℕ)} → a ≡ none → b ≡ none → d ≡ none → first_of (a ∷ b ∷ d ∷ []) ≡ none

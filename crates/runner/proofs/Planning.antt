@@ -4,7 +4,7 @@ use mathlib.Core.Path.{◌≡◌, refl, sym, ◌∙◌, ap, subst}
 use mathlib.Core.Bool.{true, false, false≢true}
 use mathlib.Core.Logic.{◌⊎◌, inl, inr}
 use mathlib.Core.List.{List}
-use mathlib.Core.Option.{Option, none, some, some-ne-none}
+use mathlib.Core.Option.{some, some-ne-none}
 use native.Mathlib.Omega.{arith}
 use native.Mathlib.Decide.{ℕ_discrete}
 use lib.ListN.{length, get_or, take, drop}
@@ -14,14 +14,14 @@ use Rattle.simulation.specs.Tick.{given, assigns}
 use Rattle.simulation.specs.Index.{recordsIn, start_of, stmtsIn}
 use Rattle.ordering.specs.Marks.{marked}
 use Rattle.ordering.specs.Words.{driverMarked, mark_of}
-use Rattle.evaluation.specs.Loads.{stmtIn, Begins, Names, marked as loadedBy}
+use Rattle.evaluation.specs.Loads.{stmtIn, Names, marked as loadedBy}
 use Rattle.evaluation.specs.Late.{Among, PortsBefore, Loaded, Registers, is_register}
 use Rattle.fusing.specs.Form.{Formed}
 use Rattle.coding.specs.Coded.{bitsIn, Coded}
 use Rattle.coding.specs.Emitting.{MarksLoaded, MarksDrivers}
 use Rattle.coding.proofs.Frame.{take_less, among-kept, registers-kept, formed-kept, coded_kept}
 use Rattle.runner.specs.declared.code.Code.{Code}
-use Rattle.runner.specs.Plan.{registersAt, controlsAt, outputsAt, first_at, secondAt, Controls, Outputs, Planned, Planning}
+use Rattle.runner.specs.Plan.{controlsAt, outputsAt, first_at, secondAt, Controls, Outputs, Planning}
 
 -- WHAT IS MARKED
 

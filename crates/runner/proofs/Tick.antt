@@ -1,17 +1,16 @@
 -- Inputs, settle, commit and settle make a tick. Assumes nothing.
-use Prim.Native.Nat.{ℕ, ◌≤◌}
+use Prim.Native.Nat.{ℕ}
 use mathlib.Core.Path.{◌≡◌}
-use mathlib.Core.List.{List, []}
+use mathlib.Core.List.{List}
 use native.Mathlib.Omega.{arith}
 use lib.ListN.{length}
-use Rattle.bits.specs.Bits.{Bits}
 use Rattle.recorder.specs.Lists.{lists}
 use Rattle.recorder.specs.Read.{modelOf}
 use Rattle.recorder.specs.Words.{rawOf}
 use Rattle.simulation.specs.Index.{widthsIn}
 use Rattle.simulation.specs.Tick.{Firing, tick}
 use Rattle.simulation.proofs.Sound.{signals-read}
-use Rattle.evaluation.specs.Ready.{Prepared, Room, modelIn}
+use Rattle.evaluation.specs.Ready.{Prepared, Room}
 use Rattle.evaluation.specs.Ticks.{Filled, ReadSignals, Inputs, Settled, Commits, Ticks}
 
 pub read-signals : {signals exprs stmts exprTable signalTable : List ℕ} → Prepared signals exprs stmts exprTable signalTable → ReadSignals signals

@@ -15,7 +15,7 @@ use Rattle.recorder.specs.Read.{modelOf}
 use Rattle.recorder.specs.Words.{rawOf}
 use Rattle.simulation.specs.Wellformed.{largest, firstFault, malformed, or_else}
 use Rattle.simulation.specs.Tick.{looped, tick}
-use Rattle.simulation.specs.Run.{Call, firing, inputWidth, total, signalBytes, tickBits, short, noBit, wrongCount, wrongFired, onLoop, first_of, causes, refusal, verdict, answer, flat, isOne, ticked, bytesAfter, run}
+use Rattle.simulation.specs.Run.{Call, firing, inputWidth, total, signalBytes, tickBits, short, noBit, wrongCount, wrongFired, onLoop, first_of, refusal, verdict, answer, flat, isOne, ticked, bytesAfter, run}
 use Rattle.simulation.specs.Shown.{Entry, entryCall}
 use Rattle.simulation.specs.Index.{recordsIn, widthsIn}
 use Rattle.simulation.proofs.Found.{faultless, signals-count}

@@ -1,5 +1,5 @@
 -- The call of `simulate` as a value, and what it says of the netlist's own cells.
-use Rattle.std.specs.Prelude.{◌≡◌, List, [], ◌∷◌, map, ℕ, ◌≤◌, length, take}
+use Rattle.std.specs.Prelude.{◌≡◌, List, map, ℕ, ◌≤◌, length, take}
 use Rattle.std.proofs.Math.Option.{Option, none, some}
 use Rattle.netlist.specs.declared.Limits.{Limits}
 use Rattle.netlist.specs.Netlist.{Netlist}

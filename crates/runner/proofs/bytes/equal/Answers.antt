@@ -1,5 +1,5 @@
 use Rattle.std.proofs.Common.{arith}
-use Rattle.evaluation.proofs.InBytes.{equal-step, equal-differs, equal-end}
+use Rattle.evaluation.proofs.InBytes.{equal-step, equal-differs}
 use Rattle.runner.proofs.bytes.equal.Goals as goal
 
 pub returns-then-bytes-a : goal.returns-then-bytes-a

@@ -15,6 +15,6 @@ look_up-requires c =
 pub loop-j-preserved : goal.loop-j-preserved
 loop-j-preserved c =
     elim c.if-order-at-lt65536.branch [
-      then-order-at-lt65536 w ↦ running-form c.requires.0 c.requires.9 c.requires.4 c.requires.5 c.loop-j.invariant c.loop-j-test.true c.wide-e.ensures refl w.if-order-at-lt65536.true (w.values-is ∙ w.look_up.ensures)
-    | else-order-at-lt65536 w ↦ running-needs c.requires.0 c.requires.9 c.requires.4 c.requires.5 c.loop-j.invariant c.loop-j-test.true c.wide-e.ensures refl w.if-order-at-lt65536.false w.values-is w.eval_expr.auto.values w.eval_expr.ensures
+      | then-order-at-lt65536 w ↦ running-form c.requires.0 c.requires.9 c.requires.4 c.requires.5 c.loop-j.invariant c.loop-j-test.true c.wide-e.ensures refl w.if-order-at-lt65536.true (w.values-is ∙ w.look_up.ensures)
+      | else-order-at-lt65536 w ↦ running-needs c.requires.0 c.requires.9 c.requires.4 c.requires.5 c.loop-j.invariant c.loop-j-test.true c.wide-e.ensures refl w.if-order-at-lt65536.false w.values-is w.eval_expr.auto.values w.eval_expr.ensures
     ]

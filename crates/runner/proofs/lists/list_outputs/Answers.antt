@@ -19,8 +19,8 @@ overflow_add-at-in-loop-at c = omega (arith, signal-step c.requires.0 c.loop-at.
 pub loop-at-preserved : goal.loop-at-preserved
 loop-at-preserved c =
     elim c.if-signals-at-eq1.branch [
-      then-signals-at-eq1+else-k-room+else-s-ge4294967296 w ↦ outputs-taken c.requires.0 c.loop-at.invariant c.size-size.ensures c.if-size-eq0.false w.order-is w.k-is w.if-k-room.false c.requires.1
-    | else-signals-at-eq1 w ↦ outputs-other c.requires.0 c.loop-at.invariant c.size-size.ensures c.if-size-eq0.false w.order-is w.k-is w.if-signals-at-eq1.false
+      | then-signals-at-eq1+else-k-room+else-s-ge4294967296 w ↦ outputs-taken c.requires.0 c.loop-at.invariant c.size-size.ensures c.if-size-eq0.false w.order-is w.k-is w.if-k-room.false c.requires.1
+      | else-signals-at-eq1 w ↦ outputs-other c.requires.0 c.loop-at.invariant c.size-size.ensures c.if-size-eq0.false w.order-is w.k-is w.if-signals-at-eq1.false
     ]
 
 pub returns-clause-listed : goal.returns-clause-listed

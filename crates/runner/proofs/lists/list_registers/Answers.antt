@@ -18,8 +18,8 @@ overflow_add-at-in-loop-at c = omega (arith, registers-step c.loop-at.invariant 
 pub loop-at-preserved : goal.loop-at-preserved
 loop-at-preserved c =
     elim c.if-stmts-at-eq1.branch [
-      then-stmts-at-eq1+else-k-room+else-at-ge4294967296 w ↦ registers-taken c.loop-at.invariant c.requires.0 c.size-size.ensures c.if-size-eq0.false w.order-is w.k-is w.if-k-room.false c.requires.1
-    | else-stmts-at-eq1 w ↦ registers-other c.loop-at.invariant c.requires.0 c.size-size.ensures c.if-size-eq0.false w.order-is w.k-is w.if-stmts-at-eq1.false
+      | then-stmts-at-eq1+else-k-room+else-at-ge4294967296 w ↦ registers-taken c.loop-at.invariant c.requires.0 c.size-size.ensures c.if-size-eq0.false w.order-is w.k-is w.if-k-room.false c.requires.1
+      | else-stmts-at-eq1 w ↦ registers-other c.loop-at.invariant c.requires.0 c.size-size.ensures c.if-size-eq0.false w.order-is w.k-is w.if-stmts-at-eq1.false
     ]
 
 pub returns-clause-listed : goal.returns-clause-listed

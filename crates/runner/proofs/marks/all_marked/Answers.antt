@@ -1,5 +1,5 @@
 use Rattle.std.proofs.Common.{ap, not}
-use Rattle.ordering.proofs.Scans.{passed-more, passed-stop, passed-all}
+use Rattle.ordering.proofs.Scans.{passed-more, passed-stop}
 use Rattle.runner.proofs.marks.all_marked.Goals as goal
 
 pub returns-then-not-is_marked : goal.returns-then-not-is_marked

@@ -1,4 +1,4 @@
-use Rattle.ordering.proofs.Scans.{failed-more, failed-stop, failed-all}
+use Rattle.ordering.proofs.Scans.{failed-more, failed-stop}
 use Rattle.runner.proofs.marks.any_marked.Goals as goal
 
 pub returns-then-is_marked : goal.returns-then-is_marked

@@ -1,8 +1,8 @@
-use Rattle.std.proofs.Common.{arith, ℕ, ◌+◌, ◌-◌, take, drop, sym, ap, ◌∙◌, ◌≡◌, false, true}
+use Rattle.std.proofs.Common.{arith, ℕ, ◌+◌, ◌-◌, take, drop, sym, ap, ◌∙◌, false}
 use Rattle.ordering.specs.Words.{driverMarked}
 use Rattle.ordering.specs.Marks.{marked}
-use Rattle.settle.specs.Tests.{all, any}
-use Rattle.ordering.proofs.Fields.{kind-inside, word-inside, read-inside, word-least, operands-inside, touched_none, touched-read, touched-driver, touched-operands}
+use Rattle.settle.specs.Tests.{any}
+use Rattle.ordering.proofs.Fields.{kind-inside, read-inside, word-least, operands-inside, touched_none, touched-read, touched-driver, touched-operands}
 use Rattle.runner.proofs.marks.touched.Goals as goal
 
 pub overflow_add-kind : goal.overflow_add-kind

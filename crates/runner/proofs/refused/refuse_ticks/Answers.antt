@@ -1,4 +1,4 @@
-use Rattle.std.proofs.Common.{arith, ℕ, ◌≡◌, ◌+◌, ◌-◌, ◌||◌, Bool, min, length, get_or, take, drop, sym, ap, subst, ◌∙◌}
+use Rattle.std.proofs.Common.{ℕ, ◌≡◌, ◌+◌, ◌-◌, min, length, get_or, take, drop, sym, ap, subst, ◌∙◌}
 use Rattle.recorder.specs.Lists.{lists}
 use Rattle.runner.specs.Calls.{handed}
 use Rattle.runner.proofs.Running.{Running, running-end, shown-room}

@@ -25,9 +25,9 @@ overflow_add-at-in-loop-at c = omega (arith, signal-step c.requires.0 c.loop-at.
 
 pub loop-at-preserved : goal.loop-at-preserved
 loop-at-preserved c = elim c.if-signals-at-eq1.branch [
-      then-signals-at-eq1 w ↦ subst (λ (sum : ℕ). Summing c.args.signals.now (c.loop-at.at + c.size-size.result) sum) (sym w.sum-is) (summing-so c.requires.0 c.loop-at.invariant c.size-size.ensures c.if-size-eq0.false w.wide-sum.ensures w.if-signals-at-eq1.true)
-      | else-signals-at-eq1 w ↦ subst (λ (sum : ℕ). Summing c.args.signals.now (c.loop-at.at + c.size-size.result) sum) (sym w.sum-is) (summing-not c.requires.0 c.loop-at.invariant c.size-size.ensures c.if-size-eq0.false w.if-signals-at-eq1.false)
-    ]
+  | then-signals-at-eq1 w ↦ subst (λ (sum : ℕ). Summing c.args.signals.now (c.loop-at.at + c.size-size.result) sum) (sym w.sum-is) (summing-so c.requires.0 c.loop-at.invariant c.size-size.ensures c.if-size-eq0.false w.wide-sum.ensures w.if-signals-at-eq1.true)
+  | else-signals-at-eq1 w ↦ subst (λ (sum : ℕ). Summing c.args.signals.now (c.loop-at.at + c.size-size.result) sum) (sym w.sum-is) (summing-not c.requires.0 c.loop-at.invariant c.size-size.ensures c.if-size-eq0.false w.if-signals-at-eq1.false)
+]
 
 pub returns : goal.returns
 returns c = summing-end c.requires.0 c.loop-at.invariant (walked_end c.loop-at.invariant.walked c.loop-at-test.false).0

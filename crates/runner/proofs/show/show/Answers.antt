@@ -31,9 +31,9 @@ overflow_add-at-in-loop-at-2 c = omega (arith, signal-step c.requires.0 c.loop-a
 
 pub loop-at-preserved : goal.loop-at-preserved
 loop-at-preserved c = elim c.if-signals-at-eq1.branch [
-      then-signals-at-eq1 w ↦ subst (λ (b : List ℕ). Showing c.args.signals.now c.args.bytes.now c.args.shown.now b c.args.from (c.loop-at.at + c.size-size.result) (c.loop-at.pos + c.wide-width.result) c.if-signals-at-eq1.to) (sym w.shown-is) (subst (λ (t : ℕ). Showing c.args.signals.now c.args.bytes.now c.args.shown.now w.copy.new.to c.args.from (c.loop-at.at + c.size-size.result) (c.loop-at.pos + c.wide-width.result) t) (sym w.to-is) (output-shown c.requires.0 c.loop-at.invariant c.size-size.ensures c.if-size-eq0.false c.wide-width.ensures w.if-signals-at-eq1.true c.requires.1 w.copy.auto.to w.copy.ensures))
-      | else-signals-at-eq1 w ↦ subst (λ (b : List ℕ). Showing c.args.signals.now c.args.bytes.now c.args.shown.now b c.args.from (c.loop-at.at + c.size-size.result) (c.loop-at.pos + c.wide-width.result) c.if-signals-at-eq1.to) (sym w.shown-is) (subst (λ (t : ℕ). Showing c.args.signals.now c.args.bytes.now c.args.shown.now c.loop-at.shown c.args.from (c.loop-at.at + c.size-size.result) (c.loop-at.pos + c.wide-width.result) t) (sym w.to-is) (output-none c.requires.0 c.loop-at.invariant c.size-size.ensures c.if-size-eq0.false c.wide-width.ensures w.if-signals-at-eq1.false))
-    ]
+  | then-signals-at-eq1 w ↦ subst (λ (b : List ℕ). Showing c.args.signals.now c.args.bytes.now c.args.shown.now b c.args.from (c.loop-at.at + c.size-size.result) (c.loop-at.pos + c.wide-width.result) c.if-signals-at-eq1.to) (sym w.shown-is) (subst (λ (t : ℕ). Showing c.args.signals.now c.args.bytes.now c.args.shown.now w.copy.new.to c.args.from (c.loop-at.at + c.size-size.result) (c.loop-at.pos + c.wide-width.result) t) (sym w.to-is) (output-shown c.requires.0 c.loop-at.invariant c.size-size.ensures c.if-size-eq0.false c.wide-width.ensures w.if-signals-at-eq1.true c.requires.1 w.copy.auto.to w.copy.ensures))
+  | else-signals-at-eq1 w ↦ subst (λ (b : List ℕ). Showing c.args.signals.now c.args.bytes.now c.args.shown.now b c.args.from (c.loop-at.at + c.size-size.result) (c.loop-at.pos + c.wide-width.result) c.if-signals-at-eq1.to) (sym w.shown-is) (subst (λ (t : ℕ). Showing c.args.signals.now c.args.bytes.now c.args.shown.now c.loop-at.shown c.args.from (c.loop-at.at + c.size-size.result) (c.loop-at.pos + c.wide-width.result) t) (sym w.to-is) (output-none c.requires.0 c.loop-at.invariant c.size-size.ensures c.if-size-eq0.false c.wide-width.ensures w.if-signals-at-eq1.false))
+]
 
 pub returns-clause-end : goal.returns-clause-end
 returns-clause-end c = showing-end c.requires.0 c.loop-at.invariant (λ i a q. (no-port c.requires.0 c.requires.3 c.loop-at.invariant.walked c.loop-at-test.false i a q).1)

@@ -29,8 +29,8 @@ overflow_add-at-in-loop-at-2 c = omega (arith, signal-step c.requires.0 c.loop-a
 pub loop-at-preserved : goal.loop-at-preserved
 loop-at-preserved c =
     elim c.if-signals-at-eq0.branch [
-      then-signals-at-eq0 w ↦ rw (w.bytes-is, w.pos-is) (input-taken c.requires.0 c.requires.1 c.loop-at.invariant c.size-size.ensures c.if-size-eq0.false c.wide-width.ensures w.if-signals-at-eq0.true w.copy.auto.to w.copy.ensures)
-    | else-signals-at-eq0 w ↦ rw (w.bytes-is, w.pos-is) (input_none c.requires.0 c.requires.1 c.loop-at.invariant c.size-size.ensures c.if-size-eq0.false c.wide-width.ensures w.if-signals-at-eq0.false)
+      | then-signals-at-eq0 w ↦ rw (w.bytes-is, w.pos-is) (input-taken c.requires.0 c.requires.1 c.loop-at.invariant c.size-size.ensures c.if-size-eq0.false c.wide-width.ensures w.if-signals-at-eq0.true w.copy.auto.to w.copy.ensures)
+      | else-signals-at-eq0 w ↦ rw (w.bytes-is, w.pos-is) (input_none c.requires.0 c.requires.1 c.loop-at.invariant c.size-size.ensures c.if-size-eq0.false c.wide-width.ensures w.if-signals-at-eq0.false)
     ]
 
 pub returns : goal.returns

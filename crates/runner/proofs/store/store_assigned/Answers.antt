@@ -10,8 +10,8 @@ store-requires c = storing-asks c.loop-s.invariant c.requires.0 c.requires.2 (om
 pub loop-s-preserved : goal.loop-s-preserved
 loop-s-preserved c =
     elim c.match-driver.branch [
-      in-By w ↦ rw w.bytes-is (storing-by c.loop-s.invariant (sym w.in-By.ensures ∙ ap (λ (n : ℕ). some n) (sym w.wide.ensures)) w.store.auto.bytes w.store.ensures)
-    | in-None w ↦ rw w.bytes-is (storing-none c.loop-s.invariant (sym w.in-None.ensures))
+      | in-By w ↦ rw w.bytes-is (storing-by c.loop-s.invariant (sym w.in-By.ensures ∙ ap (λ (n : ℕ). some n) (sym w.wide.ensures)) w.store.auto.bytes w.store.ensures)
+      | in-None w ↦ rw w.bytes-is (storing-none c.loop-s.invariant (sym w.in-None.ensures))
     ]
 
 pub returns : goal.returns

@@ -1,0 +1,13 @@
+-- What `simulate` promises of its call, from what its parts leave.
+use Rattle.std.proofs.Common.{[], ◌∷◌}
+use Rattle.recorder.specs.Lists.{lists}
+use Rattle.simulator.proofs.Parts.{simulates}
+use Rattle.simulator.proofs.simulate.Goals as goal
+
+pub returns-clause-simulates : goal.returns-clause-simulates
+returns-clause-simulates c =
+    let a = c.args in
+    let k = c.lower-lowered.auto in
+    let w = c.run_lowered-r.new in
+    simulates a.words.now a.heads.now a.bits.now (lists a.signals.now a.exprs.now a.stmts.now) (a.wires.now ∷ a.places.now ∷ a.parts.now ∷ a.values.now ∷ a.banks.now ∷ []) a.bytes.now a.work_bits.now a.work_exprs.now a.work_signals.now a.answers.now a.shown.now
+    {l' = lists w.signals w.exprs w.stmts} c.lower-lowered.ensures k.signals k.exprs k.stmts c.zero_bytes.ensures c.run_lowered-r.ensures.runs
