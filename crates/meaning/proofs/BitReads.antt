@@ -23,10 +23,12 @@ use Rattle.optimize.proofs.Muxes.{by-test, means-as, not-value}
 use Rattle.behaviour.specs.Behaviour.{value, values, asserted}
 use Rattle.wires.specs.declared.Constants.{Constants}
 use Rattle.wires.specs.Wires.{WireRef, Wires}
-use Rattle.wires.specs.Expressions.{refOf, wireRef, readRef, bitExpression, whole, bitSignal, assertedExpression, concatParts, vectorParts, vectorExpression, bitsExpression, readBits}
+use Rattle.wires.specs.Seen.{Seen, nothingSeen, standing, noted, Reading, keeping}
+use Rattle.wires.specs.Expressions.{refOf, wireRef, readRef, bitExpression, whole, bitSignal, levelled, assertedExpression, readOnce, bitOnce, assertedOnce, readBits, concatParts, vectorParts, vectorOnce, bitsExpression, vectorExpression}
 use Rattle.meaning.specs.Held.{refBit, held, valuesAt}
 use Rattle.meaning.specs.Settles.{Gets}
 use Rattle.meaning.proofs.Settling.{gets-pure, gets-refuse, gets-bind}
+use Rattle.meaning.proofs.Standing.{AllStand, none-stand, nothing-stands, noted-stand}
 
 -- ONE BIT
 
@@ -49,16 +51,57 @@ module _ {σ : Signals} (m : Wires) where
       go none = makes-bind (makes-refuse {P = λ a e. ⊥}) (λ a env₁ k h. absurd h)
       go (some r) = makes-bind (makes-pure {P = λ a e. a ≡ r} refl) (λ a env₁ k h. means-emit (ap (λ (q : WireRef). get_or (σ q.signal) q.lsb false ∷ []) h))
 
+  levelled-means : (active : ℕ) {e : ℕ} {v : Bool} {env : Values} → Is env e (v ∷ []) → Means σ env (levelled active e) (same v (eqb active 1) ∷ [])
+  levelled-means active {e} {v} {env} h = go (eqb active 1)
+    where
+      go : (b : Bool) → Means σ env (pick b (pure e) (emit (complement e))) (same v b ∷ [])
+      go true = means-as (ap (λ (x : Bool). x ∷ []) (same_true v)) (makes-pure h)
+      go false = means-as (ap (λ (x : Bool). x ∷ []) (same_false v)) (not-value σ h)
+
   pub asserted-means : {env : Values} → Base env → (c : Control) → Means σ env (assertedExpression m c) (asserted (held σ m) c.signal c.active ∷ [])
   unfolding assertedExpression
-  asserted-means base c = makes-bind (bit-means base c.signal) (λ e env₁ k h. go e env₁ h (eqb c.active 1))
-    where
-      v : Bool
-      v = value (held σ m) c.signal
+  asserted-means base c = makes-bind (bit-means base c.signal) (λ e env₁ k h. levelled-means c.active h)
 
-      go : (e : ℕ) (env₁ : Values) → Is env₁ e (v ∷ []) → (b : Bool) → Means σ env₁ (pick b (pure e) (emit (complement e))) (same v b ∷ [])
-      go e env₁ h true = means-as (ap (λ (x : Bool). x ∷ []) (same_true v)) (makes-pure h)
-      go e env₁ h false = means-as (ap (λ (x : Bool). x ∷ []) (same_false v)) (not-value σ h)
+-- WHAT STANDS in a cell: each wire that does has its bit
+
+pub record Known (σ : Signals) (m : Wires) (env : Values) (seen : Seen) : Type 0 where
+  pub known : AllStand (λ w e. Is env e (refBit σ (m w) ∷ [])) seen
+
+-- a value of these bits, and what stands then
+abbrev pub MeansOnce : Signals → Wires → Values → Writer (Reading ℕ) → Bits → Type 0
+MeansOnce σ m env w v = Makes σ env w (λ r env'. Is env' r.value v × Known σ m env' r.seen)
+
+module _ {σ : Signals} {m : Wires} {env : Values} where
+  pub known-none : Known σ m env []
+  known-none = record { known = none-stand _ }
+
+  pub known-nothing : (wires : ℕ) → Known σ m env (nothingSeen wires)
+  known-nothing wires = record { known = nothing-stands _ wires }
+
+  pub known-keeps : {env' : Values} {seen : Seen} → Keeps env env' → Known σ m env seen → Known σ m env' seen
+  known-keeps k h = record { known = λ w e q. k _ _ (h.known w e q) }
+
+  known-noted : {seen : Seen} (w : ℕ) {e : ℕ} → Known σ m env seen → Is env e (refBit σ (m w) ∷ []) → Known σ m env (noted seen w e)
+  known-noted {seen} w {e} h i = record { known = noted-stand _ seen w e h.known i }
+
+  -- a step that reads nothing
+  pub makes-keeping : {A : Type 0} {seen : Seen} {w : Writer A} {P : A → Values → Type 0} → Known σ m env seen → Makes σ env w P → Makes σ env (keeping seen w) (λ r env'. P r.value env' × Known σ m env' r.seen)
+  makes-keeping h f = makes-bind f (λ a env₁ k p. makes-pure (p, known-keeps k h))
+
+module _ {σ : Signals} (m : Wires) {env : Values} {seen : Seen} (base : Base env) (known : Known σ m env seen) where
+  pub bit-once : (b : Bit) → MeansOnce σ m env (bitOnce m seen b) (value (held σ m) b ∷ [])
+  unfolding bitOnce
+  bit-once Zero = makes-pure (base.zero_is, known)
+  bit-once One = makes-pure (base.one-is, known)
+  bit-once (Wire w) = go (standing seen w) refl
+    where
+      go : (o : Option ℕ) → standing seen w ≡ o → MeansOnce σ m env (readOnce o m seen w) (refBit σ (m w) ∷ [])
+      go none q = makes-bind (bit-means m base (Wire w)) (λ e env₁ k i. makes-pure (i, known-noted w (known-keeps k known) i))
+      go (some e) q = makes-pure (known.known w e q, known)
+
+  pub asserted-once : (c : Control) → MeansOnce σ m env (assertedOnce m seen c) (asserted (held σ m) c.signal c.active ∷ [])
+  unfolding assertedOnce
+  asserted-once c = makes-bind (bit-once c.signal) (λ r env₁ k h. makes-keeping h.1 (levelled-means m c.active h.0))
 
 -- SIGNALS OF CONTROLS
 
@@ -140,23 +183,26 @@ concat-means (e ∷ f ∷ es) h = means-emit h.value
 -- VECTORS
 
 module _ {σ : Signals} (m : Wires) (bits : List Bit) (at : ℕ) where
-  vector-parts : (k : ℕ) {env : Values} {ps : List ℕ} {hi : Bits} → Base env → Parts env ps hi
-      → Makes σ env (vectorParts m bits at k ps) (λ qs env'. Parts env' qs (valuesAt (held σ m) bits at k ++ hi))
+  vector-parts : (k : ℕ) {env : Values} {seen : Seen} {ps : List ℕ} {hi : Bits} → Base env → Known σ m env seen → Parts env ps hi
+      → Makes σ env (vectorParts m seen bits at k ps) (λ r env'. Parts env' r.value (valuesAt (held σ m) bits at k ++ hi) × Known σ m env' r.seen)
   unfolding vectorParts
-  vector-parts zero base h = makes-pure h
-  vector-parts (suc k) {hi = hi} base h =
-      makes-bind (bit-means m base (get_or bits (at + k) Zero)) (λ e env₁ keep is.
-      makes_so (vector-parts k (base-keeps keep base) (parts-snoc (parts-keep keep h) is)) (λ qs env₂ keep₂ g.
-      record { there = g.there; value = g.value ∙ sym (append_assoc (valuesAt (held σ m) bits at k) (value (held σ m) (get_or bits (at + k) Zero) ∷ []) hi) }))
+  vector-parts zero base known h = makes-pure (h, known)
+  vector-parts (suc k) {hi = hi} base known h =
+      makes-bind (bit-once m base known (get_or bits (at + k) Zero)) (λ r env₁ keep i.
+      makes_so (vector-parts k (base-keeps keep base) i.1 (parts-snoc (parts-keep keep h) i.0)) (λ qs env₂ keep₂ g. (
+        record { there = g.0.there; value = g.0.value ∙ sym (append_assoc (valuesAt (held σ m) bits at k) (value (held σ m) (get_or bits (at + k) Zero) ∷ []) hi) },
+        g.1,
+      )))
 
-  pub vector-means : (k : ℕ) {env : Values} → Base env → Means σ env (vectorExpression m bits at k) (valuesAt (held σ m) bits at k)
-  unfolding vectorExpression
-  vector-means k base =
-      makes-bind (vector-parts k base (record { there = tt; value = refl })) (λ ps env₁ keep h.
-      concat-means ps (record { there = h.there; value = h.value ∙ append-nil (valuesAt (held σ m) bits at k) }))
+  pub vector-once : (k : ℕ) {env : Values} {seen : Seen} → Base env → Known σ m env seen → MeansOnce σ m env (vectorOnce m seen bits at k) (valuesAt (held σ m) bits at k)
+  unfolding vectorOnce
+  vector-once k base known =
+      makes-bind (vector-parts k base known (record { there = tt; value = refl })) (λ r env₁ keep h.
+      makes-keeping h.1 (concat-means r.value (record { there = h.0.there; value = h.0.value ∙ append-nil (valuesAt (held σ m) bits at k) })))
 
 pub bits-means : {σ : Signals} (m : Wires) {env : Values} → Base env → (bits : List Bit) → Means σ env (bitsExpression m bits) (valuesAt (held σ m) bits 0 (length bits))
-bits-means m base bits = vector-means m bits 0 (length bits) base
+unfolding vectorExpression
+bits-means m base bits = makes-bind (vector-once m bits 0 (length bits) base known-none) (λ r env₁ k h. makes-pure h.0)
 
 -- INPUTS IN ORDER
 
@@ -166,11 +212,13 @@ inputs-snoc env [] (c ∷ bs) e b h i = absurd h
 inputs-snoc env (x ∷ xs) [] e b h i = absurd h
 inputs-snoc env (x ∷ xs) (c ∷ bs) e b h i = (h.0, inputs-snoc env xs bs e b h.1 i)
 
-pub reads-make : (σ : Signals) (m : Wires) (bits : List Bit) (done : List ℕ) (bs : Bits) {env : Values} → Base env → Inputs env done bs
-    → Makes σ env (readBits m bits done) (λ es env'. Inputs env' es (bs ++ values (held σ m) bits))
+pub reads-make : (σ : Signals) (m : Wires) (bits : List Bit) (done : List ℕ) (bs : Bits) {env : Values} {seen : Seen} → Base env → Known σ m env seen → Inputs env done bs
+    → Makes σ env (readBits m seen bits done) (λ r env'. Inputs env' r.value (bs ++ values (held σ m) bits) × Known σ m env' r.seen)
 unfolding readBits
-reads-make σ m [] done bs base h = makes-pure (subst (Inputs _ done) (sym (append-nil bs)) h)
-reads-make σ m (b ∷ rest) done bs base h =
-    makes-bind (bit-means m base b) (λ e env₁ k i.
-    makes_so (reads-make σ m rest (done ++ (e ∷ [])) (bs ++ (value (held σ m) b ∷ [])) (base-keeps k base) (inputs-snoc env₁ done bs e _ (inputs-keep k done bs h) i)) (λ es env₂ k₂ g.
-    subst (Inputs env₂ es) (append_assoc bs (value (held σ m) b ∷ []) (values (held σ m) rest)) g))
+reads-make σ m [] done bs base known h = makes-pure (subst (Inputs _ done) (sym (append-nil bs)) h, known)
+reads-make σ m (b ∷ rest) done bs base known h =
+    makes-bind (bit-once m base known b) (λ r env₁ k i.
+    makes_so (reads-make σ m rest (done ++ (r.value ∷ [])) (bs ++ (value (held σ m) b ∷ [])) (base-keeps k base) i.1 (inputs-snoc env₁ done bs r.value _ (inputs-keep k done bs h) i.0)) (λ es env₂ k₂ g. (
+      subst (Inputs env₂ es.value) (append_assoc bs (value (held σ m) b ∷ []) (values (held σ m) rest)) g.0,
+      g.1,
+    )))

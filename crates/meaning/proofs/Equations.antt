@@ -25,13 +25,14 @@ use Rattle.optimize.proofs.Muxes.{by-test, means-as, mux-means, xor-means}
 use Rattle.optimize.proofs.Luts.{inputs-keep, lut-means}
 use Rattle.behaviour.specs.Behaviour.{Valuation, value, values, lookTable, CcuRow, ccuRow as row_of, level}
 use Rattle.wires.specs.Wires.{WireRef, Wires}
-use Rattle.wires.specs.Expressions.{bitExpression, bitsExpression, assignWire}
+use Rattle.wires.specs.Seen.{Seen, Reading, keeping}
+use Rattle.wires.specs.Expressions.{bitOnce, bitsExpression, assignWire}
 use Rattle.cells.specs.Cells.{emitLut4, emitPfumx, emitL6mux21, emitIo, emitMultiplier, ccuRow, emitCcu2c, assignAll, emitIdleJtagg, pllClocks, emitCyclePll}
 use Rattle.lowering.specs.Emit.{emitOutputs}
 use Rattle.meaning.specs.Held.{held, valuesAt, Driven}
 use Rattle.meaning.specs.Settles.{Tick, Settles}
-use Rattle.meaning.proofs.Settling.{settles-makes, settles-gets, settles-assign, settles-pure, settles-bind, settles-so}
-use Rattle.meaning.proofs.BitReads.{bit-means, ref-gets, vector-means, bits-means, reads-make}
+use Rattle.meaning.proofs.Settling.{settles-makes, settles-gets, settles-assign, settles-pure, settles-bind, settles-so, settles-keeping}
+use Rattle.meaning.proofs.BitReads.{bit-means, ref-gets, Known, known-keeps, bit-once, vector-once, bits-means, reads-make}
 
 pub some_is : {A : Type 0} (x y : A) → some x ≡ some y → x ≡ y
 some_is {A} x y q = ap from q
@@ -49,6 +50,10 @@ Bases {K} env = (k : K) → Base (env k)
 
 pub bases-keep : {K : Type 0} {env env' : K → Values} → ((k : K) → Keeps (env k) (env' k)) → Bases env → Bases env'
 bases-keep kp b k = base-keeps (kp k) (b k)
+
+-- what stands in what a cell has read, in each tick
+abbrev pub Knowns : {K : Type 0} → (K → Tick) → Wires → (K → Values) → Seen → Type 0
+Knowns {K} κ m env seen = (k : K) → Known (κ k).before m (env k) seen
 
 -- ASSIGNMENTS
 
@@ -77,54 +82,56 @@ lut-makes σ init es bs {env} four small base h =
     let n : length es ≡ 4 = inputs-length env es bs h ∙ four in
     lut-means σ es bs init base h (omega (arith, n)) (subst (λ (k : ℕ). init < 2 ^ 2 ^ k) (sym n) small)
 
--- THE CELLS
+-- THE CELLS, after what they have read
 
-module _ {K : Type 0} (κ : K → Tick) (Ω : K → Values) (m : Wires) {env : K → Values} (base : Bases env) where
+module _ {K : Type 0} (κ : K → Tick) (Ω : K → Values) (m : Wires) {env : K → Values} {seen : Seen} (base : Bases env) (known : Knowns κ m env seen) where
   pub lut4-equation : (inputs : List Bit) (output init : ℕ) → length inputs ≡ 4 → init < 65536
-      → Settles κ Ω env (emitLut4 m inputs output init) (λ u env'. (k : K) → Driven (κ k).before m output (lookTable init (values (now (κ k) m) inputs) ∷ []))
+      → Settles κ Ω env (emitLut4 m seen inputs output init) (λ u env'. (k : K) → Driven (κ k).before m output (lookTable init (values (now (κ k) m) inputs) ∷ []))
   unfolding emitLut4
   lut4-equation inputs output init four small =
-      settles-bind (settles-makes (λ k. reads-make (κ k).before m inputs [] [] (base k) tt)) (λ es env₁ k₁ h.
-      settles-bind (settles-makes (λ k. lut-makes (κ k).before init es (values (now (κ k) m) inputs) (length-map inputs _ ∙ four) small (base-keeps (k₁ k) (base k)) (h k))) (λ v env₂ k₂ i. assign-settles κ Ω m output i))
+      settles-bind (settles-makes (λ k. reads-make (κ k).before m inputs [] [] (base k) (known k) tt)) (λ es env₁ k₁ h.
+      settles-bind (settles-makes (λ k. lut-makes (κ k).before init es.value (values (now (κ k) m) inputs) (length-map inputs _ ∙ four) small (base-keeps (k₁ k) (base k)) (h k).0)) (λ v env₂ k₂ i.
+      settles-keeping es.seen (assign-settles κ Ω m output i)))
 
   -- a mux of three bits, read in some order, on a wire
   mux-equation : (first second third : Bit) (output : ℕ) (s t f : (a b c : ℕ) → ℕ) (select high low : (a b c : Bool) → Bool)
       → ((k : K) (env₁ : Values) (a b c : ℕ) (x y z : Bool) → Is env₁ a (x ∷ []) → Is env₁ b (y ∷ []) → Is env₁ c (z ∷ []) → Is env₁ (s a b c) (select x y z ∷ []) × Is env₁ (t a b c) (high x y z ∷ []) × Is env₁ (f a b c) (low x y z ∷ []))
-      → Settles κ Ω env (bitExpression m first >>= λ a. bitExpression m second >>= λ b. bitExpression m third >>= λ c. muxOf (s a b c) (t a b c) (f a b c) >>= λ v. assignWire m output v)
+      → Settles κ Ω env (bitOnce m seen first >>= λ a. bitOnce m a.seen second >>= λ b. bitOnce m b.seen third >>= λ c. muxOf (s a.value b.value c.value) (t a.value b.value c.value) (f a.value b.value c.value) >>= λ v. keeping c.seen (assignWire m output v))
       (λ u env'. (k : K) → Driven (κ k).before m output
       (pick (select (value (now (κ k) m) first) (value (now (κ k) m) second) (value (now (κ k) m) third)) (high (value (now (κ k) m) first) (value (now (κ k) m) second) (value (now (κ k) m) third)) (low (value (now (κ k) m) first) (value (now (κ k) m) second) (value (now (κ k) m) third)) ∷ []))
   mux-equation first second third output s t f select high low choose =
-      settles-bind (settles-makes (λ k. bit-means m (base k) first)) (λ a env₁ k₁ ha.
+      settles-bind (settles-makes (λ k. bit-once m (base k) (known k) first)) (λ a env₁ k₁ ha.
       let b₁ = bases-keep k₁ base in
-      settles-bind (settles-makes (λ k. bit-means m (b₁ k) second)) (λ b env₂ k₂ hb.
+      settles-bind (settles-makes (λ k. bit-once m (b₁ k) (ha k).1 second)) (λ b env₂ k₂ hb.
       let b₂ = bases-keep k₂ b₁ in
-      settles-bind (settles-makes (λ k. bit-means m (b₂ k) third)) (λ c env₃ k₃ hc.
+      settles-bind (settles-makes (λ k. bit-once m (b₂ k) (hb k).1 third)) (λ c env₃ k₃ hc.
       settles-bind (settles-makes (λ k.
-      let q = choose k (env₃ k) a b c _ _ _ (k₃ k _ _ (k₂ k _ _ (ha k))) (k₃ k _ _ (hb k)) (hc k) in
-      mux-means (κ k).before (base-keeps (k₃ k) (b₂ k)) q.0 q.1 q.2)) (λ v env₄ k₄ i. assign-settles κ Ω m output i))))
+      let q = choose k (env₃ k) a.value b.value c.value _ _ _ (k₃ k _ _ (k₂ k _ _ (ha k).0)) (k₃ k _ _ (hb k).0) (hc k).0 in
+      mux-means (κ k).before (base-keeps (k₃ k) (b₂ k)) q.0 q.1 q.2)) (λ v env₄ k₄ i. settles-keeping c.seen (assign-settles κ Ω m output i)))))
 
   pub pfumx-equation : (high low select : Bit) (output : ℕ)
-      → Settles κ Ω env (emitPfumx m high low select output) (λ u env'. (k : K) → Driven (κ k).before m output (pick (value (now (κ k) m) select) (value (now (κ k) m) high) (value (now (κ k) m) low) ∷ []))
+      → Settles κ Ω env (emitPfumx m seen high low select output) (λ u env'. (k : K) → Driven (κ k).before m output (pick (value (now (κ k) m) select) (value (now (κ k) m) high) (value (now (κ k) m) low) ∷ []))
   unfolding emitPfumx
   pfumx-equation high low select output = mux-equation select high low output (λ a b c. a) (λ a b c. b) (λ a b c. c) (λ a b c. a) (λ a b c. b) (λ a b c. c) (λ k e a b c x y z p q r. (p, q, r))
 
   pub l6mux21-equation : (low high select : Bit) (output : ℕ)
-      → Settles κ Ω env (emitL6mux21 m low high select output) (λ u env'. (k : K) → Driven (κ k).before m output (pick (value (now (κ k) m) select) (value (now (κ k) m) high) (value (now (κ k) m) low) ∷ []))
+      → Settles κ Ω env (emitL6mux21 m seen low high select output) (λ u env'. (k : K) → Driven (κ k).before m output (pick (value (now (κ k) m) select) (value (now (κ k) m) high) (value (now (κ k) m) low) ∷ []))
   unfolding emitL6mux21
   l6mux21-equation low high select output = mux-equation select low high output (λ a b c. a) (λ a b c. c) (λ a b c. b) (λ a b c. a) (λ a b c. c) (λ a b c. b) (λ k e a b c x y z p q r. (p, r, q))
 
   pub io-equation : (pad : ℕ) (driven : Bit) (input : ℕ) (tristate : Bit)
-      → Settles κ Ω env (emitIo m pad driven input tristate) (λ u env'. (k : K) → Driven (κ k).before m input (pick (value (now (κ k) m) tristate) (value (now (κ k) m) (Wire pad)) (value (now (κ k) m) driven) ∷ []))
+      → Settles κ Ω env (emitIo m seen pad driven input tristate) (λ u env'. (k : K) → Driven (κ k).before m input (pick (value (now (κ k) m) tristate) (value (now (κ k) m) (Wire pad)) (value (now (κ k) m) driven) ∷ []))
   unfolding emitIo
   io-equation pad driven input tristate = mux-equation (Wire pad) driven tristate input (λ a b c. c) (λ a b c. a) (λ a b c. b) (λ a b c. c) (λ a b c. a) (λ a b c. b) (λ k e a b c x y z p q r. (r, p, q))
 
   pub multiplier-equation : (lhs rhs : List Bit) (product : List ℕ)
-      → Settles κ Ω env (emitMultiplier m lhs rhs product) (λ u env'. (k : K) → Driven (κ k).before m (get_or product 0 0) (binary 36 (number (valuesAt (now (κ k) m) lhs 0 36) * number (valuesAt (now (κ k) m) rhs 0 36))))
+      → Settles κ Ω env (emitMultiplier m seen lhs rhs product) (λ u env'. (k : K) → Driven (κ k).before m (get_or product 0 0) (binary 36 (number (valuesAt (now (κ k) m) lhs 0 36) * number (valuesAt (now (κ k) m) rhs 0 36))))
   unfolding emitMultiplier
   multiplier-equation lhs rhs product =
-      settles-bind (settles-makes (λ k. vector-means m lhs 0 36 (base k))) (λ a env₁ k₁ ha.
-      settles-bind (settles-makes (λ k. vector-means m rhs 0 36 (base-keeps (k₁ k) (base k)))) (λ b env₂ k₂ hb.
-      settles-bind (settles-makes (λ k. means-emit (ap₂ (λ (x y : Bits). binary 36 (number x * number y)) (k₂ k _ _ (ha k)).value (hb k).value))) (λ v env₃ k₃ i. assign-settles κ Ω m (get_or product 0 0) i)))
+      settles-bind (settles-makes (λ k. vector-once m lhs 0 36 (base k) (known k))) (λ a env₁ k₁ ha.
+      settles-bind (settles-makes (λ k. vector-once m rhs 0 36 (base-keeps (k₁ k) (base k)) (ha k).1)) (λ b env₂ k₂ hb.
+      settles-bind (settles-makes (λ k. means-emit (ap₂ (λ (x y : Bits). binary 36 (number x * number y)) (k₂ k _ _ (ha k).0).value (hb k).0.value))) (λ v env₃ k₃ i.
+      settles-keeping b.seen (assign-settles κ Ω m (get_or product 0 0) i))))
 
 -- CCU2C
 
@@ -159,45 +166,47 @@ pub record Added (σ : Signals) (m : Wires) (u : Ccu2c) : Type 0 where
   pub sum1-is : Driven σ m u.sum1 ((row1 (held σ m) u).sum ∷ [])
   pub carry-is : Driven σ m u.carry ((row1 (held σ m) u).carry ∷ [])
 
--- a row: the sum's signal, and the next carry
-record Row (σ : Signals) (m : Wires) (inputs : List Bit) (init inject sum : ℕ) (c : Bool) (env : Values) (e : ℕ) : Type 0 where
+-- a row: the sum's signal, the next carry, and what stands then
+record Row (σ : Signals) (m : Wires) (inputs : List Bit) (init inject sum : ℕ) (c : Bool) (env : Values) (e : Reading ℕ) : Type 0 where
   sum_is : Driven σ m sum ((row_of (values (held σ m) inputs) init inject c).sum ∷ [])
-  carry-is : Is env e ((row_of (values (held σ m) inputs) init inject c).carry ∷ [])
+  carry-is : Is env e.value ((row_of (values (held σ m) inputs) init inject c).carry ∷ [])
+  stands : Known σ m env e.seen
 
 module _ {K : Type 0} (κ : K → Tick) (Ω : K → Values) (m : Wires) where
-  row-equation : (inputs : List Bit) (init inject sum carry : ℕ) (c : K → Bool) {env : K → Values} → length inputs ≡ 4 → init < 65536 → Bases env → ((k : K) → Is (env k) carry (c k ∷ []))
-      → Settles κ Ω env (ccuRow m inputs init inject sum carry) (λ e env'. (k : K) → Row (κ k).before m inputs init inject sum (c k) (env' k) e)
+  row-equation : (inputs : List Bit) (init inject sum carry : ℕ) (c : K → Bool) {env : K → Values} {seen : Seen} → length inputs ≡ 4 → init < 65536 → Bases env → Knowns κ m env seen → ((k : K) → Is (env k) carry (c k ∷ []))
+      → Settles κ Ω env (ccuRow m seen inputs init inject sum carry) (λ e env'. (k : K) → Row (κ k).before m inputs init inject sum (c k) (env' k) e)
   unfolding ccuRow
-  row-equation inputs init inject sum carry c four small base hc =
+  row-equation inputs init inject sum carry c four small base known hc =
       let bs : K → Bits = λ k. values (now (κ k) m) inputs in
       let long : (k : K) → length (bs k) ≡ 4 = λ k. length-map inputs _ ∙ four in
-      settles-bind (settles-makes (λ k. reads-make (κ k).before m inputs [] [] (base k) tt)) (λ es env₁ k₁ h.
+      settles-bind (settles-makes (λ k. reads-make (κ k).before m inputs [] [] (base k) (known k) tt)) (λ es env₁ k₁ h.
       let b₁ = bases-keep k₁ base in
-      settles-bind (settles-makes (λ k. lut-makes (κ k).before init es (bs k) (long k) small (b₁ k) (h k))) (λ l env₂ k₂ hl.
+      settles-bind (settles-makes (λ k. lut-makes (κ k).before init es.value (bs k) (long k) small (b₁ k) (h k).0)) (λ l env₂ k₂ hl.
       let b₂ = bases-keep k₂ b₁ in
-      let h₂ : (k : K) → Inputs (env₂ k) es (bs k) = λ k. inputs-keep (k₂ k) es (bs k) (h k) in
+      let h₂ : (k : K) → Inputs (env₂ k) es.value (bs k) = λ k. inputs-keep (k₂ k) es.value (bs k) (h k).0 in
       settles-bind
       (settles-makes (λ k.
       means-as (ap (λ (x : Bits). lookTable init x ∷ []) (first_two (bs k) (long k)))
-      (lut-makes (κ k).before init (get_or es 0 0 ∷ get_or es 1 0 ∷ 0 ∷ 0 ∷ []) (get_or (bs k) 0 false ∷ get_or (bs k) 1 false ∷ false ∷ false ∷ []) refl small (b₂ k)
-      (inputs-get (env₂ k) (b₂ k) es (bs k) 0 (h₂ k), (inputs-get (env₂ k) (b₂ k) es (bs k) 1 (h₂ k), ((b₂ k).zero_is, ((b₂ k).zero_is, tt))))))) (λ x env₃ k₃ hx.
+      (lut-makes (κ k).before init (get_or es.value 0 0 ∷ get_or es.value 1 0 ∷ 0 ∷ 0 ∷ []) (get_or (bs k) 0 false ∷ get_or (bs k) 1 false ∷ false ∷ false ∷ []) refl small (b₂ k)
+      (inputs-get (env₂ k) (b₂ k) es.value (bs k) 0 (h₂ k), (inputs-get (env₂ k) (b₂ k) es.value (bs k) 1 (h₂ k), ((b₂ k).zero_is, ((b₂ k).zero_is, tt))))))) (λ x env₃ k₃ hx.
       let b₃ = bases-keep k₃ b₂ in
       let hg : (k : K) → Is (env₃ k) (pick (eqb inject 1) 0 carry) (pick (level inject) false (c k) ∷ []) = λ k. gated-is inject (b₃ k) (k₃ k _ _ (k₂ k _ _ (k₁ k _ _ (hc k)))) in
       settles-bind (settles-makes (λ k. xor-means (κ k).before (b₃ k) (k₃ k _ _ (hl k)) (hg k))) (λ s env₄ k₄ hs.
       settles-bind (assign-settles κ Ω m sum hs) (λ u env₅ k₅ d.
       let b₅ = bases-keep k₅ (bases-keep k₄ b₃) in
-      settles-so (settles-makes (λ k. mux-means (κ k).before (b₅ k) (k₅ k _ _ (k₄ k _ _ (k₃ k _ _ (hl k)))) (k₅ k _ _ (k₄ k _ _ (hg k))) (k₅ k _ _ (k₄ k _ _ (hx k))))) (λ e env₆ k₆ i k. record { sum_is = d k; carry-is = i k }))))))
+      settles-bind (settles-makes (λ k. mux-means (κ k).before (b₅ k) (k₅ k _ _ (k₄ k _ _ (k₃ k _ _ (hl k)))) (k₅ k _ _ (k₄ k _ _ (hg k))) (k₅ k _ _ (k₄ k _ _ (hx k))))) (λ e env₆ k₆ i.
+      settles-pure (λ k. record { sum_is = d k; carry-is = i k; stands = known-keeps (k₆ k) (known-keeps (k₅ k) (known-keeps (k₄ k) (known-keeps (k₃ k) (known-keeps (k₂ k) (h k).1)))) })))))))
 
-  pub ccu2c-equation : (u : Ccu2c) {env : K → Values} → length u.row0 ≡ 4 → length u.row1 ≡ 4 → u.init0 < 65536 → u.init1 < 65536 → Bases env
-      → Settles κ Ω env (emitCcu2c m u) (λ x env'. (k : K) → Added (κ k).before m u)
+  pub ccu2c-equation : (u : Ccu2c) {env : K → Values} {seen : Seen} → length u.row0 ≡ 4 → length u.row1 ≡ 4 → u.init0 < 65536 → u.init1 < 65536 → Bases env → Knowns κ m env seen
+      → Settles κ Ω env (emitCcu2c m seen u) (λ x env'. (k : K) → Added (κ k).before m u)
   unfolding emitCcu2c
-  ccu2c-equation u four₀ four₁ small₀ small₁ base =
-      settles-bind (settles-makes (λ k. bit-means m (base k) u.carryIn)) (λ e₀ env₁ k₁ h₀.
+  ccu2c-equation u four₀ four₁ small₀ small₁ base known =
+      settles-bind (settles-makes (λ k. bit-once m (base k) (known k) u.carryIn)) (λ e₀ env₁ k₁ h₀.
       let b₁ = bases-keep k₁ base in
-      settles-bind (row-equation u.row0 u.init0 u.inject0 u.sum0 e₀ (λ k. value (now (κ k) m) u.carryIn) four₀ small₀ b₁ h₀) (λ e₁ env₂ k₂ r₀.
+      settles-bind (row-equation u.row0 u.init0 u.inject0 u.sum0 e₀.value (λ k. value (now (κ k) m) u.carryIn) four₀ small₀ b₁ (λ k. (h₀ k).1) (λ k. (h₀ k).0)) (λ e₁ env₂ k₂ r₀.
       let b₂ = bases-keep k₂ b₁ in
-      settles-bind (row-equation u.row1 u.init1 u.inject1 u.sum1 e₁ (λ k. (row0 (now (κ k) m) u).carry) four₁ small₁ b₂ (λ k. (r₀ k).carry-is)) (λ e₂ env₃ k₃ r₁.
-      settles-so (assign-settles κ Ω m u.carry (λ k. (r₁ k).carry-is)) (λ x env₄ k₄ d k. record { sum0-is = (r₀ k).sum_is; sum1-is = (r₁ k).sum_is; carry-is = d k }))))
+      settles-bind (row-equation u.row1 u.init1 u.inject1 u.sum1 e₁.value (λ k. (row0 (now (κ k) m) u).carry) four₁ small₁ b₂ (λ k. (r₀ k).stands) (λ k. (r₀ k).carry-is)) (λ e₂ env₃ k₃ r₁.
+      settles-keeping e₂.seen (settles-so (assign-settles κ Ω m u.carry (λ k. (r₁ k).carry-is)) (λ x env₄ k₄ d k. record { sum0-is = (r₀ k).sum_is; sum1-is = (r₁ k).sum_is; carry-is = d k })))))
 
   -- JTAGG AND PLL
 

@@ -1,7 +1,7 @@
 -- Block RAM and distributed RAM, in a tick.
 -- Assumes nothing.
 use mathlib.Core.Path.{◌≡◌, refl, ap, ap₂, sym, ◌∙◌, subst}
-use mathlib.Core.Bool.{Bool, true, ◌&&◌}
+use mathlib.Core.Bool.{Bool, true, false, ◌&&◌}
 use mathlib.Core.List.{List, [], ◌∷◌, ◌++◌, append-nil, append_assoc, map}
 use mathlib.Core.Option.{Option, none, some}
 use Prim.Native.Nat.{ℕ, zero, suc, ◌+◌}
@@ -11,6 +11,7 @@ use Rattle.bits.specs.Bits.{pick, Bits, window, binary, sameBits}
 use Rattle.netlist.specs.declared.Control.{Control}
 use Rattle.netlist.specs.Netlist.{SecondPort, BlockRam, DistributedRam}
 use Rattle.netlist.specs.Reader.{addressWidth, shift_of}
+use Rattle.netlist.specs.Shape.{FitsOption}
 use Rattle.recorder.specs.Record.{Expr.const, Expr.read, RegEnable}
 use Rattle.recorder.specs.Evaluate.{Signals, Values}
 use Rattle.recorder.specs.Meaning.{Is, Keeps, Base, Makes, Means}
@@ -19,15 +20,17 @@ use Rattle.optimize.proofs.Muxes.{and-value, mux-value}
 use Rattle.behaviour.specs.Behaviour.{Valuation, asserted, enabled, shiftIn}
 use Rattle.wires.specs.declared.Constants.{Constants}
 use Rattle.wires.specs.Wires.{WireRef, Wires}
+use Rattle.wires.specs.Seen.{Seen, standing}
 use Rattle.address_mux.specs.AddressMux.{Node}
-use Rattle.memories.specs.Memories.{Word, PortExprs, gate, writeWord, writeSecond, ramWord, ramWords, candidatesFrom, enableOf, nextRead, emitBlockRamReadPort, emitSecondReadPort, updateWords, secondExprs, emitBlockRam, dramWords, dramSelect, emitDistributedRam}
-use Rattle.meaning.specs.Held.{held, valuesAt, Driven, Choice, lastChoice}
+use Rattle.memories.specs.Memories.{Word, PortExprs, gate, writeWord, writeSecond, ramWord, ramWords, candidatesFrom, enableOf, ownRead, nextRead, emitBlockRamReadPort, emitSecondReadPort, updateWords, secondExprs, secondOutput, emitBlockRam, dramWords, dramSelect, emitDistributedRam}
+use Rattle.meaning.specs.Held.{refBit, held, valuesAt, Driven, Choice, lastChoice}
 use Rattle.meaning.specs.Settles.{Tick, enableNow, RegOn, Settles, Gets}
-use Rattle.meaning.proofs.Settling.{gets-pure, gets-bind, gets_so, gets-any, settles-both, settles-makes, settles-gets, settles-state, settles-pure, settles-bind, settles-so}
-use Rattle.meaning.proofs.BitReads.{ref-gets, IsSignal, signal-gets, asserted-means, bits-means, vector-means}
+use Rattle.meaning.proofs.Settling.{gets-pure, gets-bind, gets_so, gets-any, settles-both, settles-makes, settles-gets, settles-state, settles-pure, settles-bind, settles-so, settles-keeping}
+use Rattle.meaning.proofs.BitReads.{ref-gets, IsSignal, signal-gets, Known, known-keeps, asserted-once, vector-once}
 use Rattle.meaning.proofs.Tree.{Nodes, nodes-keep, nodes-snoc, tree-means}
-use Rattle.meaning.proofs.Equations.{now, some_is, Bases, bases-keep, assign-settles}
+use Rattle.meaning.proofs.Equations.{now, some_is, Bases, bases-keep, Knowns, assign-settles}
 use Rattle.meaning.proofs.Registers.{and_yes}
+use Rattle.meaning.proofs.Owned.{Owned, SecondOwned}
 
 -- what a port brings to a tick; `asserted` is of its write control and its clock enable together
 pub record PortValue : Type 0 where
@@ -172,9 +175,34 @@ enable-gets : (m : Wires) (z : Constants) (o : Option Control) → Gets (enableO
 enable-gets m z none = gets-pure refl
 enable-gets m z (some c) = gets-bind (signal-gets m z c.signal) (λ s h. gets-pure (s, h, refl))
 
-next-read-means : (σ : Signals) (width target : ℕ) {o : Option ℕ} {word : ℕ} {b : Bool} {x : Bits} {env : Values} → EnabledIs env o b → Is env word x → Means σ env (nextRead o width target word) (pick b x (word_of σ width target))
-next-read-means σ width target always i = makes-pure i
-next-read-means σ width target (given h) i = makes-bind (means-emit {x = read width target 0} refl) (λ own env₁ k₁ ho. mux-value σ (k₁ _ _ h) (k₁ _ _ i) ho)
+-- the read of a read register's own signal, where it stands; w is its first wire
+data OwnIs (σ : Signals) (m : Wires) (width w : ℕ) (env : Values) : Option ℕ → Type 0 where
+  unread : OwnIs σ m width w env none
+  stands : {e : ℕ} → ((r : WireRef) → m w ≡ some r → Is env e (word_of σ width r.signal)) → OwnIs σ m width w env (some e)
+
+keep-own : {σ : Signals} {m : Wires} {width w : ℕ} {env env' : Values} {o : Option ℕ} → Keeps env env' → OwnIs σ m width w env o → OwnIs σ m width w env' o
+keep-own k unread = unread
+keep-own k (stands h) = stands (λ r q. k _ _ (h r q))
+
+-- it is that of its one wire, of which the register has the one bit
+own-is : {σ : Signals} {m : Wires} {env : Values} {seen : Seen} {width : ℕ} (output : List ℕ) → Known σ m env seen → Owned m width output → OwnIs σ m width (get_or output 0 0) env (ownRead seen output)
+own-is [] h f = unread
+own-is {σ} {m} {env} {seen} {width} (w ∷ []) h f = go (standing seen w) refl
+  where
+    bit : (e : ℕ) → Is env e (refBit σ (m w) ∷ []) → (r : WireRef) → m w ≡ some r → Is env e (word_of σ width r.signal)
+    bit e i r q = subst (λ (k : ℕ). Is env e (word_of σ k r.signal)) f.wide
+        (subst (λ (k : ℕ). Is env e (get_or (σ r.signal) k false ∷ [])) (f.lowest r q) (subst (λ (o : Option WireRef). Is env e (refBit σ o ∷ [])) q i))
+
+    go : (o : Option ℕ) → standing seen w ≡ o → OwnIs σ m width w env o
+    go none q = unread
+    go (some e) q = stands (bit e (h.known w e q))
+own-is (w ∷ v ∷ ws) h f = unread
+
+next-read-means : (σ : Signals) (m : Wires) (width w : ℕ) {target : WireRef} {o own : Option ℕ} {word : ℕ} {b : Bool} {x : Bits} {env : Values} → m w ≡ some target → EnabledIs env o b → OwnIs σ m width w env own → Is env word x
+    → Means σ env (nextRead o own width target.signal word) (pick b x (word_of σ width target.signal))
+next-read-means σ m width w q always own i = makes-pure i
+next-read-means σ m width w {target} q (given h) unread i = makes-bind (means-emit {x = read width target.signal 0} refl) (λ o env₁ k₁ ho. mux-value σ (k₁ _ _ h) (k₁ _ _ i) ho)
+next-read-means σ m width w {target} q (given h) (stands {e = e} f) i = makes-bind (makes-pure {a = e} {P = λ o env'. Is env' o (word_of σ width target.signal)} (f target q)) (λ o env₁ k₁ ho. mux-value σ (k₁ _ _ h) (k₁ _ _ i) ho)
 
 -- the read register takes the word that its address names, before the commit, or 0; its own while the clock enable is not asserted
 pub record ReadPort (κ : Tick) (m : Wires) (z : Constants) (width aw : ℕ) (a : PortValue) (b : Option PortValue) (outputs : List ℕ) (readEnable clockEnable : Option Control) (at : Bits) (words : List ℕ) (clock edge : ℕ) : Type 0 where
@@ -197,16 +225,16 @@ Updated κ width aw a b clock edge index (s ∷ ss) =
     NewWord κ width aw a b clock edge index s × Updated κ width aw a b clock edge (suc index) ss
 
 module _ {K : Type 0} (κ : K → Tick) (Ω : K → Values) (m : Wires) (z : Constants) (width aw : ℕ) (a : K → PortValue) (b : K → Option PortValue) where
-  read-port-equation : (p : PortExprs) (o : Option Control) (at : K → Bits) (ws : List Word) (clock edge : ℕ) {env : K → Values} → ((k : K) → EnabledIs (env k) p.clockEnabled (enabled (now (κ k) m) o)) → ((k : K) → Is (env k) p.readAddress (at k)) → ((k : K) → WordsAre (κ k).before width aw (a k) (b k) (env k) 0 ws)
-      → Settles κ Ω env (emitBlockRamReadPort m z p ws width aw clock edge) (λ u env'. (k : K) → ReadPort (κ k) m z width aw (a k) (b k) p.readData p.readEnable o (at k) (signalsIn ws) clock edge)
+  read-port-equation : (p : PortExprs) (own : Option ℕ) (o : Option Control) (at : K → Bits) (ws : List Word) (clock edge : ℕ) {env : K → Values} → ((k : K) → EnabledIs (env k) p.clockEnabled (enabled (now (κ k) m) o)) → ((k : K) → OwnIs (κ k).before m width (get_or p.readData 0 0) (env k) own) → ((k : K) → Is (env k) p.readAddress (at k)) → ((k : K) → WordsAre (κ k).before width aw (a k) (b k) (env k) 0 ws)
+      → Settles κ Ω env (emitBlockRamReadPort m z p own ws width aw clock edge) (λ u env'. (k : K) → ReadPort (κ k) m z width aw (a k) (b k) p.readData p.readEnable o (at k) (signalsIn ws) clock edge)
   unfolding emitBlockRamReadPort
-  read-port-equation p o at ws clock edge c i h =
+  read-port-equation p own o at ws clock edge c s i h =
       settles-bind (settles-makes (λ k. means-emit {x = const width 0} refl)) (λ e env₁ k₁ he.
       settles-bind (settles-makes (λ k. candidates-make (κ k).before width aw (a k) (b k) p.readAddress (at k) 0 ws [] [] (k₁ k _ _ (i k)) (keep-words (κ k).before width aw (a k) (b k) (k₁ k) 0 ws (h k)) tt)) (λ ns env₂ k₂ hn.
       settles-bind (settles-makes (λ k. tree-means width ns (choices (κ k).before width aw (a k) (b k) (at k) 0 (signalsIn ws)) e (binary width 0) (hn k) (k₂ k _ _ (he k)))) (λ v env₃ k₃ hv.
       settles-bind (settles-gets (ref-gets m (get_or p.readData 0 0))) (λ r env₄ k₄ hr.
       settles-bind (settles-gets (enable-gets m z p.readEnable)) (λ en env₅ k₅ hen.
-      settles-bind (settles-makes (λ k. next-read-means (κ k).before width r.signal (keep-enabled (k₅ k) (keep-enabled (k₄ k) (keep-enabled (k₃ k) (keep-enabled (k₂ k) (keep-enabled (k₁ k) (c k)))))) (k₅ k _ _ (k₄ k _ _ (hv k))))) (λ n env₆ k₆ hn'.
+      settles-bind (settles-makes (λ k. next-read-means (κ k).before m width (get_or p.readData 0 0) hr (keep-enabled (k₅ k) (keep-enabled (k₄ k) (keep-enabled (k₃ k) (keep-enabled (k₂ k) (keep-enabled (k₁ k) (c k)))))) (keep-own (k₅ k) (keep-own (k₄ k) (keep-own (k₃ k) (keep-own (k₂ k) (keep-own (k₁ k) (s k)))))) (k₅ k _ _ (k₄ k _ _ (hv k))))) (λ n env₆ k₆ hn'.
       settles-state (λ kp q k. record {
         target = r;
         target_is = hr;
@@ -263,39 +291,46 @@ abbrev pub SecondRead : Tick → Wires → Constants → ℕ → ℕ → ℕ →
 SecondRead κ m z width aw shift a b none ws clock edge = Unit {0}
 SecondRead κ m z width aw shift a b (some q) ws clock edge = ReadPort κ m z width aw a b q.output q.readEnable q.clockEnable (valuesAt (now κ m) q.address shift aw) ws clock edge
 
-gate-makes : (σ : Signals) (m : Wires) {env : Values} → Base env → (write : Control) (o : Option Control)
-    → Makes σ env (gate m write o) (λ g env'. Is env' g.writeAsserted ((enabled (held σ m) (some write) && enabled (held σ m) o) ∷ []) × EnabledIs env' g.clockEnabled (enabled (held σ m) o))
+gate-makes : (σ : Signals) (m : Wires) {env : Values} {seen : Seen} → Base env → Known σ m env seen → (write : Control) (o : Option Control)
+    → Makes σ env (gate m seen write o) (λ g env'. Is env' g.value.writeAsserted ((enabled (held σ m) (some write) && enabled (held σ m) o) ∷ []) × EnabledIs env' g.value.clockEnabled (enabled (held σ m) o) × Known σ m env' g.seen)
 unfolding gate
-gate-makes σ m base write none = makes-bind (asserted-means m base write) (λ y env₁ k₁ hy. makes-pure (subst (λ (b : Bool). Is env₁ y (b ∷ [])) (sym (and_yes (enabled (held σ m) (some write)))) hy, always))
-gate-makes σ m base write (some enable) =
-    makes-bind (asserted-means m base write) (λ y env₁ k₁ hy.
-    makes-bind (asserted-means m (base-keeps k₁ base) enable) (λ c env₂ k₂ hc.
-    makes-bind (and-value σ (k₂ _ _ hy) hc) (λ g env₃ k₃ hg. makes-pure (hg, given (k₃ _ _ hc)))))
+gate-makes σ m base known write none = makes-bind (asserted-once m base known write) (λ y env₁ k₁ hy. makes-pure (subst (λ (b : Bool). Is env₁ y.value (b ∷ [])) (sym (and_yes (enabled (held σ m) (some write)))) hy.0, always, hy.1))
+gate-makes σ m base known write (some enable) =
+    makes-bind (asserted-once m base known write) (λ y env₁ k₁ hy.
+    makes-bind (asserted-once m (base-keeps k₁ base) hy.1 enable) (λ c env₂ k₂ hc.
+    makes-bind (and-value σ (k₂ _ _ hy.0) hc.0) (λ g env₃ k₃ hg. makes-pure (hg, given (k₃ _ _ hc.0), known-keeps k₃ hc.1))))
 
 module _ {K : Type 0} (κ : K → Tick) (Ω : K → Values) (m : Wires) (z : Constants) (shift aw : ℕ) where
   abbrev second : Option SecondPort → K → Option PortValue
   second o k = secondValue (now (κ k) m) shift aw o
 
-  second-exprs : (o : Option SecondPort) {env : K → Values} → Bases env → Settles κ Ω env (secondExprs m shift aw o) (λ p env'. IsSecond o p × ((k : K) → SecondIs (env' k) p (second o k)))
-  second-exprs none base = settles-pure (refl, λ k. tt)
-  second-exprs (some q) base =
-      settles-bind (settles-makes (λ k. vector-means m q.address shift aw (base k))) (λ a env₁ k₁ ha.
+  second-exprs : (o : Option SecondPort) {env : K → Values} {seen : Seen} → Bases env → Knowns κ m env seen
+      → Settles κ Ω env (secondExprs m seen shift aw o) (λ p env'. IsSecond o p.value × ((k : K) → SecondIs (env' k) p.value (second o k)) × Knowns κ m env' p.seen)
+  second-exprs none base known = settles-pure (refl, λ k. tt, known)
+  second-exprs (some q) base known =
+      settles-bind (settles-makes (λ k. vector-once m q.address shift aw (base k) (known k))) (λ a env₁ k₁ ha.
       let b₁ = bases-keep k₁ base in
-      settles-bind (settles-makes (λ k. bits-means m (b₁ k) q.input)) (λ d env₂ k₂ hd.
-      settles-bind (settles-makes (λ k. gate-makes (κ k).before m (base-keeps (k₂ k) (b₁ k)) q.write q.clockEnable)) (λ g env₃ k₃ hg.
-      settles-pure ((_, refl, refl, refl), λ k. record { address_is = k₃ k _ _ (k₂ k _ _ (ha k)); word-is = k₃ k _ _ (hd k); asserted-is = (hg k).0; read_is = k₃ k _ _ (k₂ k _ _ (ha k)); enabled-is = (hg k).1 }))))
+      settles-bind (settles-makes (λ k. vector-once m q.input 0 (length q.input) (b₁ k) (ha k).1)) (λ d env₂ k₂ hd.
+      settles-bind (settles-makes (λ k. gate-makes (κ k).before m (base-keeps (k₂ k) (b₁ k)) (hd k).1 q.write q.clockEnable)) (λ g env₃ k₃ hg.
+      settles-pure (
+        (_, refl, refl, refl),
+        λ k. record { address_is = k₃ k _ _ (k₂ k _ _ (ha k).0); word-is = k₃ k _ _ (hd k).0; asserted-is = (hg k).0; read_is = k₃ k _ _ (k₂ k _ _ (ha k).0); enabled-is = (hg k).1 },
+        λ k. (hg k).2,
+      ))))
 
-  second-read : (width : ℕ) (a : K → PortValue) (o : Option SecondPort) (p : Option PortExprs) (ws : List Word) (clock edge : ℕ) {env : K → Values} → IsSecond o p → ((k : K) → SecondIs (env k) p (second o k))
-      → ((k : K) → WordsAre (κ k).before width aw (a k) (second o k) (env k) 0 ws)
-      → Settles κ Ω env (emitSecondReadPort m z p ws width aw clock edge) (λ u env'. (k : K) → SecondRead (κ k) m z width aw shift (a k) (second o k) o (signalsIn ws) clock edge)
-  second-read width a none none ws clock edge q h w = settles-pure (λ k. tt)
-  second-read width a none (some p) ws clock edge q h w = absurd (let e : ◌≡◌ {A = ℕ} 0 1 = cc in omega arith)
-  second-read width a (some q) none ws clock edge e h w = absurd (let y : none ≡ some e.0 = e.1 in let x : ◌≡◌ {A = ℕ} 0 1 = cc in omega arith)
-  second-read width a (some q) (some p) ws clock edge e h w =
+  second-read : (r : BlockRam) (a : K → PortValue) (o : Option SecondPort) (p : Option PortExprs) (seen : Seen) (ws : List Word) (clock edge : ℕ) {env : K → Values} → IsSecond o p → ((k : K) → SecondIs (env k) p (second o k))
+      → Knowns κ m env seen → FitsOption (SecondOwned m r) o → ((k : K) → WordsAre (κ k).before r.width aw (a k) (second o k) (env k) 0 ws)
+      → Settles κ Ω env (emitSecondReadPort m z p (ownRead seen (secondOutput o)) ws r.width aw clock edge) (λ u env'. (k : K) → SecondRead (κ k) m z r.width aw shift (a k) (second o k) o (signalsIn ws) clock edge)
+  second-read r a none none seen ws clock edge q h known f w = settles-pure (λ k. tt)
+  second-read r a none (some p) seen ws clock edge q h known f w = absurd (let e : ◌≡◌ {A = ℕ} 0 1 = cc in omega arith)
+  second-read r a (some q) none seen ws clock edge e h known f w = absurd (let y : none ≡ some e.0 = e.1 in let x : ◌≡◌ {A = ℕ} 0 1 = cc in omega arith)
+  second-read r a (some q) (some p) seen ws clock edge {env} e h known f w =
       let same : p ≡ e.0 = some_is p e.0 e.1 in
-      settles-so (read-port-equation κ Ω m z width aw a (second (some q)) p q.clockEnable (λ k. valuesAt (now (κ k) m) q.address shift aw) ws clock edge (λ k. (h k).enabled-is) (λ k. (h k).read_is) w) (λ u env₁ k₁ r k.
-      subst (λ (o : List ℕ). ReadPort (κ k) m z width aw (a k) (second (some q) k) o q.readEnable q.clockEnable (valuesAt (now (κ k) m) q.address shift aw) (signalsIn ws) clock edge) (ap (λ (x : PortExprs). x.readData) same ∙ e.2)
-      (subst (λ (o : Option Control). ReadPort (κ k) m z width aw (a k) (second (some q) k) p.readData o q.clockEnable (valuesAt (now (κ k) m) q.address shift aw) (signalsIn ws) clock edge) (ap (λ (x : PortExprs). x.readEnable) same ∙ e.3) (r k)))
+      let outputs : p.readData ≡ q.output = ap (λ (x : PortExprs). x.readData) same ∙ e.2 in
+      let own : (k : K) → OwnIs (κ k).before m r.width (get_or p.readData 0 0) (env k) (ownRead seen q.output) = λ k. subst (λ (o : List ℕ). OwnIs (κ k).before m r.width (get_or o 0 0) (env k) (ownRead seen q.output)) (sym outputs) (own-is q.output (known k) f.owned) in
+      settles-so (read-port-equation κ Ω m z r.width aw a (second (some q)) p (ownRead seen q.output) q.clockEnable (λ k. valuesAt (now (κ k) m) q.address shift aw) ws clock edge (λ k. (h k).enabled-is) own (λ k. (h k).read_is) w) (λ u env₁ k₁ x k.
+      subst (λ (o : List ℕ). ReadPort (κ k) m z r.width aw (a k) (second (some q) k) o q.readEnable q.clockEnable (valuesAt (now (κ k) m) q.address shift aw) (signalsIn ws) clock edge) outputs
+      (subst (λ (o : Option Control). ReadPort (κ k) m z r.width aw (a k) (second (some q) k) p.readData o q.clockEnable (valuesAt (now (κ k) m) q.address shift aw) (signalsIn ws) clock edge) (ap (λ (x : PortExprs). x.readEnable) same ∙ e.3) (x k)))
 
 -- a block RAM in a tick, whose words have these signals
 pub record Remembered (κ : Tick) (m : Wires) (z : Constants) (r : BlockRam) (words : List ℕ) : Type 0 where
@@ -312,37 +347,39 @@ pub record Stored {K : Type 0} (P : K → List ℕ → Type 0) (depth : ℕ) : T
   pub stored : (k : K) → P k words
 
 module _ {K : Type 0} (κ : K → Tick) (Ω : K → Values) (m : Wires) (z : Constants) where
-  pub block-ram-equation : (owner : ℕ) (r : BlockRam) {env : K → Values} → Bases env → Settles κ Ω env (emitBlockRam m z owner r) (λ u env'. Stored (λ k. Remembered (κ k) m z r) r.depth)
+  pub block-ram-equation : (owner : ℕ) (r : BlockRam) {env : K → Values} {seen : Seen} → Bases env → Knowns κ m env seen → Owned m r.width r.output → FitsOption (SecondOwned m r) r.second
+      → Settles κ Ω env (emitBlockRam m z seen owner r) (λ u env'. Stored (λ k. Remembered (κ k) m z r) r.depth)
   unfolding emitBlockRam
-  block-ram-equation owner r base =
+  block-ram-equation owner r base known owned owned₂ =
       let aw : ℕ = addressWidth r.depth in
       let shift : ℕ = shiftFor r in
       let va : K → PortValue = λ k. firstValue (now (κ k) m) r in
       let vb : K → Option PortValue = λ k. secondValue (now (κ k) m) shift aw r.second in
-      settles-bind (settles-makes (λ k. vector-means m r.writeAddress shift aw (base k))) (λ wa env₁ k₁ hwa.
+      settles-bind (settles-makes (λ k. vector-once m r.writeAddress shift aw (base k) (known k))) (λ wa env₁ k₁ hwa.
       let b₁ = bases-keep k₁ base in
-      settles-bind (settles-makes (λ k. vector-means m r.readAddress shift aw (b₁ k))) (λ ra env₂ k₂ hra.
+      settles-bind (settles-makes (λ k. vector-once m r.readAddress shift aw (b₁ k) (hwa k).1)) (λ ra env₂ k₂ hra.
       let b₂ = bases-keep k₂ b₁ in
-      settles-bind (settles-makes (λ k. bits-means m (b₂ k) r.input)) (λ d env₃ k₃ hd.
+      settles-bind (settles-makes (λ k. vector-once m r.input 0 (length r.input) (b₂ k) (hra k).1)) (λ d env₃ k₃ hd.
       let b₃ = bases-keep k₃ b₂ in
-      settles-bind (settles-makes (λ k. gate-makes (κ k).before m (b₃ k) r.write r.clockEnable)) (λ g env₄ k₄ hg.
+      settles-bind (settles-makes (λ k. gate-makes (κ k).before m (b₃ k) (hd k).1 r.write r.clockEnable)) (λ g env₄ k₄ hg.
       let b₄ = bases-keep k₄ b₃ in
-      settles-bind (second-exprs κ Ω m z shift aw r.second b₄) (λ b env₅ k₅ hb.
+      settles-bind (second-exprs κ Ω m z shift aw r.second b₄ (λ k. (hg k).2)) (λ b env₅ k₅ hb.
       settles-bind (settles-gets (signal-gets m z r.clock)) (λ clock env₆ k₆ hc.
-      let a : PortExprs = record { writeAddress = wa; writeData = d; writeAsserted = g.writeAsserted; readAddress = ra; readData = r.output; readEnable = r.readEnable; clockEnabled = g.clockEnabled } in
+      let a : PortExprs = record { writeAddress = wa.value; writeData = d.value; writeAsserted = g.value.writeAsserted; readAddress = ra.value; readData = r.output; readEnable = r.readEnable; clockEnabled = g.value.clockEnabled } in
       let ha : (k : K) → PortIs (env₆ k) a (va k) = λ k. record {
-        address_is = k₆ k _ _ (k₅ k _ _ (k₄ k _ _ (k₃ k _ _ (k₂ k _ _ (hwa k)))));
-        word-is = k₆ k _ _ (k₅ k _ _ (k₄ k _ _ (hd k)));
+        address_is = k₆ k _ _ (k₅ k _ _ (k₄ k _ _ (k₃ k _ _ (k₂ k _ _ (hwa k).0))));
+        word-is = k₆ k _ _ (k₅ k _ _ (k₄ k _ _ (hd k).0));
         asserted-is = k₆ k _ _ (k₅ k _ _ (hg k).0);
-        read_is = k₆ k _ _ (k₅ k _ _ (k₄ k _ _ (k₃ k _ _ (hra k))));
+        read_is = k₆ k _ _ (k₅ k _ _ (k₄ k _ _ (k₃ k _ _ (hra k).0)));
         enabled-is = keep-enabled (k₆ k) (keep-enabled (k₅ k) (hg k).1);
       } in
-      let hb₆ : (k : K) → SecondIs (env₆ k) b (vb k) = λ k. keep-second (k₆ k) b (vb k) (hb.1 k) in
-      settles-bind (settles-both (settles-gets (words-get a b owner r.width aw r.depth 0 [])) (settles-makes (λ k. words-make (κ k).before r.width aw (va k) (vb k) a b owner r.depth 0 [] refl (ha k) (hb₆ k) tt))) (λ ws env₇ k₇ hw.
-      settles-bind (read-port-equation κ Ω m z r.width aw va vb a r.clockEnable (λ k. (va k).readAt) ws clock r.edge (λ k. keep-enabled (k₇ k) (ha k).enabled-is) (λ k. k₇ k _ _ (ha k).read_is) hw.1) (λ u env₈ k₈ first.
-      settles-bind (second-read κ Ω m z shift aw r.width va r.second b ws clock r.edge hb.0 (λ k. keep-second (k₈ k) b (vb k) (keep-second (k₇ k) b (vb k) (hb₆ k))) (λ k. keep-words (κ k).before r.width aw (va k) (vb k) (k₈ k) 0 ws (hw.1 k))) (λ u env₉ k₉ second.
-      settles-so (updates-equation κ Ω m z r.width aw va vb ws clock r.edge 0 (λ k. keep-words (κ k).before r.width aw (va k) (vb k) (k₉ k) 0 ws (keep-words (κ k).before r.width aw (va k) (vb k) (k₈ k) 0 ws (hw.1 k)))) (λ x env₁₀ k₁₀ updated.
-      record { words = signalsIn ws; count = length-map ws _ ∙ hw.0 ∙ omega arith; stored = λ k. record { clock = clock; clock-is = hc; first = first k; second-port = second k; updated = updated k } }))))))))))
+      let hb₆ : (k : K) → SecondIs (env₆ k) b.value (vb k) = λ k. keep-second (k₆ k) b.value (vb k) (hb.1 k) in
+      settles-bind (settles-both (settles-gets (words-get a b.value owner r.width aw r.depth 0 [])) (settles-makes (λ k. words-make (κ k).before r.width aw (va k) (vb k) a b.value owner r.depth 0 [] refl (ha k) (hb₆ k) tt))) (λ ws env₇ k₇ hw.
+      let s₇ : Knowns κ m env₇ b.seen = λ k. known-keeps (k₇ k) (known-keeps (k₆ k) (hb.2 k)) in
+      settles-bind (read-port-equation κ Ω m z r.width aw va vb a (ownRead b.seen r.output) r.clockEnable (λ k. (va k).readAt) ws clock r.edge (λ k. keep-enabled (k₇ k) (ha k).enabled-is) (λ k. own-is r.output (s₇ k) owned) (λ k. k₇ k _ _ (ha k).read_is) hw.1) (λ u env₈ k₈ first.
+      settles-bind (second-read κ Ω m z shift aw r va r.second b.value b.seen ws clock r.edge hb.0 (λ k. keep-second (k₈ k) b.value (vb k) (keep-second (k₇ k) b.value (vb k) (hb₆ k))) (λ k. known-keeps (k₈ k) (s₇ k)) owned₂ (λ k. keep-words (κ k).before r.width aw (va k) (vb k) (k₈ k) 0 ws (hw.1 k))) (λ u env₉ k₉ second.
+      settles-keeping b.seen (settles-so (updates-equation κ Ω m z r.width aw va vb ws clock r.edge 0 (λ k. keep-words (κ k).before r.width aw (va k) (vb k) (k₉ k) 0 ws (keep-words (κ k).before r.width aw (va k) (vb k) (k₈ k) 0 ws (hw.1 k)))) (λ x env₁₀ k₁₀ updated.
+      record { words = signalsIn ws; count = length-map ws _ ∙ hw.0 ∙ omega arith; stored = λ k. record { clock = clock; clock-is = hc; first = first k; second-port = second k; updated = updated k } })))))))))))
 
 -- DISTRIBUTED RAM
 
@@ -395,22 +432,22 @@ pub record Distributed (κ : Tick) (m : Wires) (z : Constants) (r : DistributedR
   pub shown : Driven κ.before m (get_or r.output 0 0) (lastChoice (choices κ.before 4 4 (dramValue (now κ m) r) none (valuesAt (now κ m) r.readAddress 0 4) 0 words) (binary 4 0))
 
 module _ {K : Type 0} (κ : K → Tick) (Ω : K → Values) (m : Wires) (z : Constants) where
-  pub distributed-ram-equation : (owner : ℕ) (r : DistributedRam) {env : K → Values} → Bases env → Settles κ Ω env (emitDistributedRam m z owner r) (λ u env'. Stored (λ k. Distributed (κ k) m z r) 16)
+  pub distributed-ram-equation : (owner : ℕ) (r : DistributedRam) {env : K → Values} {seen : Seen} → Bases env → Knowns κ m env seen → Settles κ Ω env (emitDistributedRam m z seen owner r) (λ u env'. Stored (λ k. Distributed (κ k) m z r) 16)
   unfolding emitDistributedRam
-  distributed-ram-equation owner r base =
+  distributed-ram-equation owner r base known =
       let va : K → PortValue = λ k. dramValue (now (κ k) m) r in
-      settles-bind (settles-makes (λ k. vector-means m r.writeAddress 0 4 (base k))) (λ wa env₁ k₁ hwa.
+      settles-bind (settles-makes (λ k. vector-once m r.writeAddress 0 4 (base k) (known k))) (λ wa env₁ k₁ hwa.
       let b₁ = bases-keep k₁ base in
-      settles-bind (settles-makes (λ k. vector-means m r.readAddress 0 4 (b₁ k))) (λ ra env₂ k₂ hra.
+      settles-bind (settles-makes (λ k. vector-once m r.readAddress 0 4 (b₁ k) (hwa k).1)) (λ ra env₂ k₂ hra.
       let b₂ = bases-keep k₂ b₁ in
-      settles-bind (settles-makes (λ k. vector-means m r.input 0 4 (b₂ k))) (λ d env₃ k₃ hd.
+      settles-bind (settles-makes (λ k. vector-once m r.input 0 4 (b₂ k) (hra k).1)) (λ d env₃ k₃ hd.
       let b₃ = bases-keep k₃ b₂ in
-      settles-bind (settles-makes (λ k. asserted-means m (b₃ k) r.write)) (λ y env₄ k₄ hy.
+      settles-bind (settles-makes (λ k. asserted-once m (b₃ k) (hd k).1 r.write)) (λ y env₄ k₄ hy.
       settles-bind (settles-gets (signal-gets m z r.clock)) (λ clock env₅ k₅ hc.
-      let p : PortExprs = record { writeAddress = wa; writeData = d; writeAsserted = y; readAddress = ra; readData = r.output; readEnable = none; clockEnabled = none } in
-      let hp : (k : K) → PortIs (env₅ k) p (va k) = λ k. record { address_is = k₅ k _ _ (k₄ k _ _ (k₃ k _ _ (k₂ k _ _ (hwa k)))); word-is = k₅ k _ _ (k₄ k _ _ (hd k)); asserted-is = k₅ k _ _ (hy k); read_is = k₅ k _ _ (k₄ k _ _ (k₃ k _ _ (hra k))); enabled-is = always } in
+      let p : PortExprs = record { writeAddress = wa.value; writeData = d.value; writeAsserted = y.value; readAddress = ra.value; readData = r.output; readEnable = none; clockEnabled = none } in
+      let hp : (k : K) → PortIs (env₅ k) p (va k) = λ k. record { address_is = k₅ k _ _ (k₄ k _ _ (k₃ k _ _ (k₂ k _ _ (hwa k).0))); word-is = k₅ k _ _ (k₄ k _ _ (hd k).0); asserted-is = k₅ k _ _ (hy k).0; read_is = k₅ k _ _ (k₄ k _ _ (k₃ k _ _ (hra k).0)); enabled-is = always } in
       settles-bind (dram-words κ Ω p va owner clock r.edge 16 0 [] refl hp (λ k. tt) (λ k. tt)) (λ ws env₆ k₆ hw.
       settles-bind (settles-makes (λ k. means-emit {x = const 4 0} refl)) (λ e env₇ k₇ he.
-      settles-bind (settles-makes (λ k. dram-select (κ k).before (va k) ra (valuesAt (now (κ k) m) r.readAddress 0 4) 0 ws e (binary 4 0) (k₇ k _ _ (k₆ k _ _ (hp k).read_is)) (keep-words (κ k).before 4 4 (va k) none (k₇ k) 0 ws (hw.words_are k)) (he k))) (λ v env₈ k₈ hv.
-      settles-so (assign-settles κ Ω m (get_or r.output 0 0) hv) (λ u env₉ k₉ dr.
-      record { words = signalsIn ws; count = length-map ws _ ∙ hw.count ∙ omega arith; stored = λ k. record { clock = clock; clock-is = hc; updated = hw.updated k; shown = dr k } })))))))))
+      settles-bind (settles-makes (λ k. dram-select (κ k).before (va k) ra.value (valuesAt (now (κ k) m) r.readAddress 0 4) 0 ws e (binary 4 0) (k₇ k _ _ (k₆ k _ _ (hp k).read_is)) (keep-words (κ k).before 4 4 (va k) none (k₇ k) 0 ws (hw.words_are k)) (he k))) (λ v env₈ k₈ hv.
+      settles-keeping y.seen (settles-so (assign-settles κ Ω m (get_or r.output 0 0) hv) (λ u env₉ k₉ dr.
+      record { words = signalsIn ws; count = length-map ws _ ∙ hw.count ∙ omega arith; stored = λ k. record { clock = clock; clock-is = hc; updated = hw.updated k; shown = dr k } }))))))))))

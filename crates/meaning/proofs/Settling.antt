@@ -12,6 +12,7 @@ use Rattle.recorder.specs.Evaluate.{Values, evalAll}
 use Rattle.recorder.specs.Meaning.{Is, Keeps, Ends, Makes}
 use Rattle.recorder.proofs.Events.{exprs-append, stmts-append}
 use Rattle.recorder.proofs.Makes.{keeps-all, length-all, eval-append}
+use Rattle.wires.specs.Seen.{Seen, Reading, keeping, forgetting}
 use Rattle.meaning.specs.Settles.{Tick, Holds, AllHold, valuesAfter, Settles, Gets}
 
 -- WHAT A WRITER GETS
@@ -145,6 +146,15 @@ module _ {A K : Type 0} {κ : K → Tick} {Ω env : K → Values} {w : Writer A}
       so : (n : Count) (y : End A) → Ends y (λ a. P a (valuesAfter κ env (w n).events)) → Ends y (λ a. Q a (valuesAfter κ env (w n).events))
       so n (ok a) h = g a _ (λ k. keeps-all (κ k).before (exprsOf (w n).events) (env k)) h
       so n (no x y) h = tt
+
+module _ {A K : Type 0} {κ : K → Tick} {Ω env : K → Values} {P : A → (K → Values) → Type 0} where
+  -- a step that reads nothing
+  pub settles-keeping : (seen : Seen) {w : Writer A} → Settles κ Ω env w P → Settles κ Ω env (keeping seen w) (λ r env'. P r.value env')
+  settles-keeping seen f = settles-bind f (λ a env₁ kp p. settles-pure p)
+
+  -- what has been read is forgotten
+  pub settles-forgetting : {w : Writer (Reading A)} → Settles κ Ω env w (λ r env'. P r.value env') → Settles κ Ω env (forgetting w) P
+  settles-forgetting f = settles-bind f (λ r env₁ kp p. settles-pure p)
 
 module _ {A K : Type 0} {κ : K → Tick} {Ω env : K → Values} {w : Writer A} {P Q : A → (K → Values) → Type 0} where
   pub settles-both : Settles κ Ω env w P → Settles κ Ω env w Q → Settles κ Ω env w (λ a env'. P a env' × Q a env')

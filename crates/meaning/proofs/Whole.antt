@@ -28,17 +28,20 @@ use Rattle.behaviour.specs.WireMap.{wordSignals, slots}
 use Rattle.behaviour.specs.Behaviour.{value, values, lookTable, absent}
 use Rattle.behaviour.proofs.BankLaws.{IsBank, IsCell, banks-are}
 use Rattle.wires.specs.declared.Constants.{Constants}
+use Rattle.wires.specs.Seen.{nothingSeen, Reading, forgetting}
 use Rattle.wires.specs.Wires.{Wires}
 use Rattle.lowering.specs.Emit.{emitCell, emitCells, emitBanks, emitOutputs}
 use Rattle.lowering.specs.Lower.{emitConstants, reserveNetlist, emitNetlist, lowerNetlist}
 use Rattle.meaning.specs.Held.{valuesAt, Driven}
 use Rattle.meaning.specs.Settles.{Tick, AllHold, Settles}
 use Rattle.meaning.specs.Runs.{Laid}
-use Rattle.meaning.proofs.Settling.{settles-makes, settles-assign, settles-pure, settles-refuse, settles-bind, settles-bind-at, settles-so}
-use Rattle.meaning.proofs.Equations.{now, Bases, bases-keep, AllDriven, Added, Locked, Shown, lut4-equation, pfumx-equation, l6mux21-equation, io-equation, multiplier-equation, ccu2c-equation, jtagg-equation, pll-equation, outputs-equation}
+use Rattle.meaning.proofs.Settling.{settles-makes, settles-assign, settles-pure, settles-refuse, settles-bind, settles-bind-at, settles-so, settles-forgetting}
+use Rattle.meaning.proofs.BitReads.{known-nothing}
+use Rattle.meaning.proofs.Equations.{now, Bases, bases-keep, Knowns, AllDriven, Added, Locked, Shown, lut4-equation, pfumx-equation, l6mux21-equation, io-equation, multiplier-equation, ccu2c-equation, jtagg-equation, pll-equation, outputs-equation}
 use Rattle.meaning.proofs.Registers.{Banked, PlainReset, PlainResets, bank-equation}
 use Rattle.meaning.proofs.Memories.{Remembered, Distributed, Stored, block-ram-equation, distributed-ram-equation}
 use Rattle.meaning.proofs.Reserving.{reserved-is, mapping-count}
+use Rattle.meaning.proofs.Owned.{ReadsOwned, reads-owned}
 
 -- what a cell does, by the tick rule, on the signals of its wires and on those of its RAM words
 abbrev pub Does : Tick → Wires → Constants → Cell → List ℕ → Type 0
@@ -84,30 +87,36 @@ record Done {K : Type 0} (κ : K → Tick) (m : Wires) (z : Constants) (xs : Lis
   laid : Laid xs words
   do-all : (k : K) → AllDo (κ k) m z xs words
 
-module _ {K : Type 0} (κ : K → Tick) (Ω : K → Values) (m : Wires) (z : Constants) (limits : Limits) where
+module _ {K : Type 0} (κ : K → Tick) (Ω : K → Values) (m : Wires) (z : Constants) (limits : Limits) (shared : ℕ) where
   no_words : (x : Cell) {env : K → Values} {w : Writer (Unit {0})} → wordSignals x ≡ 0 → Settles κ Ω env w (λ u env'. (k : K) → Does (κ k) m z x []) → Settles κ Ω env w (λ u env'. Stored (λ k. Does (κ k) m z x) (wordSignals x))
   no_words x e f = settles-so f (λ u env₁ kp d. record { words = []; count = sym e; stored = d })
 
-  cell-does : (owner : ℕ) (x : Cell) {env : K → Values} → FitsCell limits x → Bases env → Settles κ Ω env (emitCell m z owner x) (λ u env'. Stored (λ k. Does (κ k) m z x) (wordSignals x))
-  unfolding emitCell
-  cell-does owner (lut4 i o t) h base = no_words (lut4 i o t) refl (lut4-equation κ Ω m base i o t h.0.0 h.2)
-  cell-does owner (pfumx t f s o) h base = no_words (pfumx t f s o) refl (pfumx-equation κ Ω m base t f s o)
-  cell-does owner (l6mux21 f t s o) h base = no_words (l6mux21 f t s o) refl (l6mux21-equation κ Ω m base f t s o)
-  cell-does owner (ccu2c u) h base = no_words (ccu2c u) refl (ccu2c-equation κ Ω m u h.row0.0 h.row1.0 h.init0 h.init1 base)
-  cell-does owner (multiplier l r p) h base = no_words (multiplier l r p) refl (multiplier-equation κ Ω m base l r p)
-  cell-does owner (flipFlop f) h base = no_words (flipFlop f) refl (settles-pure (λ k. tt))
-  cell-does owner (blockRam r) h base = block-ram-equation κ Ω m z owner r base
-  cell-does owner (distributedRam r) {env} h base =
-      by-test (λ (w : Writer (Unit {0})). Settles κ Ω env w (λ u env'. Stored (λ k. Distributed (κ k) m z r) 16)) (eqb r.second 1) (λ q. settles-refuse) (λ q. distributed-ram-equation κ Ω m z owner r base)
-  cell-does owner (io p d i t) h base = no_words (io p d i t) refl (io-equation κ Ω m base p d i t)
-  cell-does owner (jtagg ws) h base = no_words (jtagg ws) refl (jtagg-equation κ Ω m ws base)
-  cell-does owner (pll p) h base = no_words (pll p) refl (pll-equation κ Ω m p base)
+  -- it begins with nothing read, and what it has read is forgotten
+  alone : (x : Cell) {env : K → Values} {w : Writer (Reading (Unit {0}))} → wordSignals x ≡ 0 → (Knowns κ m env (nothingSeen shared) → Settles κ Ω env w (λ u env'. (k : K) → Does (κ k) m z x []))
+      → Settles κ Ω env (forgetting w) (λ u env'. Stored (λ k. Does (κ k) m z x) (wordSignals x))
+  alone x e f = no_words x e (settles-forgetting (f (λ k. known-nothing shared)))
 
-  all-do : (c : ℕ) (xs : List Cell) {env : K → Values} → Each (FitsCell limits) xs → Bases env → Settles κ Ω env (emitCells m z c xs) (λ u env'. Done κ m z xs)
+  cell-does : (owner : ℕ) (x : Cell) {env : K → Values} → FitsCell limits x → ReadsOwned m x → Bases env → Settles κ Ω env (emitCell shared m z owner x) (λ u env'. Stored (λ k. Does (κ k) m z x) (wordSignals x))
+  unfolding emitCell
+  cell-does owner (lut4 i o t) h own base = alone (lut4 i o t) refl (λ known. lut4-equation κ Ω m base known i o t h.0.0 h.2)
+  cell-does owner (pfumx t f s o) h own base = alone (pfumx t f s o) refl (λ known. pfumx-equation κ Ω m base known t f s o)
+  cell-does owner (l6mux21 f t s o) h own base = alone (l6mux21 f t s o) refl (λ known. l6mux21-equation κ Ω m base known f t s o)
+  cell-does owner (ccu2c u) h own base = alone (ccu2c u) refl (λ known. ccu2c-equation κ Ω m u h.row0.0 h.row1.0 h.init0 h.init1 base known)
+  cell-does owner (multiplier l r p) h own base = alone (multiplier l r p) refl (λ known. multiplier-equation κ Ω m base known l r p)
+  cell-does owner (flipFlop f) h own base = no_words (flipFlop f) refl (settles-pure (λ k. tt))
+  cell-does owner (blockRam r) h own base = settles-forgetting (block-ram-equation κ Ω m z owner r base (λ k. known-nothing shared) own.0 own.1)
+  cell-does owner (distributedRam r) {env} h own base =
+      by-test (λ (w : Writer (Unit {0})). Settles κ Ω env w (λ u env'. Stored (λ k. Distributed (κ k) m z r) 16)) (eqb r.second 1) (λ q. settles-refuse)
+      (λ q. settles-forgetting (distributed-ram-equation κ Ω m z owner r base (λ k. known-nothing shared)))
+  cell-does owner (io p d i t) h own base = alone (io p d i t) refl (λ known. io-equation κ Ω m base known p d i t)
+  cell-does owner (jtagg ws) h own base = no_words (jtagg ws) refl (jtagg-equation κ Ω m ws base)
+  cell-does owner (pll p) h own base = no_words (pll p) refl (pll-equation κ Ω m p base)
+
+  all-do : (c : ℕ) (xs : List Cell) {env : K → Values} → Each (FitsCell limits) xs → Each (ReadsOwned m) xs → Bases env → Settles κ Ω env (emitCells shared m z c xs) (λ u env'. Done κ m z xs)
   unfolding emitCells
-  all-do c [] h base = settles-pure (record { words = []; laid = tt; do-all = λ k. tt })
-  all-do c (x ∷ xs) h base = settles-bind (cell-does c x h.0 base) (λ u env₁ kp d.
-      settles-so (all-do (suc c) xs h.1 (bases-keep kp base)) (λ v env₂ k₂ r. record { words = d.words ∷ r.words; laid = (d.count, r.laid); do-all = λ k. (d.stored k, r.do-all k) }))
+  all-do c [] h own base = settles-pure (record { words = []; laid = tt; do-all = λ k. tt })
+  all-do c (x ∷ xs) h own base = settles-bind (cell-does c x h.0 own.0 base) (λ u env₁ kp d.
+      settles-so (all-do (suc c) xs h.1 own.1 (bases-keep kp base)) (λ v env₂ k₂ r. record { words = d.words ∷ r.words; laid = (d.count, r.laid); do-all = λ k. (d.stored k, r.do-all k) }))
 
 -- BANKS
 
@@ -172,11 +181,11 @@ module _ {K : Type 0} (κ : K → Tick) (Ω : K → Values) where
       settles-pure (record { base = bases-keep k₆ (bases-keep k₅ base); zero_is = p₀; one-is = p₁ })))))))
 
   -- what follows the constants
-  after-constants : (limits : Limits) (n : Netlist) (m : Wires) (z : Constants) (env : K → Values) → Each (FitsCell limits) n.cells → Constant κ env z
+  after-constants : (limits : Limits) (shared : ℕ) (n : Netlist) (m : Wires) (z : Constants) (env : K → Values) → Each (FitsCell limits) n.cells → Each (ReadsOwned m) n.cells → Constant κ env z
       → z.zero.0 ≡ length (slots n) → z.one.0 ≡ suc (length (slots n))
-      → Settles κ Ω env (emitCells m z 0 n.cells >>= λ u. emitBanks m z (collectFlipFlopBanks n.cells) >>= λ v. emitOutputs m 0 n.ports) (λ u env'. Runs κ n m)
-  after-constants limits n m z env h c p q =
-      settles-bind (all-do κ Ω m z limits 0 n.cells h c.base) (λ u env₅ k₅ dc.
+      → Settles κ Ω env (emitCells shared m z 0 n.cells >>= λ u. emitBanks m z (collectFlipFlopBanks n.cells) >>= λ v. emitOutputs m 0 n.ports) (λ u env'. Runs κ n m)
+  after-constants limits shared n m z env h own c p q =
+      settles-bind (all-do κ Ω m z limits shared 0 n.cells h own c.base) (λ u env₅ k₅ dc.
       settles-bind (banks-do κ Ω m z (collectFlipFlopBanks n.cells) (plain-banks limits n.cells h (collectFlipFlopBanks n.cells) (banks-are n.cells)) (bases-keep k₅ c.base)) (λ u env₆ k₆ db.
       settles-so (outputs-equation κ Ω m 0 n.ports (bases-keep k₆ (bases-keep k₅ c.base))) (λ u env₇ k₇ ds. record {
         constants = z;
@@ -203,21 +212,21 @@ none_yet = record { signals = 0; exprs = 0; stmts = 0 }
 
 -- The wire map is m, and lowering was not refused on the way: in all ticks in which the model's statements hold, by the values of its own
 -- expressions, the netlist runs.
-module _ (limits : Limits) (n : Netlist) (fits : Each (FitsCell limits) n.cells) (m : Wires) (reserved : (reserveNetlist n none_yet).end ≡ ok m) where
+module _ (shared : ℕ) (limits : Limits) (n : Netlist) (fits : Each (FitsCell limits) n.cells) (m : Wires) (reserved : (reserveNetlist n none_yet).end ≡ ok m) where
   abbrev es : List Event
   es = (reserveNetlist n none_yet).events
 
   abbrev rest : Out (Unit {0})
-  rest = emitNetlist n m (further none_yet es)
+  rest = emitNetlist shared n m (further none_yet es)
 
-  pub lowering-is : lowerNetlist n none_yet ≡ record { events = es ++ rest.events; end = rest.end }
+  pub lowering-is : lowerNetlist shared n none_yet ≡ record { events = es ++ rest.events; end = rest.end }
   unfolding lowerNetlist
-  lowering-is = bind_ok (reserveNetlist n) (emitNetlist n) none_yet reserved
+  lowering-is = bind_ok (reserveNetlist n) (emitNetlist shared n) none_yet reserved
 
-  pub exprs-are : exprsOf (lowerNetlist n none_yet).events ≡ exprsOf rest.events
+  pub exprs-are : exprsOf (lowerNetlist shared n none_yet).events ≡ exprsOf rest.events
   exprs-are = ap (λ (o : Out (Unit {0})). exprsOf o.events) lowering-is ∙ exprs-append es rest.events ∙ ap (λ (x : List Expr). x ++ exprsOf rest.events) (reserved-is n m reserved).exprs
 
-  pub stmts-are : stmtsOf (lowerNetlist n none_yet).events ≡ stmtsOf rest.events
+  pub stmts-are : stmtsOf (lowerNetlist shared n none_yet).events ≡ stmtsOf rest.events
   stmts-are = ap (λ (o : Out (Unit {0})). stmtsOf o.events) lowering-is ∙ stmts-append es rest.events ∙ ap (λ (x : List Stmt). x ++ stmtsOf rest.events) (reserved-is n m reserved).stmts
 
   counted : (further none_yet es).signals ≡ length (slots n)
@@ -225,15 +234,15 @@ module _ (limits : Limits) (n : Netlist) (fits : Each (FitsCell limits) n.cells)
       let r = reserved-is n m reserved in
       omega (arith, ap length r.signals, mapping-count r.mapping)
 
-  pub model-runs : {K : Type 0} (κ : K → Tick) → (lowerNetlist n none_yet).end ≡ ok tt
-      → ((k : K) → AllHold (κ k) (evalAll (κ k).before [] (exprsOf (lowerNetlist n none_yet).events)) (stmtsOf (lowerNetlist n none_yet).events)) → Runs κ n m
+  pub model-runs : {K : Type 0} (κ : K → Tick) → (lowerNetlist shared n none_yet).end ≡ ok tt
+      → ((k : K) → AllHold (κ k) (evalAll (κ k).before [] (exprsOf (lowerNetlist shared n none_yet).events)) (stmtsOf (lowerNetlist shared n none_yet).events)) → Runs κ n m
   unfolding emitNetlist
   model-runs {K} κ q h =
       let Ω : K → Values = λ k. evalAll (κ k).before [] (exprsOf rest.events) in
       let hs : (k : K) → AllHold (κ k) (Ω k) (stmtsOf rest.events) = λ k. subst (λ (x : List Expr). AllHold (κ k) (evalAll (κ k).before [] x) (stmtsOf rest.events)) exprs-are
-      (subst (AllHold (κ k) (evalAll (κ k).before [] (exprsOf (lowerNetlist n none_yet).events))) stmts-are (h k)) in
+      (subst (AllHold (κ k) (evalAll (κ k).before [] (exprsOf (lowerNetlist shared n none_yet).events))) stmts-are (h k)) in
       let none : length (exprsOf es) ≡ 0 = ap length (reserved-is n m reserved).exprs in
       subst (λ (y : End (Unit {0})). Ends y (λ u. Runs κ n m)) (ap (λ (o : Out (Unit {0})). o.end) (sym lowering-is) ∙ q)
-      (settles-bind-at (λ z. emitCells m z 0 n.cells >>= λ u. emitBanks m z (collectFlipFlopBanks n.cells) >>= λ v. emitOutputs m 0 n.ports) {Q = λ u env'. Runs κ n m} (further none_yet es) (constants-end (further none_yet es)) (constants-settle κ Ω (λ k. []) (λ k. refl))
-      (λ env₁ kp c. after-constants κ Ω limits n m _ env₁ fits c counted (omega (arith, counted)))
+      (settles-bind-at (λ z. emitCells shared m z 0 n.cells >>= λ u. emitBanks m z (collectFlipFlopBanks n.cells) >>= λ v. emitOutputs m 0 n.ports) {Q = λ u env'. Runs κ n m} (further none_yet es) (constants-end (further none_yet es)) (constants-settle κ Ω (λ k. []) (λ k. refl))
+      (λ env₁ kp c. after-constants κ Ω limits shared n m _ env₁ fits (reads-owned limits n fits m (reserved-is n m reserved).mapping) c counted (omega (arith, counted)))
       (λ k. omega (arith, none)) (λ k e v i. i) hs)

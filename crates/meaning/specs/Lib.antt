@@ -4,3 +4,4 @@ pub mod Settles
 pub mod Writes
 pub mod Mapped
 pub mod Runs
+pub mod Shared
