@@ -31,24 +31,24 @@ read_fits limits words n e = subst (ReadAnswer limits (length words)) e (answer 
 
 -- THE STEPS
 
-reserve-no : (n : Netlist) {x y : ℕ} → (reserveNetlist n none_yet).end ≡ no x y → (lowerNetlist n none_yet).end ≡ no x y
+reserve-no : (shared : ℕ) (n : Netlist) {x y : ℕ} → (reserveNetlist n none_yet).end ≡ no x y → (lowerNetlist shared n none_yet).end ≡ no x y
 unfolding lowerNetlist
-reserve-no n q = ap (λ (o : Out (Unit {0})). o.end) (bind-no (reserveNetlist n) (emitNetlist n) none_yet q)
+reserve-no shared n q = ap (λ (o : Out (Unit {0})). o.end) (bind-no (reserveNetlist n) (emitNetlist shared n) none_yet q)
 
-reserve-ok : (n : Netlist) → (lowerNetlist n none_yet).end ≡ ok tt → (m : Wires) × ((reserveNetlist n none_yet).end ≡ ok m)
-reserve-ok n e = go (reserveNetlist n none_yet).end refl
+reserve-ok : (shared : ℕ) (n : Netlist) → (lowerNetlist shared n none_yet).end ≡ ok tt → (m : Wires) × ((reserveNetlist n none_yet).end ≡ ok m)
+reserve-ok shared n e = go (reserveNetlist n none_yet).end refl
   where
     go : (y : End Wires) → (reserveNetlist n none_yet).end ≡ y → (m : Wires) × ((reserveNetlist n none_yet).end ≡ ok m)
     go (ok m) q = (m, q)
-    go (no x y) q = let p : ok tt ≡ no x y = sym e ∙ reserve-no n q in absurd (let z : ◌≡◌ {A = ℕ} 0 1 = cc in omega arith)
+    go (no x y) q = let p : ok tt ≡ no x y = sym e ∙ reserve-no shared n q in absurd (let z : ◌≡◌ {A = ℕ} 0 1 = cc in omega arith)
 
 -- THE VERDICT
 
 -- what an accepting end says
-pub record Kept (n : Netlist) (s e t : ℕ) (tapes : Tapes) (l : Lists) : Type 0 where
-  pub ended-well : (lowerNetlist n none_yet).end ≡ ok tt
-  pub no-conflict : overdrivenFrom 0 (loweredModel n).signals (loweredModel n).stmts ≡ none
-  pub played : play (blank s e t) start (lowerNetlist n none_yet).events ≡ going l tapes
+pub record Kept (shared : ℕ) (n : Netlist) (s e t : ℕ) (tapes : Tapes) (l : Lists) : Type 0 where
+  pub ended-well : (lowerNetlist shared n none_yet).end ≡ ok tt
+  pub no-conflict : overdrivenFrom 0 (loweredModel shared n).signals (loweredModel shared n).stmts ≡ none
+  pub played : play (blank s e t) start (lowerNetlist shared n none_yet).events ≡ going l tapes
 
 accepted-is : {tapes tapes' : Tapes} {l l' : Lists} → ◌≡◌ {A = Lowering} (record { answer = Accepted tapes'; lists = l' }) (record { answer = Accepted tapes; lists = l }) → (tapes' ≡ tapes) × (l' ≡ l)
 accepted-is {tapes} {tapes'} {l} {l'} q =
@@ -58,12 +58,12 @@ accepted-is {tapes} {tapes'} {l} {l'} q =
 refused-not : {tapes : Tapes} {l l' : Lists} {x y : ℕ} → ◌≡◌ {A = Lowering} (record { answer = Refused x y; lists = l' }) (record { answer = Accepted tapes; lists = l }) → ⊥
 refused-not {tapes} {x = x} {y} q = let p : Refused x y ≡ Accepted tapes = ap (λ (z : Lowering). z.answer) q in let z : ◌≡◌ {A = ℕ} 0 1 = cc in omega arith
 
-pub accepted-kept : (n : Netlist) (s e t : ℕ) (tapes : Tapes) (l : Lists) → lowered n s e t ≡ record { answer = Accepted tapes; lists = l } → Kept n s e t tapes l
+pub accepted-kept : (shared : ℕ) (n : Netlist) (s e t : ℕ) (tapes : Tapes) (l : Lists) → lowered shared n s e t ≡ record { answer = Accepted tapes; lists = l } → Kept shared n s e t tapes l
 unfolding lowered
-accepted-kept n s e t tapes l h = go (play (blank s e t) start (lowerNetlist n none_yet).events) refl (lowerNetlist n none_yet).end refl (overdrivenFrom 0 (loweredModel n).signals (loweredModel n).stmts) refl h
+accepted-kept shared n s e t tapes l h = go (play (blank s e t) start (lowerNetlist shared n none_yet).events) refl (lowerNetlist shared n none_yet).end refl (overdrivenFrom 0 (loweredModel shared n).signals (loweredModel shared n).stmts) refl h
   where
-    go : (p : Played) → play (blank s e t) start (lowerNetlist n none_yet).events ≡ p → (y : End (Unit {0})) → (lowerNetlist n none_yet).end ≡ y → (o : Option ℕ) → overdrivenFrom 0 (loweredModel n).signals (loweredModel n).stmts ≡ o
-        → ended (finish p y).answer o (finish p y).lists (blank s e t) ≡ record { answer = Accepted tapes; lists = l } → Kept n s e t tapes l
+    go : (p : Played) → play (blank s e t) start (lowerNetlist shared n none_yet).events ≡ p → (y : End (Unit {0})) → (lowerNetlist shared n none_yet).end ≡ y → (o : Option ℕ) → overdrivenFrom 0 (loweredModel shared n).signals (loweredModel shared n).stmts ≡ o
+        → ended (finish p y).answer o (finish p y).lists (blank s e t) ≡ record { answer = Accepted tapes; lists = l } → Kept shared n s e t tapes l
     go (going l' t') p (ok tt) y none o q = let r = accepted-is q in record { ended-well = y; no-conflict = o; played = p ∙ ap₂ going r.1 r.0 }
     go (going l' t') p (ok tt) y (some k) o q = absurd (refused-not q)
     go (going l' t') p (no i j) y k o q = absurd (refused-not q)
@@ -74,15 +74,15 @@ accepted-kept n s e t tapes l h = go (play (blank s e t) start (lowerNetlist n n
 held-words : (k : ℕ) (ws : List ℕ) → take (length ws) (holding k ws) ≡ ws
 held-words k ws = take_at ws (replicate (k - length ws) 0) (length ws) refl
 
-pub used-words : (n : Netlist) (s e t : ℕ) (tapes : Tapes) (l : Lists) → Kept n s e t tapes l → usedLists l tapes ≡ words_of (loweredModel n)
-used-words n s e t tapes l h =
-    let M : Model = loweredModel n in
-    let g = going-fit s e t (lowerNetlist n none_yet).events h.played in
+pub used-words : (shared : ℕ) (n : Netlist) (s e t : ℕ) (tapes : Tapes) (l : Lists) → Kept shared n s e t tapes l → usedLists l tapes ≡ words_of (loweredModel shared n)
+used-words shared n s e t tapes l h =
+    let M : Model = loweredModel shared n in
+    let g = going-fit s e t (lowerNetlist shared n none_yet).events h.played in
     ap₂ usedLists g.1 g.2
-    ∙ (λ i. lists (held-words s (words_of (loweredModel n)).signals i) (held-words e (words_of (loweredModel n)).exprs i) (held-words t (words_of (loweredModel n)).stmts i))
+    ∙ (λ i. lists (held-words s (words_of (loweredModel shared n)).signals i) (held-words e (words_of (loweredModel shared n)).exprs i) (held-words t (words_of (loweredModel shared n)).stmts i))
 
 -- the netlist is lowered
-pub is-lowered : (limits : Limits) (n : Netlist) (s e t : ℕ) (tapes : Tapes) (l : Lists) → Fits limits n → Kept n s e t tapes l → Lowered limits n
-is-lowered limits n s e t tapes l f h =
-    let r = reserve-ok n h.ended-well in
+pub is-lowered : (shared : ℕ) (limits : Limits) (n : Netlist) (s e t : ℕ) (tapes : Tapes) (l : Lists) → Fits limits n → Kept shared n s e t tapes l → Lowered shared limits n
+is-lowered shared limits n s e t tapes l f h =
+    let r = reserve-ok shared n h.ended-well in
     record { fits = f; wires = r.0; reserved = r.1; ended = h.ended-well; single = h.no-conflict }

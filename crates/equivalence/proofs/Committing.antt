@@ -270,7 +270,7 @@ in-bank n c f e =
       is = at.2;
     }
 
-module _ {limits : Limits} {n : Netlist} (a : Lowered limits n) (κ : Tick) (z : Constants) (zero_is : κ.before z.zero.0 ≡ false ∷ []) (one-is : κ.before z.one.0 ≡ true ∷ []) where
+module _ {shared : ℕ} {limits : Limits} {n : Netlist} (a : Lowered shared limits n) (κ : Tick) (z : Constants) (zero_is : κ.before z.zero.0 ≡ false ∷ []) (one-is : κ.before z.one.0 ≡ true ∷ []) where
   abbrev m : Wires
   m = a.wires
 

@@ -42,7 +42,7 @@ use Rattle.forms.proofs.Counting.{noSignal, kept, slot-signals, slot-count, slot
 use Rattle.forms.proofs.Suiting.{each_from}
 use Rattle.forms.proofs.Sounds.{lowered-sound, each_append, each_same}
 use Rattle.equivalence.specs.Registers.{bits_of, read_of, secondRead, registersOf, registersAll}
-use Rattle.equivalence.specs.Demand.{tickBy, made, after, ByCells, bytes_of, shownByCells, Agrees, done, refused, AllAgree, answerTo, Answered, Fresh, Always, Demand3, AllAnswered, BehindKept}
+use Rattle.equivalence.specs.Demand.{tickBy, made, after, ByCells, bytes_of, shownByCells, Agrees, done, refused, AllAgree, answerTo, Answered, Fresh, Always, Demand3, AllAnswered, AllEnough, outputsShown, SharingShowsTheSame, BehindKept}
 use Rattle.simulation.specs.Shown.{Entry, entryCall, shownBytes, ByModel, shownByModel}
 use Rattle.equivalence.proofs.Loops.{never-looped}
 use Rattle.equivalence.proofs.Inputs.{port-bits, total-append}
@@ -150,9 +150,9 @@ words-hidden c (x ∷ xs) = each_append (λ (s : Signal). 2 ≤ s.label) (cellWo
 
 -- THE INVARIANT
 
-module _ {limits : Limits} {n : Netlist} (a : Lowered limits n) {widest : ℕ} (r : Roomy limits widest) (loopless : NoWireLoop n) where
+module _ {shared : ℕ} {limits : Limits} {n : Netlist} (a : Lowered shared limits n) {widest : ℕ} (r : Roomy limits widest) (loopless : NoWireLoop n) where
   abbrev M : Model
-  M = loweredModel n
+  M = loweredModel shared n
 
   abbrev rest : List Signal
   rest = (kept a).more ++ netlistWords n
@@ -165,7 +165,7 @@ module _ {limits : Limits} {n : Netlist} (a : Lowered limits n) {widest : ℕ} (
       let inside : length n.ports + i < length (slots n) = omega (arith, h, k, slot-count a, length-append (portSignals 0 n.ports) (kept a).more) in
       let is : get_or (slot-signals a) (length n.ports + i) noSignal ≡ get_or (kept a).more i noSignal = ap (λ (j : ℕ). get_or (portSignals 0 n.ports ++ (kept a).more) (j + i) noSignal) (sym k) ∙ get_or-append-add (portSignals 0 n.ports) (kept a).more i noSignal in
       let fits = slot-fits a (length n.ports + i) inside in
-      let two : 2 ≤ (get_or (loweredModel n).signals (length n.ports + i) noSignal).label = late (length n.ports + i) (slot-late n (length n.ports + i) (omega arith) inside) fits.label in
+      let two : 2 ≤ (get_or (loweredModel shared n).signals (length n.ports + i) noSignal).label = late (length n.ports + i) (slot-late n (length n.ports + i) (omega arith) inside) fits.label in
       omega (arith, two, ap (λ (x : Signal). x.label) (slot-signal a (length n.ports + i) inside ∙ is))
     where
       late : (s : ℕ) {l : ℕ} → Late n (get_or (slots n) s no_slot) → LabelFits (get_or (slots n) s no_slot).source l → 2 ≤ l
@@ -179,23 +179,23 @@ module _ {limits : Limits} {n : Netlist} (a : Lowered limits n) {widest : ℕ} (
   rest-hidden = inner-hidden rest rest-inner
 
   abbrev state_of : List ℕ → List Bits
-  state_of bytes = perSignal (loweredModel n).signals (map isOne bytes)
+  state_of bytes = perSignal (loweredModel shared n).signals (map isOne bytes)
 
   abbrev regs_of : List Bits → List Registers
   regs_of t = registersAll (at [] t) a.wires n.cells (runs a r).words
 
   record Good (bytes : List ℕ) (S : State) : Type 0 where
-    long : signalBytes (loweredModel n) ≤ length bytes
-    bits : BitsIn (signalBytes (loweredModel n)) bytes
+    long : signalBytes (loweredModel shared n) ≤ length bytes
+    bits : BitsIn (signalBytes (loweredModel shared n)) bytes
     regs : S.registers ≡ regs_of (state_of bytes)
-    shows : shownBytes (loweredModel n).signals bytes ≡ bytes_of S.outputs
+    shows : shownBytes (loweredModel shared n).signals bytes ≡ bytes_of S.outputs
 
   -- the start
-  at-start : (bytes : List ℕ) → Fresh (signalBytes (loweredModel n)) bytes → Good bytes (start n)
+  at-start : (bytes : List ℕ) → Fresh (signalBytes (loweredModel shared n)) bytes → Good bytes (start n)
   at-start bytes h = record {
-    long = let z = length-take (signalBytes (loweredModel n)) bytes in let y = length-replicate {A = ℕ} (signalBytes (loweredModel n)) 0 in omega (arith, ap length h, z, y);
-    bits = let k = signalBytes (loweredModel n) in subst AllBits (zeros-fresh k k (omega arith) ∙ sym h) (zero-bytes k k);
-    regs = all-initial (at [] (state_of bytes)) a.wires (all-false M.signals (map isOne bytes) (zero_bits (signalBytes (loweredModel n)) bytes h)) n.cells (runs a r).words (runs a r).laid;
+    long = let z = length-take (signalBytes (loweredModel shared n)) bytes in let y = length-replicate {A = ℕ} (signalBytes (loweredModel shared n)) 0 in omega (arith, ap length h, z, y);
+    bits = let k = signalBytes (loweredModel shared n) in subst AllBits (zeros-fresh k k (omega arith) ∙ sym h) (zero-bytes k k);
+    regs = all-initial (at [] (state_of bytes)) a.wires (all-false M.signals (map isOne bytes) (zero_bits (signalBytes (loweredModel shared n)) bytes h)) n.cells (runs a r).words (runs a r).laid;
     shows = ap (λ (ss : List Signal). shownBytes ss bytes) (all-signals a r) ∙ zeros-shown n.ports 0 rest bytes (subst (λ (ss : List Signal). Same {A = ℕ} 0 (total (λ (s : Signal). s.width) ss) bytes) (all-signals a r) h) rest-hidden;
   }
 
@@ -208,21 +208,21 @@ module _ {limits : Limits} {n : Netlist} (a : Lowered limits n) {widest : ℕ} (
 
   module _ (bytes : List ℕ) (S : State) (g : Good bytes S) (e : Entry) where
     abbrev c : Call
-    c = entryCall (words_of (loweredModel n)) bytes e
+    c = entryCall (words_of (loweredModel shared n)) bytes e
 
-    model_is : callModel (entryCall (words_of (loweredModel n)) bytes e) ≡ loweredModel n
-    model_is = model-read (loweredModel n)
+    model_is : callModel (entryCall (words_of (loweredModel shared n)) bytes e) ≡ loweredModel shared n
+    model_is = model-read (loweredModel shared n)
 
     abbrev bytes' : List ℕ
-    bytes' = (run widest (entryCall (words_of (loweredModel n)) bytes e)).bytes
+    bytes' = (run widest (entryCall (words_of (loweredModel shared n)) bytes e)).bytes
 
     -- an accepted tick
-    module _ (q : answer widest (entryCall (words_of (loweredModel n)) bytes e) ≡ none) where
+    module _ (q : answer widest (entryCall (words_of (loweredModel shared n)) bytes e) ≡ none) where
       abbrev t : List Bits
       t = state_of bytes
 
       abbrev t' : List Bits
-      t' = tickModel (loweredModel n) (map isOne e.ticks) (firing e.fired) (state_of bytes)
+      t' = tickModel (loweredModel shared n) (map isOne e.ticks) (firing e.fired) (state_of bytes)
 
       state-is : state_of bytes' ≡ t'
       state-is = subst (λ (X : Model). perSignal X.signals (map isOne bytes') ≡ tickModel X (map isOne e.ticks) (firing e.fired) (perSignal X.signals (map isOne bytes))) model_is (left_behind widest c q)
@@ -233,7 +233,7 @@ module _ {limits : Limits} {n : Netlist} (a : Lowered limits n) {widest : ℕ} (
       after-long : length t' ≡ length M.signals
       after-long = ap length (sym state-is) ∙ fits-long M.signals (state_of bytes') (fits_cut M.signals (map isOne bytes') (omega (arith, g.long, length-map bytes' isOne, length-kept widest c)))
 
-      bits-after : BitsIn (signalBytes (loweredModel n)) bytes'
+      bits-after : BitsIn (signalBytes (loweredModel shared n)) bytes'
       bits-after = subst (λ (X : Model). AllBits (take (signalBytes X) bytes')) model_is (bytes-are-bits widest c q)
 
       regs-after : (tick n S (tickBy e)).registers ≡ regs_of (state_of bytes')
@@ -256,40 +256,40 @@ module _ {limits : Limits} {n : Netlist} (a : Lowered limits n) {widest : ℕ} (
       good-after = record { long = omega (arith, g.long, length-kept widest c); bits = bits-after; regs = regs-after; shows = shows-after }
 
     -- how the call ends
-    answered : answer widest c ≡ answerTo (loweredModel n) e
+    answered : answer widest c ≡ answerTo (loweredModel shared n) e
     unfolding answer
     answered =
-        ap (verdict (callModel c) c) (sound-words (loweredModel n) widest (lowered-sound a r))
+        ap (verdict (callModel c) c) (sound-words (loweredModel shared n) widest (lowered-sound a r))
         ∙ ap (λ (X : Model). refusal X c) model_is
-        ∙ refusal_is (loweredModel n) (words_of (loweredModel n)) bytes e g.long (bits-pass 0 (take (signalBytes (loweredModel n)) bytes) g.bits) (never-looped a r loopless)
+        ∙ refusal_is (loweredModel shared n) (words_of (loweredModel shared n)) bytes e g.long (bits-pass 0 (take (signalBytes (loweredModel shared n)) bytes) g.bits) (never-looped a r loopless)
 
-    said : (run widest c).answer ≡ answerTo (loweredModel n) e
+    said : (run widest c).answer ≡ answerTo (loweredModel shared n) e
     unfolding run
     said = answered
 
-    tested : Tested (answer widest c) (made n e)
-    tested = subst (λ (o : Option (ℕ × ℕ)). Tested o (made n e)) (sym answered) (answer-tested n (loweredModel n) e tick-bits (signals-count a))
+    tested : Tested (answer widest c) (made shared n e)
+    tested = subst (λ (o : Option (ℕ × ℕ)). Tested o (made shared n e)) (sym answered) (answer-tested n (loweredModel shared n) e tick-bits (signals-count a))
       where
-        tick-bits : inputBits (loweredModel n) ≡ portBits n.ports
+        tick-bits : inputBits (loweredModel shared n) ≡ portBits n.ports
         tick-bits = ap (total inputWidth) (all-signals a r) ∙ total-append inputWidth (portSignals 0 n.ports) rest ∙ omega (arith, port-bits 0 n.ports, hidden-inputs rest rest-inner)
 
-    stepped : (o : Option (ℕ × ℕ)) (b : Bool) → Tested o b → answer widest c ≡ o → made n e ≡ b
-        → Agrees (record { answer = (run widest c).answer; outputs = shownBytes M.signals bytes' }) (record { made = made n e; outputs = bytes_of (after n S e).outputs }) × Good bytes' (after n S e)
+    stepped : (o : Option (ℕ × ℕ)) (b : Bool) → Tested o b → answer widest c ≡ o → made shared n e ≡ b
+        → Agrees (record { answer = (run widest c).answer; outputs = shownBytes M.signals bytes' }) (record { made = made shared n e; outputs = bytes_of (after shared n S e).outputs }) × Good bytes' (after shared n S e)
     unfolding run
     stepped none false x q p = elim x [ ]
     stepped (some x) true y q p = elim y [ ]
     stepped none true passes q p =
-        let s : after n S e ≡ tick n S (tickBy e) = ap (λ (x : Bool). pick x (tick n S (tickBy e)) S) p in
+        let s : after shared n S e ≡ tick n S (tickBy e) = ap (λ (x : Bool). pick x (tick n S (tickBy e)) S) p in
         let k = good-after q in (
-          subst (λ (x : ByModel). Agrees x (record { made = made n e; outputs = bytes_of (after n S e).outputs })) (λ i. record { answer = sym q i; outputs = (sym k.shows ∙ refl) i })
+          subst (λ (x : ByModel). Agrees x (record { made = made shared n e; outputs = bytes_of (after shared n S e).outputs })) (λ i. record { answer = sym q i; outputs = (sym k.shows ∙ refl) i })
               (subst (λ (x : ByCells). Agrees (record { answer = none; outputs = bytes_of (tick n S (tickBy e)).outputs }) x) (λ i. record { made = sym p i; outputs = bytes_of (sym s i).outputs }) (done (bytes_of (tick n S (tickBy e)).outputs))),
           subst (Good bytes') (sym s) k,
         )
     stepped (some x) false (fails number place why) q p =
-        let s : after n S e ≡ S = ap (λ (y : Bool). pick y (tick n S (tickBy e)) S) p in
+        let s : after shared n S e ≡ S = ap (λ (y : Bool). pick y (tick n S (tickBy e)) S) p in
         let same : bytes' ≡ bytes = refused-keeps widest c (number, place) q in
         let k : Good bytes' S = subst (λ (l : List ℕ). Good l S) (sym same) g in (
-          subst (λ (y : ByModel). Agrees y (record { made = made n e; outputs = bytes_of (after n S e).outputs })) (λ i. record { answer = sym q i; outputs = sym k.shows i })
+          subst (λ (y : ByModel). Agrees y (record { made = made shared n e; outputs = bytes_of (after shared n S e).outputs })) (λ i. record { answer = sym q i; outputs = sym k.shows i })
               (subst (λ (y : ByCells). Agrees (record { answer = some (number, place); outputs = bytes_of S.outputs }) y) (λ i. record { made = sym p i; outputs = bytes_of (sym s i).outputs }) (refused number place (bytes_of S.outputs) why)),
           subst (Good bytes') (sym s) k,
         )
@@ -297,30 +297,56 @@ module _ {limits : Limits} {n : Netlist} (a : Lowered limits n) {widest : ℕ} (
   -- every call answers as said, and shows what the cells show
   abbrev Follow : List Entry → List ℕ → State → Type 0
   Follow es bytes S =
-      let ms = shownByModel widest (words_of (loweredModel n)) (loweredModel n).signals bytes es in
-      AllAgree ms (shownByCells n S es) × Answered (loweredModel n) es ms
+      let ms = shownByModel widest (words_of (loweredModel shared n)) (loweredModel shared n).signals bytes es in
+      AllAgree ms (shownByCells shared n S es) × Answered (loweredModel shared n) es ms
 
   all-follow : (es : List Entry) (bytes : List ℕ) (S : State) → Good bytes S → Follow es bytes S
   all-follow [] bytes S g = (tt, refl)
   all-follow (e ∷ es) bytes S g =
-      let k = stepped bytes S g e (answer widest (entryCall (words_of (loweredModel n)) bytes e)) (made n e) (tested bytes S g e) refl refl in
-      let f = all-follow es (run widest (entryCall (words_of (loweredModel n)) bytes e)).bytes (after n S e) k.1 in
+      let k = stepped bytes S g e (answer widest (entryCall (words_of (loweredModel shared n)) bytes e)) (made shared n e) (tested bytes S g e) refl refl in
+      let f = all-follow es (run widest (entryCall (words_of (loweredModel shared n)) bytes e)).bytes (after shared n S e) k.1 in
       ((k.0, f.0), ap₂ (λ (o : Option (ℕ × ℕ)) (os : List (Option (ℕ × ℕ))). o ∷ os) (said bytes S g e) f.1)
 
-both : Always (λ (n : Netlist) (es : List Entry) (ms : List ByModel). AllAgree ms (shownByCells n (start n) es) × Answered (loweredModel n) es ms)
-both limits widest room words s e t tapes l h n q loopless bytes fresh entries =
-    let low : lowered n s e t ≡ record { answer = Accepted tapes; lists = l } = ap (λ (x : Rattle.netlist.specs.Reader.Read). loweredRead x s e t) (sym q) ∙ h in
-    let k = accepted-kept n s e t tapes l low in
-    let a = is-lowered limits n s e t tapes l (read_fits limits words n q) k in
-    subst (λ (x : Lists). let ms = shownByModel widest x (loweredModel n).signals bytes entries in AllAgree ms (shownByCells n (start n) entries) × Answered (loweredModel n) entries ms) (sym (used-words n s e t tapes l k))
+both : Always (λ (shared : ℕ) (n : Netlist) (es : List Entry) (ms : List ByModel). AllAgree ms (shownByCells shared n (start n) es) × Answered (loweredModel shared n) es ms)
+both shared limits widest room words s e t tapes l h n q loopless bytes fresh entries =
+    let low : lowered shared n s e t ≡ record { answer = Accepted tapes; lists = l } = ap (λ (x : Rattle.netlist.specs.Reader.Read). loweredRead shared x s e t) (sym q) ∙ h in
+    let k = accepted-kept shared n s e t tapes l low in
+    let a = is-lowered shared limits n s e t tapes l (read_fits limits words n q) k in
+    subst (λ (x : Lists). let ms = shownByModel widest x (loweredModel shared n).signals bytes entries in AllAgree ms (shownByCells shared n (start n) entries) × Answered (loweredModel shared n) entries ms) (sym (used-words shared n s e t tapes l k))
     (all-follow a room loopless entries bytes (start n) (at-start a room loopless bytes fresh))
 
 -- the statements
 pub demand3 : Demand3
-demand3 limits widest room words s e t tapes l h n q loopless bytes fresh entries = (both limits widest room words s e t tapes l h n q loopless bytes fresh entries).0
+demand3 shared limits widest room words s e t tapes l h n q loopless bytes fresh entries = (both shared limits widest room words s e t tapes l h n q loopless bytes fresh entries).0
 
 pub all-answered : AllAnswered
-all-answered limits widest room words s e t tapes l h n q loopless bytes fresh entries = (both limits widest room words s e t tapes l h n q loopless bytes fresh entries).1
+all-answered shared limits widest room words s e t tapes l h n q loopless bytes fresh entries = (both shared limits widest room words s e t tapes l h n q loopless bytes fresh entries).1
+
+-- SHARED OR NOT: both models show what the cells show, and the cells share nothing
+
+outputs-agree : (ms : List ByModel) (cs : List ByCells) → AllAgree ms cs → outputsShown ms ≡ map (λ (c : ByCells). c.outputs) cs
+outputs-agree [] [] h = refl
+outputs-agree [] (c ∷ cs) h = absurd h
+outputs-agree (m ∷ ms) [] h = absurd h
+outputs-agree (m ∷ ms) (c ∷ cs) h = ap₂ (λ (o : List (List ℕ)) (os : List (List (List ℕ))). o ∷ os) (one m c h.0) (outputs-agree ms cs h.1)
+  where
+    one : (m : ByModel) (c : ByCells) → Agrees m c → m.outputs ≡ c.outputs
+    one m c (done o) = refl
+    one m c (refused number place o why) = refl
+
+same-cells : (a b : ℕ) (n : Netlist) (S : State) (es : List Entry) → AllEnough (loweredModel a n) es → AllEnough (loweredModel b n) es → shownByCells a n S es ≡ shownByCells b n S es
+same-cells a b n S [] h g = refl
+same-cells a b n S (e ∷ es) h g =
+    let p : made a n e ≡ made b n e = ap (λ (x : Bool). x && accepts n (tickBy e)) (h.0 ∙ sym g.0) in
+    let s : after a n S e ≡ after b n S e = ap (λ (x : Bool). pick x (tick n S (tickBy e)) S) p in
+    ap₂ (λ (c : ByCells) (cs : List ByCells). c ∷ cs) (λ i. record { made = p i; outputs = bytes_of (s i).outputs })
+    (same-cells a b n (after a n S e) es h.1 g.1 ∙ ap (λ (x : State). shownByCells b n x es) s)
+
+pub sharing-shows-the-same : SharingShowsTheSame
+sharing-shows-the-same a b limits widest room words s e t tapes l h s' e' t' tapes' l' h' n q loopless bytes bytes' fresh fresh' entries k k' =
+    outputs-agree _ _ (demand3 a limits widest room words s e t tapes l h n q loopless bytes fresh entries)
+    ∙ ap (map (λ (c : ByCells). c.outputs)) (same-cells a b n (start n) entries k k')
+    ∙ sym (outputs-agree _ _ (demand3 b limits widest room words s' e' t' tapes' l' h' n q loopless bytes' fresh' entries))
 
 -- THE BYTES BEHIND
 

@@ -59,7 +59,7 @@ does_at κ m z (x ∷ xs) (w ∷ ws) (suc c) h l = does_at κ m z xs ws c h.1 (o
 pub record InputsHold (n : Netlist) (σ : Signals) (bits : Bits) : Type 0 where
   pub input-is : (s k : ℕ) → s < length n.ports → (get_or (slots n) s no_slot).source ≡ inputs k → σ s ≡ take (length (get_or (slots n) s no_slot).bits) (drop k bits)
 
-module _ {limits : Limits} {n : Netlist} (a : Lowered limits n) {K : Type 0} (κ : K → Tick) (runs : Runs κ n a.wires) (k : K) where
+module _ {shared : ℕ} {limits : Limits} {n : Netlist} (a : Lowered shared limits n) {K : Type 0} (κ : K → Tick) (runs : Runs κ n a.wires) (k : K) where
   abbrev m : Wires
   m = a.wires
 

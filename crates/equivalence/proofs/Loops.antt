@@ -43,9 +43,9 @@ given-assign (t ∷ ts) s e h = go t (eqb (target t) s) refl (given-assign ts s 
         here (sym (ap (λ (i : ℕ). assign i v) x ∙ ap (λ (i : ℕ). assign s i) y))
     go (reg u a c d r x) true q f k = there (f k)
 
-module _ {limits : Limits} {n : Netlist} (a : Lowered limits n) {widest : ℕ} (r : Roomy limits widest) where
+module _ {shared : ℕ} {limits : Limits} {n : Netlist} (a : Lowered shared limits n) {widest : ℕ} (r : Roomy limits widest) where
   abbrev M : Model
-  M = loweredModel n
+  M = loweredModel shared n
 
   abbrev E : ℕ → ℕ → Type 0
   E = Reads (depends M)

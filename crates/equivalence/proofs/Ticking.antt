@@ -57,26 +57,26 @@ eqb_same x y = go (ℕ_discrete x y)
     go (yes e) = eq-eqb x y e ∙ sym (eq-eqb y x (sym e))
     go (no e) = ne_eqb x y e ∙ sym (ne_eqb y x (λ q. e (sym q)))
 
-module _ {limits : Limits} {n : Netlist} (a : Lowered limits n) {widest : ℕ} (r : Roomy limits widest) where
+module _ {shared : ℕ} {limits : Limits} {n : Netlist} (a : Lowered shared limits n) {widest : ℕ} (r : Roomy limits widest) where
   abbrev M : Model
-  M = loweredModel n
+  M = loweredModel shared n
 
   abbrev m : Wires
   m = a.wires
 
-  sound : Sound widest (loweredModel n)
+  sound : Sound widest (loweredModel shared n)
   sound = lowered-sound a r
 
-  abbrev κ : Settling (loweredModel n) → Tick
-  κ = tickOf (loweredModel n)
+  abbrev κ : Settling (loweredModel shared n) → Tick
+  κ = tickOf (loweredModel shared n)
 
   -- what lowering decided, and what every settled state does
-  pub runs : Runs (tickOf (loweredModel n)) n a.wires
-  runs = model-runs limits n a.fits.cells a.wires a.reserved (tickOf (loweredModel n)) a.ended (λ k. all_hold sound k)
+  pub runs : Runs (tickOf (loweredModel shared n)) n a.wires
+  runs = model-runs shared limits n a.fits.cells a.wires a.reserved (tickOf (loweredModel shared n)) a.ended (λ k. all_hold sound k)
 
   -- REGISTERS STAND ON REGISTER SIGNALS
 
-  module _ (k : Settling (loweredModel n)) (τ ρ : Signals) (alike : (s : ℕ) → RegOn (tickOf (loweredModel n) k) s → τ s ≡ ρ s) where
+  module _ (k : Settling (loweredModel shared n)) (τ ρ : Signals) (alike : (s : ℕ) → RegOn (tickOf (loweredModel shared n) k) s → τ s ≡ ρ s) where
     words-alike : (width aw : ℕ) (x : PortValue) (y : Option PortValue) (clock edge i : ℕ) (ws : List ℕ) → Updated (κ k) width aw x y clock edge i ws → map (bits_of τ width) ws ≡ map (bits_of ρ width) ws
     words-alike width aw x y clock edge i [] h = refl
     words-alike width aw x y clock edge i (w ∷ ws) h =
@@ -133,7 +133,7 @@ module _ {limits : Limits} {n : Netlist} (a : Lowered limits n) {widest : ℕ} (
 
   -- CLOCKS
 
-  clock-fires : (k : Settling (loweredModel n)) (f : Option (ℕ × ℕ)) → k.fires ≡ firing f → Fires a (κ k) runs.constants (runs.zero_is k) (runs.one-is k) (onFired (slots n) (firedBy f))
+  clock-fires : (k : Settling (loweredModel shared n)) (f : Option (ℕ × ℕ)) → k.fires ≡ firing f → Fires a (κ k) runs.constants (runs.zero_is k) (runs.one-is k) (onFired (slots n) (firedBy f))
   clock-fires k f e b s h d = ap (λ (g : Firing). g s d) e ∙ go f
     where
       clock-is : (b : Bit) → IsSignal m runs.constants b s → clockSignal (slots n) b ≡ some s
@@ -147,7 +147,7 @@ module _ {limits : Limits} {n : Netlist} (a : Lowered limits n) {widest : ℕ} (
 
   -- INPUTS
 
-  pub all-signals : (loweredModel n).signals ≡ portSignals 0 n.ports ++ ((kept a).more ++ netlistWords n)
+  pub all-signals : (loweredModel shared n).signals ≡ portSignals 0 n.ports ++ ((kept a).more ++ netlistWords n)
   unfolding slot-signals
   all-signals = signals-are a ∙ append_assoc (portSignals 0 n.ports) (kept a).more (netlistWords n)
 
@@ -161,18 +161,18 @@ module _ {limits : Limits} {n : Netlist} (a : Lowered limits n) {widest : ℕ} (
   }
 
   -- an input has no statement
-  input-free : (s k : ℕ) → s < length n.ports → (get_or (slots n) s no_slot).source ≡ inputs k → (s < length M.signals) × (drivers (loweredModel n) s ≡ 0)
+  input-free : (s k : ℕ) → s < length n.ports → (get_or (slots n) s no_slot).source ≡ inputs k → (s < length M.signals) × (drivers (loweredModel shared n) s ≡ 0)
   input-free s k h e =
       let i : s < length (slots n) = omega (arith, h, ports-within n) in
       let j : s < length M.signals = omega (arith, i, slots-within a) in
       let f : (get_or M.signals s noSignal).label ≡ 0 = subst (λ (x : Source). LabelFits x (get_or M.signals s noSignal).label) e (slot-fits a s i).label in
       (j, drivers-are a r s j ∙ ap {B = ℕ} (λ (b : Bool). pick b 0 1) (eq-eqb (get_or M.signals s noSignal).label 0 f))
 
-  inputs-move : (σ τ : Signals) (bs : Bits) → ((s : ℕ) → s < length M.signals → drivers (loweredModel n) s ≡ 0 → τ s ≡ σ s) → InputsHold n σ bs → InputsHold n τ bs
+  inputs-move : (σ τ : Signals) (bs : Bits) → ((s : ℕ) → s < length M.signals → drivers (loweredModel shared n) s ≡ 0 → τ s ≡ σ s) → InputsHold n σ bs → InputsHold n τ bs
   inputs-move σ τ bs f h = record { input-is = λ s k l e. let q = input-free s k l e in f s q.0 q.1 ∙ h.input-is s k l e }
 
   -- a register is no input
-  register-kept : (k : Settling (loweredModel n)) (bs : Bits) (t : List Bits) → length t ≡ length M.signals → (s : ℕ) → RegOn (κ k) s → at [] (setInputs M.signals bs t) s ≡ at [] t s
+  register-kept : (k : Settling (loweredModel shared n)) (bs : Bits) (t : List Bits) → length t ≡ length M.signals → (s : ℕ) → RegOn (κ k) s → at [] (setInputs M.signals bs t) s ≡ at [] t s
   register-kept k bs t l s h =
       let q = register-free sound h.statement s h.one_of h.register in
       not-input-kept M.signals bs t s l q.1 (no_label (eqb (get_or M.signals s noSignal).label 0) refl (omega (arith, q.2, drivers-are a r s q.1)))
@@ -183,18 +183,18 @@ module _ {limits : Limits} {n : Netlist} (a : Lowered limits n) {widest : ℕ} (
 
   -- ONE TICK
 
-  module _ (loopless : NoWireLoop n) (bs : Bits) (f : Option (ℕ × ℕ)) (t : List Bits) (long : length t ≡ length (loweredModel n).signals) where
+  module _ (loopless : NoWireLoop n) (bs : Bits) (f : Option (ℕ × ℕ)) (t : List Bits) (long : length t ≡ length (loweredModel shared n).signals) where
     abbrev t₁ : List Bits
-    t₁ = setInputs (loweredModel n).signals bs t
+    t₁ = setInputs (loweredModel shared n).signals bs t
 
-    abbrev k₂ : Settling (loweredModel n)
-    k₂ = record { old = setInputs (loweredModel n).signals bs t; state = settleModel (loweredModel n) (setInputs (loweredModel n).signals bs t); settled = settle-settled (loweredModel n) (setInputs (loweredModel n).signals bs t) (deps-under a r loopless) (no-loops a r loopless); fires = firing f }
+    abbrev k₂ : Settling (loweredModel shared n)
+    k₂ = record { old = setInputs (loweredModel shared n).signals bs t; state = settleModel (loweredModel shared n) (setInputs (loweredModel shared n).signals bs t); settled = settle-settled (loweredModel shared n) (setInputs (loweredModel shared n).signals bs t) (deps-under a r loopless) (no-loops a r loopless); fires = firing f }
 
     abbrev t₃ : List Bits
-    t₃ = commitModel (loweredModel n) (firing f) (settleModel (loweredModel n) (setInputs (loweredModel n).signals bs t))
+    t₃ = commitModel (loweredModel shared n) (firing f) (settleModel (loweredModel shared n) (setInputs (loweredModel shared n).signals bs t))
 
-    abbrev k₄ : Settling (loweredModel n)
-    k₄ = record { old = commitModel (loweredModel n) (firing f) (settleModel (loweredModel n) (setInputs (loweredModel n).signals bs t)); state = settleModel (loweredModel n) (commitModel (loweredModel n) (firing f) (settleModel (loweredModel n) (setInputs (loweredModel n).signals bs t))); settled = settle-settled (loweredModel n) (commitModel (loweredModel n) (firing f) (settleModel (loweredModel n) (setInputs (loweredModel n).signals bs t))) (deps-under a r loopless) (no-loops a r loopless); fires = λ c d. false }
+    abbrev k₄ : Settling (loweredModel shared n)
+    k₄ = record { old = commitModel (loweredModel shared n) (firing f) (settleModel (loweredModel shared n) (setInputs (loweredModel shared n).signals bs t)); state = settleModel (loweredModel shared n) (commitModel (loweredModel shared n) (firing f) (settleModel (loweredModel shared n) (setInputs (loweredModel shared n).signals bs t))); settled = settle-settled (loweredModel shared n) (commitModel (loweredModel shared n) (firing f) (settleModel (loweredModel shared n) (setInputs (loweredModel shared n).signals bs t))) (deps-under a r loopless) (no-loops a r loopless); fires = λ c d. false }
 
     abbrev regs_of : Signals → List Registers
     regs_of σ = registersAll σ a.wires n.cells runs.words
@@ -203,10 +203,10 @@ module _ {limits : Limits} {n : Netlist} (a : Lowered limits n) {widest : ℕ} (
     v₂ = held (at [] k₂.state) a.wires
 
     -- an unassigned signal keeps its bits in settling
-    free-kept : (k : Settling (loweredModel n)) (s : ℕ) → s < length M.signals → drivers (loweredModel n) s ≡ 0 → at [] k.state s ≡ at [] k.old s
+    free-kept : (k : Settling (loweredModel shared n)) (s : ℕ) → s < length M.signals → drivers (loweredModel shared n) s ≡ 0 → at [] k.state s ≡ at [] k.old s
     free-kept k s h e = settle-keeps sound k s h (given-none assigns M.stmts s e)
 
-    reg-kept : (k : Settling (loweredModel n)) (s : ℕ) → RegOn (κ k) s → at [] k.state s ≡ at [] k.old s
+    reg-kept : (k : Settling (loweredModel shared n)) (s : ℕ) → RegOn (κ k) s → at [] k.state s ≡ at [] k.old s
     reg-kept k s h = let q = register-free sound h.statement s h.one_of h.register in settle-keeps sound k s q.1 q.0
 
     before-is : regs_of (at [] k₂.state) ≡ regs_of (at [] t)
@@ -225,7 +225,7 @@ module _ {limits : Limits} {n : Netlist} (a : Lowered limits n) {widest : ℕ} (
     settled₂ = fun_ext (wires-settled a κ runs k₂ bs in₂ loopless) ∙ ap (settle (slots n) n.cells bs) before-is
 
     -- the registers after the tick
-    pub registers-after : regs_of (at [] (tick (loweredModel n) bs (firing f) t)) ≡ commit (onFired (slots n) (firedBy f)) (settle (slots n) n.cells bs (regs_of (at [] t))) n.cells (regs_of (at [] t))
+    pub registers-after : regs_of (at [] (tick (loweredModel shared n) bs (firing f) t)) ≡ commit (onFired (slots n) (firedBy f)) (settle (slots n) n.cells bs (regs_of (at [] t))) n.cells (regs_of (at [] t))
     unfolding tick
     registers-after =
         after_is
@@ -233,10 +233,10 @@ module _ {limits : Limits} {n : Netlist} (a : Lowered limits n) {widest : ℕ} (
         ∙ ap₂ (λ (v : Valuation) (l : List Registers). commit (onFired (slots n) (firedBy f)) v n.cells l) settled₂ before-is
 
     -- the wires after the tick
-    pub wires-after : held (at [] (tick (loweredModel n) bs (firing f) t)) a.wires ≡ settle (slots n) n.cells bs (regs_of (at [] (tick (loweredModel n) bs (firing f) t)))
+    pub wires-after : held (at [] (tick (loweredModel shared n) bs (firing f) t)) a.wires ≡ settle (slots n) n.cells bs (regs_of (at [] (tick (loweredModel shared n) bs (firing f) t)))
     unfolding tick
     wires-after = fun_ext (wires-settled a κ runs k₄ bs in₄ loopless)
 
-    pub ports-after : Shown (at [] (tick (loweredModel n) bs (firing f) t)) a.wires 0 n.ports
+    pub ports-after : Shown (at [] (tick (loweredModel shared n) bs (firing f) t)) a.wires 0 n.ports
     unfolding tick
     ports-after = runs.outputs-show k₄

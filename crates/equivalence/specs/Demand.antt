@@ -51,7 +51,7 @@ bytes_of outputs = map (λ (bits : Bits). map digit bits) outputs
 
 abbrev pub shownByCells : ℕ → Netlist → State → List Entry → List ByCells
 shownByCells shared n s [] = []
-shownByCells shared n s (e ∷ es) = record { made = made shared n e; outputs = bytesOf (after shared n s e).outputs } ∷ shownByCells shared n (after shared n s e) es
+shownByCells shared n s (e ∷ es) = record { made = made shared n e; outputs = bytes_of (after shared n s e).outputs } ∷ shownByCells shared n (after shared n s e) es
 
 -- THE SAME: the outputs, and the ticks that are made; a refusal is 1 or 14
 
