@@ -59,34 +59,34 @@ module _ (x : Simulation) (n : Netlist) (q : readWords base x.words ≡ netlist 
 
   -- lowered, and the list accepted
   shows : (t : Tapes) (l : Lists) → lowerWords base x.words s e m ≡ record { answer = Accepted t; lists = l } → listAnswer largest (ticksOn x l t) ≡ none
-      → ShowsCells n x (runList largest (ticksOn x l t)).answers (runList largest (ticksOn x l t)).shown
+      → ShowsCells base.wires n x (runList largest (ticksOn x l t)).answers (runList largest (ticksOn x l t)).shown
   unfolding runList
   shows t l h a = record {
-    ticks = shownByModel largest (usedLists l t) (loweredModel n).signals (zeroed x.bytes) (entriesOf n x);
-    agree = demand3 base largest room x.words s e m t l h n q loopless (zeroed x.bytes) fresh (entriesOf n x);
-    answered = all-answered base largest room x.words s e m t l h n q loopless (zeroed x.bytes) fresh (entriesOf n x);
+    ticks = shownByModel largest (usedLists l t) (loweredModel base.wires n).signals (zeroed x.bytes) (entriesOf base.wires n x);
+    agree = demand3 base.wires base largest room x.words s e m t l h n q loopless (zeroed x.bytes) fresh (entriesOf base.wires n x);
+    answered = all-answered base.wires base largest room x.words s e m t l h n q loopless (zeroed x.bytes) fresh (entriesOf base.wires n x);
     answers-are = ap (λ (o : Option (ℕ × ℕ)). (listOutcome largest (ticksOn x l t) o).answers) a ∙ ap (λ (M : Model). filled x.answers (answersOf (ticksBy M))) model_is;
     shown-are = ap (λ (o : Option (ℕ × ℕ)). (listOutcome largest (ticksOn x l t) o).shown) a ∙ ap (λ (M : Model). filled x.shown (outputsOf (ticksBy M))) model_is;
   }
     where
-      low : lowered n s e m ≡ record { answer = Accepted t; lists = l }
-      low = ap (λ (r : Read). loweredRead r s e m) (sym q) ∙ h
+      low : lowered base.wires n s e m ≡ record { answer = Accepted t; lists = l }
+      low = ap (λ (r : Read). loweredRead base.wires r s e m) (sym q) ∙ h
 
-      model_is : listModel (ticksOn x l t) ≡ loweredModel n
-      model_is = ap (λ (w : Lists). modelOf (rawOf w)) (used-words n s e m t l (accepted-kept n s e m t l low)) ∙ model-read (loweredModel n)
+      model_is : listModel (ticksOn x l t) ≡ loweredModel base.wires n
+      model_is = ap (λ (w : Lists). modelOf (rawOf w)) (used-words base.wires n s e m t l (accepted-kept base.wires n s e m t l low)) ∙ model-read (loweredModel base.wires n)
 
       -- a model's signals and inputs are what the ticks are read and shown by
       ticksBy : Model → List ByModel
       ticksBy M = shownByModel largest (usedLists l t) M.signals (zeroed x.bytes) (entries (tickBits M) x.workBits x.workExprs x.workSignals x.heads x.bits)
 
-      long : signalBytes (loweredModel n) ≤ length x.bytes
+      long : signalBytes (loweredModel base.wires n) ≤ length x.bytes
       long = let b = bytes-long (ticksOn x l t) a in let k = ap signalBytes model_is in let z = length-replicate {A = ℕ} (length x.bytes) 0 in omega (arith, b, k, z)
 
-      fresh : Fresh (signalBytes (loweredModel n)) (zeroed x.bytes)
-      fresh = zeros-fresh (signalBytes (loweredModel n)) (length x.bytes) long
+      fresh : Fresh (signalBytes (loweredModel base.wires n)) (zeroed x.bytes)
+      fresh = zeros-fresh (signalBytes (loweredModel base.wires n)) (length x.bytes) long
 
   abbrev Shown : Simulated → Type 0
-  Shown r = IsAccepted r.answer → ShowsCells n x r.answers r.shown
+  Shown r = IsAccepted r.answer → ShowsCells base.wires n x r.answers r.shown
 
   by_answer : (t : Tapes) (l : Lists) → lowerWords base x.words s e m ≡ record { answer = Accepted t; lists = l } → Shown (ran x l t (runList largest (ticksOn x l t)).answer (runList largest (ticksOn x l t)))
   unfolding runList
@@ -94,7 +94,7 @@ module _ (x : Simulation) (n : Netlist) (q : readWords base x.words ≡ netlist 
     where
       go : (o : Option (ℕ × ℕ)) → listAnswer largest (ticksOn x l t) ≡ o → Shown (ran x l t (listOutcome largest (ticksOn x l t) o).answer (listOutcome largest (ticksOn x l t) o))
       go (some r) a y = absurd y
-      go none a y = subst (λ (o : Option (ℕ × ℕ)). ShowsCells n x (listOutcome largest (ticksOn x l t) o).answers (listOutcome largest (ticksOn x l t) o).shown) a (shows t l h a)
+      go none a y = subst (λ (o : Option (ℕ × ℕ)). ShowsCells base.wires n x (listOutcome largest (ticksOn x l t) o).answers (listOutcome largest (ticksOn x l t) o).shown) a (shows t l h a)
 
   by-lowering : (r : Lowering) → lowerWords base x.words s e m ≡ r → Shown (loweredTo x r.lists r.answer)
   by-lowering r h = go r.answer r.lists h

@@ -36,22 +36,22 @@ module _ (s e m : ℕ) where
   ended-blank (Done a t) (some k) l number place h = refl
   ended-blank (Failed n p) o l number place h = refl
 
-  lowered-blank : (n : Netlist) → Blanks s e m (lowered n s e m)
+  lowered-blank : (shared : ℕ) (n : Netlist) → Blanks s e m (lowered shared n s e m)
   unfolding lowered
-  lowered-blank n =
-      let left = writing (blank s e m) start (lowerNetlist n) in
-      ended-blank left.answer (overdrivenFrom 0 (loweredModel n).signals (loweredModel n).stmts) left.lists
+  lowered-blank shared n =
+      let left = writing (blank s e m) start (lowerNetlist shared n) in
+      ended-blank left.answer (overdrivenFrom 0 (loweredModel shared n).signals (loweredModel shared n).stmts) left.lists
 
-  read-blank : (r : Read) → Blanks s e m (loweredRead r s e m)
-  read-blank (netlist n) number place h = lowered-blank n number place h
-  read-blank (refused i j) number place h = refl
+  read-blank : (shared : ℕ) (r : Read) → Blanks s e m (loweredRead shared r s e m)
+  read-blank shared (netlist n) number place h = lowered-blank shared n number place h
+  read-blank shared (refused i j) number place h = refl
 
 call-blank : (words : List ℕ) (l : Lists) (works : List (List ℕ)) → Blanks (length l.signals) (length l.exprs) (length l.stmts) (call_of base words l works)
 call-blank words l works = go (anyShort (map length works))
   where
     go : (b : Bool) → Blanks (length l.signals) (length l.exprs) (length l.stmts) (pick b (record { answer = Refused 1 16384; lists = blankOf l }) (lowerWords base words (length l.signals) (length l.exprs) (length l.stmts)))
     go true number place h = refl
-    go false number place h = read-blank (length l.signals) (length l.exprs) (length l.stmts) (readWords base words) number place h
+    go false number place h = read-blank (length l.signals) (length l.exprs) (length l.stmts) base.wires (readWords base words) number place h
 
 module _ (x : Simulation) (l : Lists) (lengths : blankOf l ≡ blankOf x.lists) where
   abbrev k : ListCall
@@ -88,7 +88,7 @@ module _ (words heads bits : List ℕ) (l : Lists) (works : List (List ℕ)) (by
       → Simulates base (simulation words heads bits l works bytes wb we ws answers shown) r l' answers' shown'
   simulates-so v = record {
     value = v;
-    cells = λ n q loopless t e. subst (λ (y : Simulated). IsAccepted y.answer → ShowsCells n call y.answers y.shown) (sym v) (cells-shown call n q loopless) (subst IsAccepted (sym e) tt);
+    cells = λ n q loopless t e. subst (λ (y : Simulated). IsAccepted y.answer → ShowsCells base.wires n call y.answers y.shown) (sym v) (cells-shown call n q loopless) (subst IsAccepted (sym e) tt);
     only-short = λ n q t d e number place h. refused-short call n q t d e number place (sym (ap (λ (y : Simulated). y.answer) v) ∙ h);
   }
 

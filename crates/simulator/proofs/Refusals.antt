@@ -68,11 +68,11 @@ module _ (x : Simulation) (n : Netlist) (q : readWords base x.words ≡ netlist 
     list-one : One (listAnswer largest (ticksOn x l t))
     unfolding listAnswer
     list-one =
-        let low : lowered n s e m ≡ record { answer = Accepted t; lists = l } = ap (λ (r : Read). loweredRead r s e m) (sym q) ∙ h in
-        let k = accepted-kept n s e m t l low in
-        let a = is-lowered base n s e m t l (read_fits base x.words n q) k in
-        let words : usedLists l t ≡ words_of (loweredModel n) = used-words n s e m t l k in
-        subst (λ (o : Option ℕ). One (listVerdict (listModel (ticksOn x l t)) (ticksOn x l t) o)) (sym (ap (malformed largest) words ∙ sound-words (loweredModel n) largest (lowered-sound a room)))
+        let low : lowered base.wires n s e m ≡ record { answer = Accepted t; lists = l } = ap (λ (r : Read). loweredRead base.wires r s e m) (sym q) ∙ h in
+        let k = accepted-kept base.wires n s e m t l low in
+        let a = is-lowered base.wires base n s e m t l (read_fits base x.words n q) k in
+        let words : usedLists l t ≡ words_of (loweredModel base.wires n) = used-words base.wires n s e m t l k in
+        subst (λ (o : Option ℕ). One (listVerdict (listModel (ticksOn x l t)) (ticksOn x l t) o)) (sym (ap (malformed largest) words ∙ sound-words (loweredModel base.wires n) largest (lowered-sound a room)))
         (causes-one (ticksOn x l t))
 
     ran-one : (number place : ℕ) → (ran x l t (runList largest (ticksOn x l t)).answer (runList largest (ticksOn x l t))).answer ≡ Refused number place → number ≡ 1

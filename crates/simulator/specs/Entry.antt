@@ -76,21 +76,22 @@ simulateCall limits x = let r = call_of limits x.words x.lists x.works in lowere
 
 -- THE CELLS
 
-abbrev pub entriesOf : Netlist → Simulation → List Entry
-entriesOf n x = entries (tickBits (loweredModel n)) x.workBits x.workExprs x.workSignals x.heads x.bits
+-- the model's cells share their reads of so many wires
+abbrev pub entriesOf : ℕ → Netlist → Simulation → List Entry
+entriesOf shared n x = entries (tickBits (loweredModel shared n)) x.workBits x.workExprs x.workSignals x.heads x.bits
 
 -- for each tick its answer and the outputs after it stand in the buffers, and they are those of the netlist's own cells
-pub record ShowsCells (n : Netlist) (x : Simulation) (answers' shown' : List ℕ) : Type 0 where
+pub record ShowsCells (shared : ℕ) (n : Netlist) (x : Simulation) (answers' shown' : List ℕ) : Type 0 where
   pub ticks : List ByModel
-  pub agree : AllAgree ticks (shownByCells n (start n) (entriesOf n x))
-  pub answered : Answered (loweredModel n) (entriesOf n x) ticks
+  pub agree : AllAgree ticks (shownByCells shared n (start n) (entriesOf shared n x))
+  pub answered : Answered (loweredModel shared n) (entriesOf shared n x) ticks
   pub answers-are : answers' ≡ filled x.answers (answersOf ticks)
   pub shown-are : shown' ≡ filled x.shown (outputsOf ticks)
 
 -- lists, answers and outputs at exit
 pub record Simulates (limits : Limits) (x : Simulation) (r : c.Lowered) (l' : Lists) (answers' shown' : List ℕ) : Type 0 where
   pub value : record { answer = answer_of r; lists = l'; answers = answers'; shown = shown' } ≡ simulateCall limits x
-  pub cells : (n : Netlist) → readWords limits x.words ≡ netlist n → NoWireLoop n → (t : Tapes) → answer_of r ≡ Accepted t → ShowsCells n x answers' shown'
+  pub cells : (n : Netlist) → readWords limits x.words ≡ netlist n → NoWireLoop n → (t : Tapes) → answer_of r ≡ Accepted t → ShowsCells limits.wires n x answers' shown'
   -- a netlist that lowering accepts is refused only for a short buffer: 12 never comes, 13 and 14 are a tick's own
   pub only-short : (n : Netlist) → readWords limits x.words ≡ netlist n → (t : Tapes) (l : Lists) → call_of limits x.words x.lists x.works ≡ record { answer = Accepted t; lists = l }
       → (number place : ℕ) → answer_of r ≡ Refused number place → number ≡ 1
