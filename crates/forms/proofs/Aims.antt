@@ -22,6 +22,7 @@ use Rattle.behaviour.specs.WireMap.{wordSignals}
 use Rattle.behaviour.specs.Behaviour.{shiftIn}
 use Rattle.wires.specs.declared.Constants.{Constants}
 use Rattle.wires.specs.Wires.{WireRef, Wires}
+use Rattle.wires.specs.Seen.{Seen, nothingSeen, Reading, keeping, forgetting}
 use Rattle.wires.specs.Expressions.{assignWire, bitsExpression}
 use Rattle.cells.specs.Cells.{emitLut4, emitPfumx, emitL6mux21, emitIo, emitMultiplier, ccuRow, emitCcu2c, assignAll, emitIdleJtagg, pllClocks, emitCyclePll}
 use Rattle.memories.specs.Memories.{wordSignal, Word, PortExprs, ramWord, ramWords, emitBlockRamReadPort, emitSecondReadPort, updateWords, emitBlockRam, dramWords, emitDistributedRam}
@@ -34,7 +35,7 @@ use Rattle.meaning.proofs.Settling.{gets-any}
 use Rattle.meaning.proofs.BitReads.{ref-gets}
 use Rattle.meaning.proofs.Memories.{signalsIn}
 use Rattle.forms.specs.Acts.{Quiet, targets, Done, Acts, aim, range, secondAim, aims, clockAims, cellAims, cellWords, allAims, allWords, bankAims, portAims, netlistWords, netlistAims}
-use Rattle.forms.proofs.Quiets.{quiet-emit, quiet-ref, quiet-bit, quiet-signal, quiet-asserted, quiet-concat, quiet-vector, quiet-reads, quiet-mux, quiet-xor, quiet-lut, quiet-levels, quiet-gate, quiet_write, quiet-second, quiet-candidates, quiet-enable, quiet-next-read, quiet-exprs, quiet-select, quiet-nexts, quiet-bank-reset}
+use Rattle.forms.proofs.Quiets.{quiet-emit, quiet-keeping, quiet-ref, quiet-bit, quiet-signal, quiet-once, quiet-asserted-once, quiet-concat, quiet-vector-once, quiet-vector, quiet-reads, quiet-mux, quiet-xor, quiet-lut, quiet-levels, quiet-gate, quiet_write, quiet-second, quiet-candidates, quiet-enable, quiet-next-read, quiet-exprs, quiet-select, quiet-nexts, quiet-bank-reset}
 
 -- THE LOGIC
 
@@ -83,6 +84,14 @@ module _ {A B : Type 0} {n : Count} {w : Writer A} {k : A → Writer B} {R' : B 
   quietly : Quiet w → ((a : A) (n' : Count) → n'.signals ≡ n.signals → Acts n' (k a) R' ss ts) → Acts n (w >>= k) R' ss ts
   quietly q g = acts-bind (acts-quiet q) (λ a u n' e. g a n' (omega (arith, e)))
 
+-- the last step of a cell's, and of a cell
+module _ {A : Type 0} {n : Count} {ss : List Signal} {ts : List ℕ} where
+  acts-keeping : {w : Writer A} {R : A → Type 0} (seen : Seen) → Acts n w R ss ts → Acts n (keeping seen w) (λ r. Unit {0}) ss ts
+  acts-keeping seen h = acts-as (append-nil ss) (append-nil ts) (λ b u. u) (acts-bind h (λ a r n' e. acts-pure tt))
+
+  acts-forgetting : {w : Writer (Reading A)} {R : Reading A → Type 0} → Acts n w R ss ts → Acts n (forgetting w) (λ a. Unit {0}) ss ts
+  acts-forgetting h = acts-as (append-nil ss) (append-nil ts) (λ b u. u) (acts-bind h (λ a r n' e. acts-pure tt))
+
 abbrev Unit₀ : {A : Type 0} → A → Type 0
 Unit₀ a = Unit {0}
 
@@ -95,38 +104,38 @@ module _ (m : Wires) where
 
   -- CELLS
 
-  lut4-acts : (i : List Bit) (o t : ℕ) {n : Count} → Acts n (emitLut4 m i o t) Unit₀ [] (aim (m o) ∷ [])
+  lut4-acts : (seen : Seen) (i : List Bit) (o t : ℕ) {n : Count} → Acts n (emitLut4 m seen i o t) Unit₀ [] (aim (m o) ∷ [])
   unfolding emitLut4
-  lut4-acts i o t = quietly (quiet-reads m i []) (λ es n₁ e₁. quietly (quiet-lut es t) (λ v n₂ e₂. aim_at o v))
+  lut4-acts seen i o t = quietly (quiet-reads m seen i []) (λ es n₁ e₁. quietly (quiet-lut es.value t) (λ v n₂ e₂. acts-keeping _ (aim_at o v)))
 
-  pfumx-acts : (h l s : Bit) (o : ℕ) {n : Count} → Acts n (emitPfumx m h l s o) Unit₀ [] (aim (m o) ∷ [])
+  pfumx-acts : (seen : Seen) (h l s : Bit) (o : ℕ) {n : Count} → Acts n (emitPfumx m seen h l s o) Unit₀ [] (aim (m o) ∷ [])
   unfolding emitPfumx
-  pfumx-acts h l s o = quietly (quiet-bit m s) (λ a n₁ e₁. quietly (quiet-bit m h) (λ b n₂ e₂. quietly (quiet-bit m l) (λ c n₃ e₃. quietly (quiet-mux a b c) (λ v n₄ e₄. aim_at o v))))
+  pfumx-acts seen h l s o = quietly (quiet-once m seen s) (λ a n₁ e₁. quietly (quiet-once m a.seen h) (λ b n₂ e₂. quietly (quiet-once m b.seen l) (λ c n₃ e₃. quietly (quiet-mux a.value b.value c.value) (λ v n₄ e₄. acts-keeping _ (aim_at o v)))))
 
-  l6mux21-acts : (l h s : Bit) (o : ℕ) {n : Count} → Acts n (emitL6mux21 m l h s o) Unit₀ [] (aim (m o) ∷ [])
+  l6mux21-acts : (seen : Seen) (l h s : Bit) (o : ℕ) {n : Count} → Acts n (emitL6mux21 m seen l h s o) Unit₀ [] (aim (m o) ∷ [])
   unfolding emitL6mux21
-  l6mux21-acts l h s o = quietly (quiet-bit m s) (λ a n₁ e₁. quietly (quiet-bit m l) (λ b n₂ e₂. quietly (quiet-bit m h) (λ c n₃ e₃. quietly (quiet-mux a c b) (λ v n₄ e₄. aim_at o v))))
+  l6mux21-acts seen l h s o = quietly (quiet-once m seen s) (λ a n₁ e₁. quietly (quiet-once m a.seen l) (λ b n₂ e₂. quietly (quiet-once m b.seen h) (λ c n₃ e₃. quietly (quiet-mux a.value c.value b.value) (λ v n₄ e₄. acts-keeping _ (aim_at o v)))))
 
-  io-acts : (p : ℕ) (d : Bit) (i : ℕ) (t : Bit) {n : Count} → Acts n (emitIo m p d i t) Unit₀ [] (aim (m i) ∷ [])
+  io-acts : (seen : Seen) (p : ℕ) (d : Bit) (i : ℕ) (t : Bit) {n : Count} → Acts n (emitIo m seen p d i t) Unit₀ [] (aim (m i) ∷ [])
   unfolding emitIo
-  io-acts p d i t = quietly (quiet-bit m (Wire p)) (λ a n₁ e₁. quietly (quiet-bit m d) (λ b n₂ e₂. quietly (quiet-bit m t) (λ c n₃ e₃. quietly (quiet-mux c a b) (λ v n₄ e₄. aim_at i v))))
+  io-acts seen p d i t = quietly (quiet-once m seen (Wire p)) (λ a n₁ e₁. quietly (quiet-once m a.seen d) (λ b n₂ e₂. quietly (quiet-once m b.seen t) (λ c n₃ e₃. quietly (quiet-mux c.value a.value b.value) (λ v n₄ e₄. acts-keeping _ (aim_at i v)))))
 
-  multiplier-acts : (l r : List Bit) (p : List ℕ) {n : Count} → Acts n (emitMultiplier m l r p) Unit₀ [] (aim (m (get_or p 0 0)) ∷ [])
+  multiplier-acts : (seen : Seen) (l r : List Bit) (p : List ℕ) {n : Count} → Acts n (emitMultiplier m seen l r p) Unit₀ [] (aim (m (get_or p 0 0)) ∷ [])
   unfolding emitMultiplier
-  multiplier-acts l r p = quietly (quiet-vector m l 0 36) (λ a n₁ e₁. quietly (quiet-vector m r 0 36) (λ b n₂ e₂. quietly quiet-emit (λ v n₃ e₃. aim_at (get_or p 0 0) v)))
+  multiplier-acts seen l r p = quietly (quiet-vector-once m seen l 0 36) (λ a n₁ e₁. quietly (quiet-vector-once m a.seen r 0 36) (λ b n₂ e₂. quietly quiet-emit (λ v n₃ e₃. acts-keeping _ (aim_at (get_or p 0 0) v))))
 
-  row-acts : (i : List Bit) (t j s c : ℕ) {n : Count} → Acts n (ccuRow m i t j s c) Unit₀ [] (aim (m s) ∷ [])
+  row-acts : (seen : Seen) (i : List Bit) (t j s c : ℕ) {n : Count} → Acts n (ccuRow m seen i t j s c) Unit₀ [] (aim (m s) ∷ [])
   unfolding ccuRow
-  row-acts i t j s c =
-      quietly (quiet-reads m i []) (λ es n₁ e₁. quietly (quiet-lut es t) (λ l n₂ e₂. quietly (quiet-lut (get_or es 0 0 ∷ get_or es 1 0 ∷ 0 ∷ 0 ∷ []) t) (λ k n₃ e₃. quietly (quiet-xor l (pick (eqb j 1) 0 c)) (λ x n₄ e₄.
-      acts-bind (aim_at s x) (λ u v n₅ e₅. acts-quiet (quiet-mux l (pick (eqb j 1) 0 c) k))))))
+  row-acts seen i t j s c =
+      quietly (quiet-reads m seen i []) (λ es n₁ e₁. quietly (quiet-lut es.value t) (λ l n₂ e₂. quietly (quiet-lut (get_or es.value 0 0 ∷ get_or es.value 1 0 ∷ 0 ∷ 0 ∷ []) t) (λ k n₃ e₃. quietly (quiet-xor l (pick (eqb j 1) 0 c)) (λ x n₄ e₄.
+      acts-bind (aim_at s x) (λ u v n₅ e₅. acts-quiet (quiet-keeping _ (quiet-mux l (pick (eqb j 1) 0 c) k)))))))
 
-  ccu2c-acts : (u : Ccu2c) {n : Count} → Acts n (emitCcu2c m u) Unit₀ [] (aim (m u.sum0) ∷ aim (m u.sum1) ∷ aim (m u.carry) ∷ [])
+  ccu2c-acts : (seen : Seen) (u : Ccu2c) {n : Count} → Acts n (emitCcu2c m seen u) Unit₀ [] (aim (m u.sum0) ∷ aim (m u.sum1) ∷ aim (m u.carry) ∷ [])
   unfolding emitCcu2c
-  ccu2c-acts u =
-      quietly (quiet-bit m u.carryIn) (λ c₀ n₁ e₁.
-      acts-bind (row-acts u.row0 u.init0 u.inject0 u.sum0 c₀) (λ c₁ x n₂ e₂.
-      acts-bind (row-acts u.row1 u.init1 u.inject1 u.sum1 c₁) (λ c₂ y n₃ e₃. aim_at u.carry c₂)))
+  ccu2c-acts seen u =
+      quietly (quiet-once m seen u.carryIn) (λ c₀ n₁ e₁.
+      acts-bind (row-acts c₀.seen u.row0 u.init0 u.inject0 u.sum0 c₀.value) (λ c₁ x n₂ e₂.
+      acts-bind (row-acts c₁.seen u.row1 u.init1 u.inject1 u.sum1 c₁.value) (λ c₂ y n₃ e₃. acts-keeping _ (aim_at u.carry c₂.value))))
 
   all-acts : (ws : List ℕ) (e : ℕ) {n : Count} → Acts n (assignAll m ws e) Unit₀ [] (aims m ws)
   unfolding assignAll
@@ -185,49 +194,49 @@ updates-acts [] clock edge = acts-pure tt
 updates-acts (w ∷ ws) clock edge = acts-bind acts-state (λ u v n₁ e₁. updates-acts ws clock edge)
 
 module _ (m : Wires) (z : Constants) where
-  port-acts : (p : PortExprs) (ws : List Word) (width aw clock edge : ℕ) {n : Count} → Acts n (emitBlockRamReadPort m z p ws width aw clock edge) Unit₀ [] (aim (m (get_or p.readData 0 0)) ∷ [])
+  port-acts : (p : PortExprs) (o : Option ℕ) (ws : List Word) (width aw clock edge : ℕ) {n : Count} → Acts n (emitBlockRamReadPort m z p o ws width aw clock edge) Unit₀ [] (aim (m (get_or p.readData 0 0)) ∷ [])
   unfolding emitBlockRamReadPort
-  port-acts p ws width aw clock edge =
+  port-acts p o ws width aw clock edge =
       quietly quiet-emit (λ e n₁ e₁. quietly (quiet-candidates p.readAddress aw 0 ws []) (λ ns n₂ e₂. quietly (quiet-levels (length ns) width ns e) (λ v n₃ e₃.
       acts-bind (acts-known (quiet-ref m (get_or p.readData 0 0)) (ref-gets m (get_or p.readData 0 0))) (λ r q n₄ e₄.
-      quietly (quiet-enable m z p.readEnable) (λ en n₅ e₅. quietly (quiet-next-read p.clockEnabled width r.signal v) (λ n n₆ e₆. acts-as refl (ap (λ (o : Option WireRef). aim o ∷ []) (sym q)) (λ a h. h) acts-state))))))
+      quietly (quiet-enable m z p.readEnable) (λ en n₅ e₅. quietly (quiet-next-read p.clockEnabled o width r.signal v) (λ n n₆ e₆. acts-as refl (ap (λ (o : Option WireRef). aim o ∷ []) (sym q)) (λ a h. h) acts-state))))))
 
   -- the second port's expressions, where it is there
   IsPort : Option SecondPort → Option PortExprs → Type 0
   IsPort none p = p ≡ none
   IsPort (some q) p = (x : PortExprs) × (p ≡ some x) × (x.readData ≡ q.output)
 
-  is-port : (shift aw : ℕ) (o : Option SecondPort) → Gets (Rattle.memories.specs.Memories.secondExprs m shift aw o) (IsPort o)
+  is-port : (seen : Seen) (shift aw : ℕ) (o : Option SecondPort) → Gets (Rattle.memories.specs.Memories.secondExprs m seen shift aw o) (λ r. IsPort o r.value)
   unfolding IsPort
-  is-port shift aw none = Rattle.meaning.proofs.Settling.gets-pure refl
-  is-port shift aw (some q) =
+  is-port seen shift aw none = Rattle.meaning.proofs.Settling.gets-pure refl
+  is-port seen shift aw (some q) =
       Rattle.meaning.proofs.Settling.gets-bind (gets-any _) (λ a u. Rattle.meaning.proofs.Settling.gets-bind (gets-any _) (λ d v. Rattle.meaning.proofs.Settling.gets-bind (gets-any _) (λ y w. Rattle.meaning.proofs.Settling.gets-pure (_, refl, refl))))
 
-  second-acts : (o : Option SecondPort) (p : Option PortExprs) (ws : List Word) (width aw clock edge : ℕ) {n : Count} → IsPort o p → Acts n (emitSecondReadPort m z p ws width aw clock edge) Unit₀ [] (secondAim m o)
+  second-acts : (o : Option SecondPort) (p : Option PortExprs) (k : Option ℕ) (ws : List Word) (width aw clock edge : ℕ) {n : Count} → IsPort o p → Acts n (emitSecondReadPort m z p k ws width aw clock edge) Unit₀ [] (secondAim m o)
   unfolding IsPort
-  second-acts none none ws width aw clock edge h = acts-pure tt
-  second-acts none (some p) ws width aw clock edge h = absurd (let e : ◌≡◌ {A = ℕ} 0 1 = cc in omega arith)
-  second-acts (some q) none ws width aw clock edge h = absurd (let y : none ≡ some h.0 = h.1 in let e : ◌≡◌ {A = ℕ} 0 1 = cc in omega arith)
-  second-acts (some q) (some p) ws width aw clock edge h =
+  second-acts none none k ws width aw clock edge h = acts-pure tt
+  second-acts none (some p) k ws width aw clock edge h = absurd (let e : ◌≡◌ {A = ℕ} 0 1 = cc in omega arith)
+  second-acts (some q) none k ws width aw clock edge h = absurd (let y : none ≡ some h.0 = h.1 in let e : ◌≡◌ {A = ℕ} 0 1 = cc in omega arith)
+  second-acts (some q) (some p) k ws width aw clock edge h =
       let y : some p ≡ some h.0 = h.1 in
       let same : p ≡ h.0 = cc in
-      acts-as refl (ap (λ (l : List ℕ). aim (m (get_or l 0 0)) ∷ []) (ap (λ (x : PortExprs). x.readData) same ∙ h.2)) (λ a u. u) (port-acts p ws width aw clock edge)
+      acts-as refl (ap (λ (l : List ℕ). aim (m (get_or l 0 0)) ∷ []) (ap (λ (x : PortExprs). x.readData) same ∙ h.2)) (λ a u. u) (port-acts p k ws width aw clock edge)
 
-  ram-acts : (owner : ℕ) (r : BlockRam) {n : Count}
-      → Acts n (emitBlockRam m z owner r) Unit₀ (replicate r.depth (wordSignal r.width owner)) (aim (m (get_or r.output 0 0)) ∷ (secondAim m r.second ++ range n.signals r.depth))
+  ram-acts : (seen : Seen) (owner : ℕ) (r : BlockRam) {n : Count}
+      → Acts n (emitBlockRam m z seen owner r) Unit₀ (replicate r.depth (wordSignal r.width owner)) (aim (m (get_or r.output 0 0)) ∷ (secondAim m r.second ++ range n.signals r.depth))
   unfolding emitBlockRam
-  ram-acts owner r {n} =
+  ram-acts seen owner r {n} =
       let aw : ℕ = addressWidth r.depth in
       let shift : ℕ = shiftIn (shift_of r.physical) in
-      quietly (quiet-vector m r.writeAddress shift aw) (λ wa n₁ e₁. quietly (quiet-vector m r.readAddress shift aw) (λ ra n₂ e₂. quietly (quiet-vector m r.input 0 (length r.input)) (λ d n₃ e₃. quietly (quiet-gate m r.write r.clockEnable) (λ g n₄ e₄.
-      acts-bind (acts-known (quiet-exprs m shift aw r.second) (is-port shift aw r.second)) (λ b hb n₅ e₅.
+      quietly (quiet-vector-once m seen r.writeAddress shift aw) (λ wa n₁ e₁. quietly (quiet-vector-once m wa.seen r.readAddress shift aw) (λ ra n₂ e₂. quietly (quiet-vector-once m ra.seen r.input 0 (length r.input)) (λ d n₃ e₃. quietly (quiet-gate m d.seen r.write r.clockEnable) (λ g n₄ e₄.
+      acts-bind (acts-known (quiet-exprs m g.seen shift aw r.second) (is-port g.seen shift aw r.second)) (λ b hb n₅ e₅.
       quietly (quiet-signal m z r.clock) (λ clock n₆ e₆.
-      let a : PortExprs = record { writeAddress = wa; writeData = d; writeAsserted = g.writeAsserted; readAddress = ra; readData = r.output; readEnable = r.readEnable; clockEnabled = g.clockEnabled } in
+      let a : PortExprs = record { writeAddress = wa.value; writeData = d.value; writeAsserted = g.value.writeAsserted; readAddress = ra.value; readData = r.output; readEnable = r.readEnable; clockEnabled = g.value.clockEnabled } in
       acts-as (append-nil (replicate r.depth (wordSignal r.width owner))) refl (λ u v. v)
-      (acts-bind (words-acts a b owner r.width aw r.depth 0 []) (λ ws hw n₇ e₇.
-      acts-bind (port-acts a ws r.width aw clock r.edge) (λ u v n₈ e₈.
-      acts-bind (second-acts r.second b ws r.width aw clock r.edge hb) (λ u v n₉ e₉.
-      acts-as refl (hw ∙ ap (λ (k : ℕ). range k r.depth) (let q : n₆.signals ≡ n.signals = omega (arith, e₁, e₂, e₃, e₄, e₅, e₆) in q)) (λ u v. v) (updates-acts ws clock r.edge)))))))))))
+      (acts-bind (words-acts a b.value owner r.width aw r.depth 0 []) (λ ws hw n₇ e₇.
+      acts-bind (port-acts a _ ws r.width aw clock r.edge) (λ u v n₈ e₈.
+      acts-bind (second-acts r.second b.value _ ws r.width aw clock r.edge hb) (λ u v n₉ e₉.
+      acts-as refl (hw ∙ ap (λ (k : ℕ). range k r.depth) (let q : n₆.signals ≡ n.signals = omega (arith, e₁, e₂, e₃, e₄, e₅, e₆) in q)) (λ u v. v) (acts-keeping _ (updates-acts ws clock r.edge))))))))))))
 
 dram-words-acts : (p : PortExprs) (owner clock edge left index : ℕ) (ws : List Word) {n : Count}
     → Acts n (dramWords p owner clock edge left index ws) Unit₀ (replicate left (wordSignal 4 owner)) (range n.signals left)
@@ -253,36 +262,36 @@ words_count owner (jtagg ws) = refl
 words_count owner (pll p) = refl
 
 module _ (m : Wires) (z : Constants) where
-  dram-acts : (owner : ℕ) (r : DistributedRam) {n : Count} → Acts n (emitDistributedRam m z owner r) Unit₀ (replicate 16 (wordSignal 4 owner)) (range n.signals 16 ++ (aim (m (get_or r.output 0 0)) ∷ []))
+  dram-acts : (seen : Seen) (owner : ℕ) (r : DistributedRam) {n : Count} → Acts n (emitDistributedRam m z seen owner r) Unit₀ (replicate 16 (wordSignal 4 owner)) (range n.signals 16 ++ (aim (m (get_or r.output 0 0)) ∷ []))
   unfolding emitDistributedRam
-  dram-acts owner r {n} =
-      quietly (quiet-vector m r.writeAddress 0 4) (λ wa n₁ e₁. quietly (quiet-vector m r.readAddress 0 4) (λ ra n₂ e₂. quietly (quiet-vector m r.input 0 4) (λ d n₃ e₃. quietly (quiet-asserted m r.write) (λ y n₄ e₄.
+  dram-acts seen owner r {n} =
+      quietly (quiet-vector-once m seen r.writeAddress 0 4) (λ wa n₁ e₁. quietly (quiet-vector-once m wa.seen r.readAddress 0 4) (λ ra n₂ e₂. quietly (quiet-vector-once m ra.seen r.input 0 4) (λ d n₃ e₃. quietly (quiet-asserted-once m d.seen r.write) (λ y n₄ e₄.
       quietly (quiet-signal m z r.clock) (λ clock n₅ e₅.
-      let p : PortExprs = record { writeAddress = wa; writeData = d; writeAsserted = y; readAddress = ra; readData = r.output; readEnable = none; clockEnabled = none } in
+      let p : PortExprs = record { writeAddress = wa.value; writeData = d.value; writeAsserted = y.value; readAddress = ra.value; readData = r.output; readEnable = none; clockEnabled = none } in
       acts-as (append-nil (replicate 16 (wordSignal 4 owner))) (ap (λ (k : ℕ). range k 16 ++ (aim (m (get_or r.output 0 0)) ∷ [])) (let q : n₅.signals ≡ n.signals = omega (arith, e₁, e₂, e₃, e₄, e₅) in q)) (λ u v. v)
       (acts-bind (dram-words-acts p owner clock r.edge 16 0 []) (λ ws u n₆ e₆.
-      quietly quiet-emit (λ e n₇ e₇. quietly (quiet-select ra 0 ws e) (λ v n₈ e₈. aim_at m (get_or r.output 0 0) v)))))))))
+      quietly quiet-emit (λ e n₇ e₇. quietly (quiet-select ra.value 0 ws e) (λ v n₈ e₈. acts-keeping _ (aim_at m (get_or r.output 0 0) v))))))))))
 
-  cell-acts : (owner : ℕ) (x : Cell) {n : Count} → Acts n (emitCell m z owner x) Unit₀ (cellWords owner x) (cellAims m n.signals x)
+  cell-acts : (shared owner : ℕ) (x : Cell) {n : Count} → Acts n (emitCell shared m z owner x) Unit₀ (cellWords owner x) (cellAims m n.signals x)
   unfolding emitCell
-  cell-acts owner (lut4 i o t) = lut4-acts m i o t
-  cell-acts owner (pfumx t f s o) = pfumx-acts m t f s o
-  cell-acts owner (l6mux21 f t s o) = l6mux21-acts m f t s o
-  cell-acts owner (ccu2c u) = ccu2c-acts m u
-  cell-acts owner (multiplier l r p) = multiplier-acts m l r p
-  cell-acts owner (flipFlop f) = acts-pure tt
-  cell-acts owner (blockRam r) = ram-acts m z owner r
-  cell-acts owner (distributedRam r) {n} = by-test (λ (w : Writer (Unit {0})). Acts n w Unit₀ (cellWords owner (distributedRam r)) (cellAims m n.signals (distributedRam r))) (eqb r.second 1) (λ q. writes-refuse) (λ q. dram-acts owner r)
-  cell-acts owner (io p d i t) = io-acts m p d i t
-  cell-acts owner (jtagg ws) = jtagg-acts m ws
-  cell-acts owner (pll p) = pll-acts m p
+  cell-acts k owner (lut4 i o t) = acts-forgetting (lut4-acts m (nothingSeen k) i o t)
+  cell-acts k owner (pfumx t f s o) = acts-forgetting (pfumx-acts m (nothingSeen k) t f s o)
+  cell-acts k owner (l6mux21 f t s o) = acts-forgetting (l6mux21-acts m (nothingSeen k) f t s o)
+  cell-acts k owner (ccu2c u) = acts-forgetting (ccu2c-acts m (nothingSeen k) u)
+  cell-acts k owner (multiplier l r p) = acts-forgetting (multiplier-acts m (nothingSeen k) l r p)
+  cell-acts k owner (flipFlop f) = acts-pure tt
+  cell-acts k owner (blockRam r) = acts-forgetting (ram-acts m z (nothingSeen k) owner r)
+  cell-acts k owner (distributedRam r) {n} = by-test (λ (w : Writer (Unit {0})). Acts n w Unit₀ (cellWords owner (distributedRam r)) (cellAims m n.signals (distributedRam r))) (eqb r.second 1) (λ q. writes-refuse) (λ q. acts-forgetting (dram-acts (nothingSeen k) owner r))
+  cell-acts k owner (io p d i t) = acts-forgetting (io-acts m (nothingSeen k) p d i t)
+  cell-acts k owner (jtagg ws) = jtagg-acts m ws
+  cell-acts k owner (pll p) = pll-acts m p
 
-  cells-act : (c : ℕ) (xs : List Cell) {n : Count} → Acts n (emitCells m z c xs) Unit₀ (allWords c xs) (allAims m n.signals xs)
+  cells-act : (shared c : ℕ) (xs : List Cell) {n : Count} → Acts n (emitCells shared m z c xs) Unit₀ (allWords c xs) (allAims m n.signals xs)
   unfolding emitCells
-  cells-act c [] = acts-pure tt
-  cells-act c (x ∷ xs) {n} =
-      acts-bind (cell-acts c x) (λ u v n₁ e₁.
-      acts-as refl (ap (λ (k : ℕ). allAims m k xs) (let q : n₁.signals ≡ n.signals + wordSignals x = omega (arith, e₁, words_count c x) in q)) (λ a h. h) (cells-act (suc c) xs))
+  cells-act k c [] = acts-pure tt
+  cells-act k c (x ∷ xs) {n} =
+      acts-bind (cell-acts k c x) (λ u v n₁ e₁.
+      acts-as refl (ap (λ (s : ℕ). allAims m s xs) (let q : n₁.signals ≡ n.signals + wordSignals x = omega (arith, e₁, words_count c x) in q)) (λ a h. h) (cells-act k (suc c) xs))
 
   bank-acts : (b : Bank) {n : Count} → Acts n (emitFlipFlopBank m z b) Unit₀ [] (aim (m b.leader.flop.output) ∷ [])
   unfolding emitFlipFlopBank
@@ -320,11 +329,11 @@ constants-act {n} =
     acts-as refl (ap₂ (λ (a b : ℕ). a ∷ b ∷ []) hz one) (λ a h. h)
     (acts-bind acts-state (λ u v n₅ e₅. acts-bind acts-state (λ u v n₆ e₆. acts-pure (record { zero_is = hz; one-is = one }))))))))
 
-pub netlist-acts : (n : Netlist) (m : Wires) {c : Count} → Acts c (emitNetlist n m) Unit₀ (netlistWords n) (netlistAims m c.signals n)
+pub netlist-acts : (shared : ℕ) (n : Netlist) (m : Wires) {c : Count} → Acts c (emitNetlist shared n m) Unit₀ (netlistWords n) (netlistAims m c.signals n)
 unfolding emitNetlist
-netlist-acts n m {c} =
+netlist-acts shared n m {c} =
     acts-as (ap (λ (l : List Signal). signalOf 14 1 0 ∷ signalOf 15 1 0 ∷ l) (append-nil (allWords 0 n.cells))) refl (λ a h. h)
     (acts-bind constants-act (λ z hz n₁ e₁.
     acts-as refl (ap (λ (k : ℕ). allAims m k n.cells ++ (bankAims m (collectFlipFlopBanks n.cells) ++ portAims 0 n.ports)) (let q : n₁.signals ≡ suc (suc c.signals) = omega (arith, e₁) in q)) (λ a h. h)
-    (acts-bind (cells-act m z 0 n.cells) (λ u v n₂ e₂.
+    (acts-bind (cells-act m z shared 0 n.cells) (λ u v n₂ e₂.
     acts-bind (banks-act m z (collectFlipFlopBanks n.cells)) (λ u v n₃ e₃. outputs-act m 0 n.ports)))))

@@ -289,7 +289,7 @@ few-allowed s = go (eqb s.label 0)
 abbrev pub noSignal : Signal
 noSignal = record { label = 0; width = 0; owner = 0 }
 
-module _ {limits : Limits} {n : Netlist} (a : Lowered limits n) where
+module _ {shared : ℕ} {limits : Limits} {n : Netlist} (a : Lowered shared limits n) where
   abbrev m : Wires
   m = a.wires
 
@@ -307,7 +307,7 @@ module _ {limits : Limits} {n : Netlist} (a : Lowered limits n) where
   mapping = kept.mapping
 
   emission : Out (Unit {0})
-  emission = emitNetlist n m (further none_yet (reserveNetlist n none_yet).events)
+  emission = emitNetlist shared n m (further none_yet (reserveNetlist n none_yet).events)
 
   started : (further none_yet (reserveNetlist n none_yet).events).signals ≡ length (slots n)
   started = omega (arith, ap length kept.signals, mapping-count kept.mapping)
@@ -316,19 +316,19 @@ module _ {limits : Limits} {n : Netlist} (a : Lowered limits n) where
   unfolding emission
   emitted =
       subst (λ (k : ℕ). Done (netlistWords n) (netlistAims m k n) emission.events) started
-      (written (netlist-acts n m) (ap (λ (o : Out (Unit {0})). o.end) (sym (lowering-is limits n cellFits m a.reserved)) ∙ a.ended)).1
+      (written (netlist-acts shared n m) (ap (λ (o : Out (Unit {0})). o.end) (sym (lowering-is shared limits n cellFits m a.reserved)) ∙ a.ended)).1
 
   -- the signals: those of the slots, zero and one, those of the RAM words
-  pub signals-are : (loweredModel n).signals ≡ slot-signals ++ netlistWords n
+  pub signals-are : (loweredModel shared n).signals ≡ slot-signals ++ netlistWords n
   unfolding emission slot-signals
   signals-are =
-      ap (λ (o : Out (Unit {0})). signalsOf o.events) (lowering-is limits n cellFits m a.reserved)
+      ap (λ (o : Out (Unit {0})). signalsOf o.events) (lowering-is shared limits n cellFits m a.reserved)
       ∙ signals-append (reserveNetlist n none_yet).events emission.events ∙ ap₂ (λ (x y : List Signal). x ++ y) kept.signals emitted.signals
 
   -- the targets of the statements
-  pub targets-are : targets (loweredModel n).stmts ≡ netlistAims m (length (slots n)) n
+  pub targets-are : targets (loweredModel shared n).stmts ≡ netlistAims m (length (slots n)) n
   unfolding emission
-  targets-are = ap targets (stmts-are limits n cellFits m a.reserved) ∙ emitted.stmts
+  targets-are = ap targets (stmts-are shared limits n cellFits m a.reserved) ∙ emitted.stmts
 
   pub slot-count : length slot-signals ≡ length (slots n)
   slot-count = sym (mapping-count mapping)
@@ -337,12 +337,12 @@ module _ {limits : Limits} {n : Netlist} (a : Lowered limits n) where
   unfoldable pub on-signal : ℕ → ℕ
   on-signal s = occurs s (netlistAims m (length (slots n)) n)
 
-  few : (s : ℕ) → s < length (loweredModel n).signals → on-signal s ≤ allowed (get_or (loweredModel n).signals s noSignal)
+  few : (s : ℕ) → s < length (loweredModel shared n).signals → on-signal s ≤ allowed (get_or (loweredModel shared n).signals s noSignal)
   unfolding on-signal
   few s h =
       let z : 0 + s ≡ s = omega arith in
-      subst (λ (k : ℕ). k ≤ allowed (get_or (loweredModel n).signals s noSignal)) (ap (λ (k : ℕ). statementsOn k (loweredModel n).stmts) z ∙ statements-occur s (loweredModel n).stmts ∙ ap (occurs s) targets-are)
-      (not-overdriven 0 (loweredModel n).signals (loweredModel n).stmts a.single s noSignal h)
+      subst (λ (k : ℕ). k ≤ allowed (get_or (loweredModel shared n).signals s noSignal)) (ap (λ (k : ℕ). statementsOn k (loweredModel shared n).stmts) z ∙ statements-occur s (loweredModel shared n).stmts ∙ ap (occurs s) targets-are)
+      (not-overdriven 0 (loweredModel shared n).signals (loweredModel shared n).stmts a.single s noSignal h)
 
   -- THE PARTS OF THE STATEMENTS
 
@@ -473,28 +473,28 @@ pub record OwnSlot (n : Netlist) (c : ℕ) (p : Pll) (s : ℕ) : Type 0 where
   pub one_of : Mem group (apiece (pllWires p) 0)
   pub slot : get_or (slots n) s no_slot ≡ slot_of c group
 
-module _ {limits : Limits} {n : Netlist} (a : Lowered limits n) where
+module _ {shared : ℕ} {limits : Limits} {n : Netlist} (a : Lowered shared limits n) where
   abbrev wires : Wires
   wires = a.wires
 
-  pub slot-signal : (s : ℕ) → s < length (slots n) → get_or (loweredModel n).signals s noSignal ≡ get_or (slot-signals a) s noSignal
+  pub slot-signal : (s : ℕ) → s < length (slots n) → get_or (loweredModel shared n).signals s noSignal ≡ get_or (slot-signals a) s noSignal
   slot-signal s h = ap (λ (l : List Signal). get_or l s noSignal) (signals-are a) ∙ get_or-append (slot-signals a) (netlistWords n) noSignal s (omega (arith, h, slot-count a))
 
-  pub slots-within : length (slots n) ≤ length (loweredModel n).signals
+  pub slots-within : length (slots n) ≤ length (loweredModel shared n).signals
   slots-within = omega (arith, ap length (signals-are a), length-append (slot-signals a) (netlistWords n), slot-count a)
 
-  pub slot-fits : (s : ℕ) → s < length (slots n) → SignalFits (get_or (slots n) s no_slot) (get_or (loweredModel n).signals s noSignal)
+  pub slot-fits : (s : ℕ) → s < length (slots n) → SignalFits (get_or (slots n) s no_slot) (get_or (loweredModel shared n).signals s noSignal)
   slot-fits s h = subst (SignalFits (get_or (slots n) s no_slot)) (sym (slot-signal s h)) (fit_at (slots n) (slot-signals a) s noSignal (mapping a).fits h)
 
   -- no statement may stand on an input's signal
   input-free : (s k : ℕ) → s < length (slots n) → (get_or (slots n) s no_slot).source ≡ inputs k → on-signal a s ≡ 0
   input-free s k h e =
-      let f : (get_or (loweredModel n).signals s noSignal).label ≡ 0 = subst (λ (x : Source). LabelFits x (get_or (loweredModel n).signals s noSignal).label) e (slot-fits s h).label in
-      let z : allowed (get_or (loweredModel n).signals s noSignal) ≡ 0 = ap {B = ℕ} (λ (b : Bool). pick b 0 1) (eq-eqb _ 0 f) in
+      let f : (get_or (loweredModel shared n).signals s noSignal).label ≡ 0 = subst (λ (x : Source). LabelFits x (get_or (loweredModel shared n).signals s noSignal).label) e (slot-fits s h).label in
+      let z : allowed (get_or (loweredModel shared n).signals s noSignal) ≡ 0 = ap {B = ℕ} (λ (b : Bool). pick b 0 1) (eq-eqb _ 0 f) in
       omega (arith, few a s (omega (arith, h, slots-within)), z)
 
   at_most : (s : ℕ) → s < length (slots n) → on-signal a s ≤ 1
-  at_most s h = omega (arith, few a s (omega (arith, h, slots-within)), few-allowed (get_or (loweredModel n).signals s noSignal))
+  at_most s h = omega (arith, few a s (omega (arith, h, slots-within)), few-allowed (get_or (loweredModel shared n).signals s noSignal))
 
   module _ (c : ℕ) (p : Pll) (inside : c < length n.cells) (is : get_or n.cells c absent ≡ pll p) (w : ℕ) (one_of : Mem w (pllWires p)) (r : Ref) (e : wires w ≡ some r) where
     at : Located n w r
@@ -656,25 +656,25 @@ pub ports-long : (p : ℕ) (ports : List Port) → length (portSignals p ports) 
 ports-long p [] = refl
 ports-long p (x ∷ ports) = ap suc (ports-long (suc p) ports)
 
-module _ {limits : Limits} {n : Netlist} (a : Lowered limits n) where
+module _ {shared : ℕ} {limits : Limits} {n : Netlist} (a : Lowered shared limits n) where
   abbrev k₀ : ℕ
   k₀ = length (slots n)
 
-  pub signals-count : length (loweredModel n).signals ≡ signalCount n
+  pub signals-count : length (loweredModel shared n).signals ≡ signalCount n
   signals-count = omega (arith, ap length (signals-are a), length-append (slot-signals a) (netlistWords n), slot-count a, words-length 0 n.cells)
 
-  pub port-signal : (s : ℕ) → s < length n.ports → get_or (loweredModel n).signals s noSignal ≡ get_or (portSignals 0 n.ports) s noSignal
+  pub port-signal : (s : ℕ) → s < length n.ports → get_or (loweredModel shared n).signals s noSignal ≡ get_or (portSignals 0 n.ports) s noSignal
   unfolding slot-signals
   port-signal s h =
       slot-signal a s (omega (arith, h, ports-within n)) ∙ get_or-append (portSignals 0 n.ports) (kept a).more noSignal s (omega (arith, h, ports-long 0 n.ports))
 
-  ported-driven : (s : ℕ) → s < length n.ports → ((get_or (loweredModel n).signals s noSignal).label ≡ 0) ⊎ (1 ≤ on-signal a s)
+  ported-driven : (s : ℕ) → s < length n.ports → ((get_or (loweredModel shared n).signals s noSignal).label ≡ 0) ⊎ (1 ≤ on-signal a s)
   ported-driven s h = go (port-driven 0 n.ports s h)
     where
       z : 0 + s ≡ s
       z = omega arith
 
-      go : ((get_or (portSignals 0 n.ports) s noSignal).label ≡ 0) ⊎ (1 ≤ occurs (0 + s) (portAims 0 n.ports)) → ((get_or (loweredModel n).signals s noSignal).label ≡ 0) ⊎ (1 ≤ on-signal a s)
+      go : ((get_or (portSignals 0 n.ports) s noSignal).label ≡ 0) ⊎ (1 ≤ occurs (0 + s) (portAims 0 n.ports)) → ((get_or (loweredModel shared n).signals s noSignal).label ≡ 0) ⊎ (1 ≤ on-signal a s)
       go (inl e) = inl (ap (λ (x : Signal). x.label) (port-signal s h) ∙ e)
       go (inr q) = let q' : 1 ≤ occurs s (portAims 0 n.ports) = subst (λ (k : ℕ). 1 ≤ occurs k (portAims 0 n.ports)) z q in inr (omega (arith, parts a s, q'))
 
@@ -690,10 +690,10 @@ module _ {limits : Limits} {n : Netlist} (a : Lowered limits n) where
   constant-driven s (inl e) = occurs-in s (netlistAims a.wires k₀ n) (here e)
   constant-driven s (inr e) = occurs-in s (netlistAims a.wires k₀ n) (there (here e))
 
-  word-driven : (s : ℕ) → suc (suc k₀) ≤ s → s < length (loweredModel n).signals → 1 ≤ on-signal a s
+  word-driven : (s : ℕ) → suc (suc k₀) ≤ s → s < length (loweredModel shared n).signals → 1 ≤ on-signal a s
   word-driven s l h = omega (arith, parts a s, words-in a.wires (suc (suc k₀)) n.cells s l (omega (arith, h, signals-count)))
 
-  driven : (s : ℕ) → s < length (loweredModel n).signals → ((get_or (loweredModel n).signals s noSignal).label ≡ 0) ⊎ (1 ≤ on-signal a s)
+  driven : (s : ℕ) → s < length (loweredModel shared n).signals → ((get_or (loweredModel shared n).signals s noSignal).label ≡ 0) ⊎ (1 ≤ on-signal a s)
   driven s h = one (dec_lt s (length n.ports))
     where
       three : Dec (s ≡ k₀) → Dec (s ≡ suc k₀) → k₀ ≤ s → 1 ≤ on-signal a s
@@ -705,16 +705,16 @@ module _ {limits : Limits} {n : Netlist} (a : Lowered limits n) where
       two p (yes l) = late-driven s l (slot-late n s p l)
       two p (no l) = three (ℕ_discrete s k₀) (ℕ_discrete s (suc k₀)) (omega arith)
 
-      one : Dec (s < length n.ports) → ((get_or (loweredModel n).signals s noSignal).label ≡ 0) ⊎ (1 ≤ on-signal a s)
+      one : Dec (s < length n.ports) → ((get_or (loweredModel shared n).signals s noSignal).label ≡ 0) ⊎ (1 ≤ on-signal a s)
       one (yes p) = ported-driven s p
       one (no p) = inr (two (omega arith) (dec_lt s k₀))
 
   -- exactly one statement stands on a signal that is no input, and none on an input
-  pub one-statement : (s : ℕ) → s < length (loweredModel n).signals → on-signal a s ≡ allowed (get_or (loweredModel n).signals s noSignal)
+  pub one-statement : (s : ℕ) → s < length (loweredModel shared n).signals → on-signal a s ≡ allowed (get_or (loweredModel shared n).signals s noSignal)
   one-statement s h = go (driven s h)
     where
-      go : ((get_or (loweredModel n).signals s noSignal).label ≡ 0) ⊎ (1 ≤ on-signal a s) → on-signal a s ≡ allowed (get_or (loweredModel n).signals s noSignal)
+      go : ((get_or (loweredModel shared n).signals s noSignal).label ≡ 0) ⊎ (1 ≤ on-signal a s) → on-signal a s ≡ allowed (get_or (loweredModel shared n).signals s noSignal)
       go (inl e) =
-          let z : allowed (get_or (loweredModel n).signals s noSignal) ≡ 0 = ap {B = ℕ} (λ (b : Bool). pick b 0 1) (eq-eqb _ 0 e) in
+          let z : allowed (get_or (loweredModel shared n).signals s noSignal) ≡ 0 = ap {B = ℕ} (λ (b : Bool). pick b 0 1) (eq-eqb _ 0 e) in
           omega (arith, few a s h, z)
-      go (inr q) = omega (arith, few a s h, q, few-allowed (get_or (loweredModel n).signals s noSignal))
+      go (inr q) = omega (arith, few a s h, q, few-allowed (get_or (loweredModel shared n).signals s noSignal))

@@ -34,9 +34,11 @@ use Rattle.behaviour.specs.Banks.{Member, Bank, asyncReset}
 use Rattle.behaviour.specs.Behaviour.{wiresOf}
 use Rattle.wires.specs.declared.Constants.{Constants}
 use Rattle.wires.specs.Wires.{WireRef, Wires}
-use Rattle.wires.specs.Expressions.{refOf, wireRef, readRef, bitExpression, whole, bitSignal, assertedExpression, concatParts, vectorParts, vectorExpression, readBits, assignWire}
+use Rattle.wires.specs.Seen.{Seen, nothingSeen, standing, Reading, keeping, forgetting}
+use Rattle.wires.specs.Expressions.{refOf, wireRef, readRef, bitExpression, whole, bitSignal, assertedExpression, readOnce, bitOnce, assertedOnce, concatParts, vectorParts, vectorOnce, vectorExpression, readBits, assignWire}
 use Rattle.cells.specs.Cells.{emitMultiplier, emitLut4, emitPfumx, emitL6mux21, emitIo, ccuRow, emitCcu2c, assignAll, emitIdleJtagg, pllClocks, emitCyclePll}
 use Rattle.lowering.specs.Emit.{withEnable, resetBit, withReset, nextBit, nextBits, resetBits, bankReset, emitFlipFlopBank}
+use Rattle.meaning.proofs.Standing.{AllStand, none-stand, nothing-stands, noted-stand}
 use Rattle.forms.specs.Typed.{Context, At, Sig, Exp, Parts, no_part, part, Grows, Wide, Fit, None, Any, Wired, Based, GoodReset}
 use Rattle.forms.specs.Suits.{From, WideAs, Suits, AllSuit}
 use Rattle.forms.proofs.Fits.{grow-exp, exp-so, grow-sig, grow-parts, parts-snoc, fit-pure, fit-refuse, fit-state, fit-bind, fit-so, emit-read, emit-concat, emit-not, emit-and, emit-or, emit-xor, emit-mux, emit-mul}
@@ -74,6 +76,16 @@ grow-based g b = record { zero_is = grow-exp g b.zero_is; one-is = grow-exp g b.
 
 pub grow-ready : {words : ℕ} {c c' : Context} {m : Wires} → Grows c c' → Ready words c m → Ready words c' m
 grow-ready g r = record { wired = λ w x q. (grow-sig g (r.wired w x q).0, (r.wired w x q).1); based = grow-based g r.based; many = omega (arith, r.many, g.many); under = r.under }
+
+-- what the cell has read: each expression reads its own wire
+pub record Stood (c : Context) (m : Wires) (seen : Seen) : Type 0 where
+  pub all : AllStand (λ (w e : ℕ). Exp c e 1 (From m (Wire w ∷ []))) seen
+
+pub grow-stood : {c c' : Context} {m : Wires} {seen : Seen} → Grows c c' → Stood c m seen → Stood c' m seen
+grow-stood g h = record { all = λ w e q. grow-exp g (h.all w e q) }
+
+pub stood-nothing : (c : Context) (m : Wires) (wires : ℕ) → Stood c m (nothingSeen wires)
+stood-nothing c m wires = record { all = nothing-stands (λ (w e : ℕ). Exp c e 1 (From m (Wire w ∷ []))) wires }
 
 pub zero_exp : {c : Context} {S : ℕ → Type 0} → Based c → Exp c 0 1 S
 zero_exp b = exp-so (λ y h. absurd h) b.zero_is
@@ -131,25 +143,55 @@ module _ {widest words : ℕ} {D : ℕ → ℕ → Type 0} (room : 36 ≤ widest
   unfolding assertedExpression
   fit-asserted {S = S} ready k f = fit-bind (fit-bit ready k.signal f) (λ e c₁ g h. by-test (λ (x : Writer ℕ). Fit widest words D c₁ x (λ s c'. Exp c' s 1 S)) (eqb k.active 1) (λ q. fit-pure h) (λ q. emit-not h))
 
-  fit_parts : {S : ℕ → Type 0} (bits : List Bit) (at k : ℕ) (ps : List ℕ) {c : Context} → Ready words c m → ((y : ℕ) → From m bits y → S y) → Parts c S ps
-      → Fit widest words D c (vectorParts m bits at k ps) (λ qs c'. Parts c' S qs × (length qs ≡ length ps + k))
-  unfolding vectorParts
-  fit_parts bits at zero ps ready f h = fit-pure (h, omega arith)
-  fit_parts bits at (suc k) ps ready f h =
-      fit-bind (fit-bit ready (get_or bits (at + k) Zero) (λ y q. f y (from_at bits (at + k) q))) (λ e c₁ g x.
-      fit-so (fit_parts bits at k (ps ++ (e ∷ [])) (grow-ready g ready) f (parts-snoc (grow-parts g h) x)) (λ qs c₂ g₂ r. (r.0, omega (arith, r.1, length-append ps (e ∷ [])))))
+  -- in a cell
 
+  pub fit-once : {c : Context} {S : ℕ → Type 0} {seen : Seen} → Ready words c m → Stood c m seen → (b : Bit) → ((y : ℕ) → From m (b ∷ []) y → S y) → Fit widest words D c (bitOnce m seen b) (λ r c'. Exp c' r.value 1 S × Stood c' m r.seen)
+  unfolding bitOnce
+  fit-once ready stood Zero f = fit-pure (zero_exp ready.based, stood)
+  fit-once ready stood One f = fit-pure (one-exp ready.based, stood)
+  fit-once {c} {S} {seen} ready stood (Wire w) f = go (standing seen w) refl
+    where
+      go : (o : Option ℕ) → standing seen w ≡ o → Fit widest words D c (readOnce o m seen w) (λ r c'. Exp c' r.value 1 S × Stood c' m r.seen)
+      go (some e) q = fit-pure (exp-so f (stood.all w e q), stood)
+      go none q =
+          fit-bind (fit-bit {S = From m (Wire w ∷ [])} ready (Wire w) (λ y h. h)) (λ e c₁ g h.
+          fit-pure (exp-so f h, record { all = noted-stand (λ (v d : ℕ). Exp c₁ d 1 (From m (Wire v ∷ []))) seen w e (grow-stood g stood).all h }))
+
+  -- the last step reads nothing
+  pub fit-keeping : {A : Type 0} {c : Context} {w : Writer A} {P : A → Context → Type 0} {seen : Seen} → Stood c m seen → Fit widest words D c w P → Fit widest words D c (keeping seen w) (λ r c'. P r.value c' × Stood c' m r.seen)
+  fit-keeping stood h = fit-bind h (λ a c₁ g p. fit-pure (p, grow-stood g stood))
+
+  pub fit-asserted-once : {c : Context} {S : ℕ → Type 0} {seen : Seen} → Ready words c m → Stood c m seen → (k : Control) → ((y : ℕ) → From m (k.signal ∷ []) y → S y) → Fit widest words D c (assertedOnce m seen k) (λ r c'. Exp c' r.value 1 S × Stood c' m r.seen)
+  unfolding assertedOnce
+  fit-asserted-once {S = S} ready stood k f =
+      fit-bind (fit-once ready stood k.signal f) (λ r c₁ g h. fit-keeping {P = λ e c'. Exp c' e 1 S} h.1 (by-test (λ (x : Writer ℕ). Fit widest words D c₁ x (λ s c'. Exp c' s 1 S)) (eqb k.active 1) (λ q. fit-pure h.0) (λ q. emit-not h.0)))
+
+  fit_parts : {S : ℕ → Type 0} {seen : Seen} (bits : List Bit) (at k : ℕ) (ps : List ℕ) {c : Context} → Ready words c m → Stood c m seen → ((y : ℕ) → From m bits y → S y) → Parts c S ps
+      → Fit widest words D c (vectorParts m seen bits at k ps) (λ r c'. (Parts c' S r.value × (length r.value ≡ length ps + k)) × Stood c' m r.seen)
+  unfolding vectorParts
+  fit_parts bits at zero ps ready stood f h = fit-pure ((h, omega arith), stood)
+  fit_parts bits at (suc k) ps ready stood f h =
+      fit-bind (fit-once ready stood (get_or bits (at + k) Zero) (λ y q. f y (from_at bits (at + k) q))) (λ r c₁ g x.
+      fit-so (fit_parts bits at k (ps ++ (r.value ∷ [])) (grow-ready g ready) x.1 f (parts-snoc (grow-parts g h) x.0)) (λ qs c₂ g₂ p. ((p.0.0, omega (arith, p.0.1, length-append ps (r.value ∷ []))), p.1)))
+
+  pub fit-vector-once : {S : ℕ → Type 0} {seen : Seen} (bits : List Bit) (at k : ℕ) {c : Context} → Ready words c m → Stood c m seen → Wide widest k → ((y : ℕ) → From m bits y → S y) → Fit widest words D c (vectorOnce m seen bits at k) (λ r c'. Exp c' r.value k S × Stood c' m r.seen)
+  unfolding vectorOnce
+  fit-vector-once {S} bits at k {c} ready stood w f =
+      fit-bind (fit_parts bits at k [] ready stood f no_part) (λ r c₁ g h.
+      fit-keeping {P = λ e c'. Exp c' e k S} h.1
+      (subst (λ (j : ℕ). Fit widest words D c₁ (concatParts r.value) (λ e c'. Exp c' e j S)) (let p : length r.value ≡ k = omega (arith, h.0.1) in p)
+      (fit-concat r.value h.0.0 (omega (arith, h.0.1, w.0), omega (arith, h.0.1, w.1)))))
+
+  -- outside of cells
   pub fit-vector : {S : ℕ → Type 0} (bits : List Bit) (at k : ℕ) {c : Context} → Ready words c m → Wide widest k → ((y : ℕ) → From m bits y → S y) → Fit widest words D c (vectorExpression m bits at k) (λ e c'. Exp c' e k S)
   unfolding vectorExpression
-  fit-vector {S} bits at k {c} ready w f =
-      fit-bind (fit_parts bits at k [] ready f no_part) (λ qs c₁ g h.
-      subst (λ (j : ℕ). Fit widest words D c₁ (concatParts qs) (λ e c'. Exp c' e j S)) (let p : length qs ≡ k = omega (arith, h.1) in p)
-      (fit-concat qs h.0 (omega (arith, h.1, w.0), omega (arith, h.1, w.1))))
+  fit-vector {S} bits at k {c} ready w f = fit-bind (fit-vector-once bits at k ready (record { all = none-stand (λ (v e : ℕ). Exp c e 1 (From m (Wire v ∷ []))) }) w f) (λ r c₁ g h. fit-pure h.0)
 
-  pub fit-reads : {S : ℕ → Type 0} (bits : List Bit) (ps : List ℕ) {c : Context} → Ready words c m → ((y : ℕ) → From m bits y → S y) → Parts c S ps → Fit widest words D c (readBits m bits ps) (λ qs c'. Parts c' S qs)
+  pub fit-reads : {S : ℕ → Type 0} {seen : Seen} (bits : List Bit) (ps : List ℕ) {c : Context} → Ready words c m → Stood c m seen → ((y : ℕ) → From m bits y → S y) → Parts c S ps → Fit widest words D c (readBits m seen bits ps) (λ r c'. Parts c' S r.value × Stood c' m r.seen)
   unfolding readBits
-  fit-reads [] ps ready f h = fit-pure h
-  fit-reads (b ∷ bs) ps ready f h = fit-bind (fit-bit ready b (λ y q. f y (from-left bs q))) (λ e c₁ g x. fit-reads bs (ps ++ (e ∷ [])) (grow-ready g ready) (λ y q. f y (from-right (b ∷ []) q)) (parts-snoc (grow-parts g h) x))
+  fit-reads [] ps ready stood f h = fit-pure (h, stood)
+  fit-reads (b ∷ bs) ps ready stood f h =
+      fit-bind (fit-once ready stood b (λ y q. f y (from-left bs q))) (λ r c₁ g x. fit-reads bs (ps ++ (r.value ∷ [])) (grow-ready g ready) x.1 (λ y q. f y (from-right (b ∷ []) q)) (parts-snoc (grow-parts g h) x.0))
 
   pub fit-assign : {S : ℕ → Type 0} (w : ℕ) {e v : ℕ} {c : Context} → Ready words c m → Suits D words m w v S → Exp c e v S → Fit widest words D c (assignWire m w e) (λ x c'. Unit {0})
   unfolding assignWire
@@ -211,76 +253,85 @@ parts-get based [] i h = zero_exp based
 parts-get based (e ∷ es) zero (part x h) = x
 parts-get based (e ∷ es) (suc i) (part x h) = parts-get based es i h
 
-module _ {widest words : ℕ} {D : ℕ → ℕ → Type 0} (room : 36 ≤ widest) (m : Wires) {c : Context} (ready : Ready words c m) where
-  pub fit-multiplier : (lhs rhs : List Bit) (product : List ℕ) → Suits D words m (get_or product 0 0) 36 (From m (lhs ++ rhs)) → Fit widest words D c (emitMultiplier m lhs rhs product) (λ x c'. Unit {0})
+-- nothing is asked of what a cell hands on
+module _ {widest words : ℕ} {D : ℕ → ℕ → Type 0} {A : Type 0} {c : Context} where
+  pub fit-last : {w : Writer A} {P : A → Context → Type 0} (seen : Seen) → Fit widest words D c w P → Fit widest words D c (keeping seen w) (λ r c'. Unit {0})
+  fit-last seen h = fit-bind h (λ a c₁ g p. fit-pure tt)
+
+  pub fit-forgetting : {w : Writer (Reading A)} {P : Reading A → Context → Type 0} → Fit widest words D c w P → Fit widest words D c (forgetting w) (λ a c'. Unit {0})
+  fit-forgetting h = fit-bind h (λ a c₁ g p. fit-pure tt)
+
+module _ {widest words : ℕ} {D : ℕ → ℕ → Type 0} (room : 36 ≤ widest) (m : Wires) {c : Context} (ready : Ready words c m) {seen : Seen} (stood : Stood c m seen) where
+  pub fit-multiplier : (lhs rhs : List Bit) (product : List ℕ) → Suits D words m (get_or product 0 0) 36 (From m (lhs ++ rhs)) → Fit widest words D c (emitMultiplier m seen lhs rhs product) (λ x c'. Unit {0})
   unfolding emitMultiplier
   fit-multiplier lhs rhs product s =
-      fit-bind (fit-vector room m lhs 0 36 ready (small room 36 (omega arith) (omega arith)) (λ y q. from-left rhs q)) (λ a c₁ g₁ ha.
-      fit-bind (fit-vector room m rhs 0 36 (grow-ready g₁ ready) (small room 36 (omega arith) (omega arith)) (λ y q. from-right lhs q)) (λ b c₂ g₂ hb.
-      fit-bind (emit-mul (grow-exp g₂ ha) hb) (λ v c₃ g₃ hv.
-      fit-assign room m (get_or product 0 0) (grow-ready g₃ (grow-ready g₂ (grow-ready g₁ ready))) s hv)))
+      fit-bind (fit-vector-once room m lhs 0 36 ready stood (small room 36 (omega arith) (omega arith)) (λ y q. from-left rhs q)) (λ a c₁ g₁ ha.
+      fit-bind (fit-vector-once room m rhs 0 36 (grow-ready g₁ ready) ha.1 (small room 36 (omega arith) (omega arith)) (λ y q. from-right lhs q)) (λ b c₂ g₂ hb.
+      fit-bind (emit-mul (grow-exp g₂ ha.0) hb.0) (λ v c₃ g₃ hv.
+      fit-last _ (fit-assign room m (get_or product 0 0) (grow-ready g₃ (grow-ready g₂ (grow-ready g₁ ready))) s hv))))
 
-  pub fit-lut4 : (inputs : List Bit) (output init : ℕ) → Suits D words m output 1 (From m inputs) → Fit widest words D c (emitLut4 m inputs output init) (λ x c'. Unit {0})
+  pub fit-lut4 : (inputs : List Bit) (output init : ℕ) → Suits D words m output 1 (From m inputs) → Fit widest words D c (emitLut4 m seen inputs output init) (λ x c'. Unit {0})
   unfolding emitLut4
   fit-lut4 inputs output init s =
-      fit-bind (fit-reads room m inputs [] ready (λ y q. q) no_part) (λ es c₁ g₁ h.
-      fit-bind (fit-lut room es init (grow-ready g₁ ready).based h) (λ v c₂ g₂ hv.
-      fit-assign room m output (grow-ready g₂ (grow-ready g₁ ready)) s hv))
+      fit-bind (fit-reads room m inputs [] ready stood (λ y q. q) no_part) (λ es c₁ g₁ h.
+      fit-bind (fit-lut room es.value init (grow-ready g₁ ready).based h.0) (λ v c₂ g₂ hv.
+      fit-last _ (fit-assign room m output (grow-ready g₂ (grow-ready g₁ ready)) s hv)))
 
   -- three bits, a mux of them in some order, an assignment
   fit-three : {S : ℕ → Type 0} (first second third : Bit) (output : ℕ) (s t f : (a b d : ℕ) → ℕ) → ((y : ℕ) → From m (first ∷ []) y → S y) → ((y : ℕ) → From m (second ∷ []) y → S y) → ((y : ℕ) → From m (third ∷ []) y → S y)
       → ((c₁ : Context) (a b d : ℕ) → Exp c₁ a 1 S → Exp c₁ b 1 S → Exp c₁ d 1 S → Exp c₁ (s a b d) 1 S × Exp c₁ (t a b d) 1 S × Exp c₁ (f a b d) 1 S) → Suits D words m output 1 S
-      → Fit widest words D c (bitExpression m first >>= λ a. bitExpression m second >>= λ b. bitExpression m third >>= λ d. muxOf (s a b d) (t a b d) (f a b d) >>= λ v. assignWire m output v) (λ x c'. Unit {0})
+      → Fit widest words D c (bitOnce m seen first >>= λ a. bitOnce m a.seen second >>= λ b. bitOnce m b.seen third >>= λ d. muxOf (s a.value b.value d.value) (t a.value b.value d.value) (f a.value b.value d.value) >>= λ v. keeping d.seen (assignWire m output v)) (λ x c'. Unit {0})
   fit-three first second third output s t f h₁ h₂ h₃ choose suits =
-      fit-bind (fit-bit room m ready first h₁) (λ a c₁ g₁ ha.
+      fit-bind (fit-once room m ready stood first h₁) (λ a c₁ g₁ ha.
       let r₁ = grow-ready g₁ ready in
-      fit-bind (fit-bit room m r₁ second h₂) (λ b c₂ g₂ hb.
+      fit-bind (fit-once room m r₁ ha.1 second h₂) (λ b c₂ g₂ hb.
       let r₂ = grow-ready g₂ r₁ in
-      fit-bind (fit-bit room m r₂ third h₃) (λ d c₃ g₃ hd.
-      let q = choose c₃ a b d (grow-exp g₃ (grow-exp g₂ ha)) (grow-exp g₃ hb) hd in
+      fit-bind (fit-once room m r₂ hb.1 third h₃) (λ d c₃ g₃ hd.
+      let q = choose c₃ a.value b.value d.value (grow-exp g₃ (grow-exp g₂ ha.0)) (grow-exp g₃ hb.0) hd.0 in
       fit-bind (fit-mux room q.0 q.1 q.2) (λ v c₄ g₄ hv.
-      fit-assign room m output (grow-ready g₄ (grow-ready g₃ r₂)) suits hv))))
+      fit-last _ (fit-assign room m output (grow-ready g₄ (grow-ready g₃ r₂)) suits hv)))))
 
-  pub fit-pfumx : (high low select : Bit) (output : ℕ) → Suits D words m output 1 (From m (high ∷ low ∷ select ∷ [])) → Fit widest words D c (emitPfumx m high low select output) (λ x c'. Unit {0})
+  pub fit-pfumx : (high low select : Bit) (output : ℕ) → Suits D words m output 1 (From m (high ∷ low ∷ select ∷ [])) → Fit widest words D c (emitPfumx m seen high low select output) (λ x c'. Unit {0})
   unfolding emitPfumx
   fit-pfumx high low select output s =
       fit-three select high low output (λ a b d. a) (λ a b d. b) (λ a b d. d) (third_of high low select) (first_of high low select) (second-of high low select) (λ c₁ a b d x y z. (x, y, z)) s
 
-  pub fit-l6mux21 : (low high select : Bit) (output : ℕ) → Suits D words m output 1 (From m (low ∷ high ∷ select ∷ [])) → Fit widest words D c (emitL6mux21 m low high select output) (λ x c'. Unit {0})
+  pub fit-l6mux21 : (low high select : Bit) (output : ℕ) → Suits D words m output 1 (From m (low ∷ high ∷ select ∷ [])) → Fit widest words D c (emitL6mux21 m seen low high select output) (λ x c'. Unit {0})
   unfolding emitL6mux21
   fit-l6mux21 low high select output s =
       fit-three select low high output (λ a b d. a) (λ a b d. d) (λ a b d. b) (third_of low high select) (first_of low high select) (second-of low high select) (λ c₁ a b d x y z. (x, z, y)) s
 
-  pub fit-io : (pad : ℕ) (driven : Bit) (input : ℕ) (tristate : Bit) → Suits D words m input 1 (From m (Wire pad ∷ driven ∷ tristate ∷ [])) → Fit widest words D c (emitIo m pad driven input tristate) (λ x c'. Unit {0})
+  pub fit-io : (pad : ℕ) (driven : Bit) (input : ℕ) (tristate : Bit) → Suits D words m input 1 (From m (Wire pad ∷ driven ∷ tristate ∷ [])) → Fit widest words D c (emitIo m seen pad driven input tristate) (λ x c'. Unit {0})
   unfolding emitIo
   fit-io pad driven input tristate s =
       fit-three (Wire pad) driven tristate input (λ a b d. d) (λ a b d. a) (λ a b d. b) (first_of (Wire pad) driven tristate) (second-of (Wire pad) driven tristate) (third_of (Wire pad) driven tristate) (λ c₁ a b d x y z. (z, x, y)) s
 
 module _ {widest words : ℕ} {D : ℕ → ℕ → Type 0} (room : 36 ≤ widest) (m : Wires) where
-  fit_row : {S : ℕ → Type 0} (inputs : List Bit) (init inject sum carry : ℕ) {c : Context} → Ready words c m → ((y : ℕ) → From m inputs y → S y) → Suits D words m sum 1 S → Exp c carry 1 S
-      → Fit widest words D c (ccuRow m inputs init inject sum carry) (λ e c'. Exp c' e 1 S)
+  fit_row : {S : ℕ → Type 0} {seen : Seen} (inputs : List Bit) (init inject sum carry : ℕ) {c : Context} → Ready words c m → Stood c m seen → ((y : ℕ) → From m inputs y → S y) → Suits D words m sum 1 S → Exp c carry 1 S
+      → Fit widest words D c (ccuRow m seen inputs init inject sum carry) (λ r c'. Exp c' r.value 1 S × Stood c' m r.seen)
   unfolding ccuRow
-  fit_row {S} inputs init inject sum carry ready f s hc =
-      fit-bind (fit-reads room m inputs [] ready f no_part) (λ es c₁ g₁ h.
+  fit_row {S} inputs init inject sum carry ready stood f s hc =
+      fit-bind (fit-reads room m inputs [] ready stood f no_part) (λ es c₁ g₁ h.
       let r₁ = grow-ready g₁ ready in
-      fit-bind (fit-lut room es init r₁.based h) (λ l c₂ g₂ hl.
+      fit-bind (fit-lut room es.value init r₁.based h.0) (λ l c₂ g₂ hl.
       let r₂ = grow-ready g₂ r₁ in
-      let h₂ = grow-parts g₂ h in
-      fit-bind (fit-lut room (get_or es 0 0 ∷ get_or es 1 0 ∷ 0 ∷ 0 ∷ []) init r₂.based (part (parts-get r₂.based es 0 h₂) (part (parts-get r₂.based es 1 h₂) (part (zero_exp r₂.based) (part (zero_exp r₂.based) no_part))))) (λ k c₃ g₃ hk.
+      let h₂ = grow-parts g₂ h.0 in
+      fit-bind (fit-lut room (get_or es.value 0 0 ∷ get_or es.value 1 0 ∷ 0 ∷ 0 ∷ []) init r₂.based (part (parts-get r₂.based es.value 0 h₂) (part (parts-get r₂.based es.value 1 h₂) (part (zero_exp r₂.based) (part (zero_exp r₂.based) no_part))))) (λ k c₃ g₃ hk.
       let r₃ = grow-ready g₃ r₂ in
       let gated : Exp c₃ (pick (eqb inject 1) 0 carry) 1 S = by-test (λ (e : ℕ). Exp c₃ e 1 S) (eqb inject 1) (λ q. zero_exp r₃.based) (λ q. grow-exp g₃ (grow-exp g₂ (grow-exp g₁ hc))) in
       fit-bind (fit-xor room r₃.based (grow-exp g₃ hl) gated) (λ x c₄ g₄ hx.
       fit-bind (fit-assign room m sum (grow-ready g₄ r₃) s hx) (λ u c₅ g₅ v.
-      fit-mux room (grow-exp g₅ (grow-exp g₄ (grow-exp g₃ hl))) (grow-exp g₅ (grow-exp g₄ gated)) (grow-exp g₅ (grow-exp g₄ hk)))))))
+      fit-keeping room m {P = λ e c'. Exp c' e 1 S} (grow-stood g₅ (grow-stood g₄ (grow-stood g₃ (grow-stood g₂ h.1))))
+      (fit-mux room (grow-exp g₅ (grow-exp g₄ (grow-exp g₃ hl))) (grow-exp g₅ (grow-exp g₄ gated)) (grow-exp g₅ (grow-exp g₄ hk))))))))
 
-  pub fit-ccu2c : (u : Ccu2c) {c : Context} → Ready words c m → AllSuit D words m (u.sum0 ∷ u.sum1 ∷ u.carry ∷ []) (From m (u.row0 ++ (u.row1 ++ (u.carryIn ∷ []))))
-      → Fit widest words D c (emitCcu2c m u) (λ x c'. Unit {0})
+  pub fit-ccu2c : (u : Ccu2c) {c : Context} → Ready words c m → {seen : Seen} → Stood c m seen → AllSuit D words m (u.sum0 ∷ u.sum1 ∷ u.carry ∷ []) (From m (u.row0 ++ (u.row1 ++ (u.carryIn ∷ []))))
+      → Fit widest words D c (emitCcu2c m seen u) (λ x c'. Unit {0})
   unfolding emitCcu2c
-  fit-ccu2c u ready s =
-      fit-bind (fit-bit room m ready u.carryIn (λ y q. from-right u.row0 (from-right u.row1 q))) (λ e₀ c₁ g₁ h₀.
-      fit-bind (fit_row u.row0 u.init0 u.inject0 u.sum0 e₀ (grow-ready g₁ ready) (λ y q. from-left (u.row1 ++ (u.carryIn ∷ [])) q) s.0 h₀) (λ e₁ c₂ g₂ h₁.
-      fit-bind (fit_row u.row1 u.init1 u.inject1 u.sum1 e₁ (grow-ready g₂ (grow-ready g₁ ready)) (λ y q. from-right u.row0 (from-left (u.carryIn ∷ []) q)) s.1.0 h₁) (λ e₂ c₃ g₃ h₂.
-      fit-assign room m u.carry (grow-ready g₃ (grow-ready g₂ (grow-ready g₁ ready))) s.1.1.0 h₂)))
+  fit-ccu2c u ready stood s =
+      fit-bind (fit-once room m ready stood u.carryIn (λ y q. from-right u.row0 (from-right u.row1 q))) (λ e₀ c₁ g₁ h₀.
+      fit-bind (fit_row u.row0 u.init0 u.inject0 u.sum0 e₀.value (grow-ready g₁ ready) h₀.1 (λ y q. from-left (u.row1 ++ (u.carryIn ∷ [])) q) s.0 h₀.0) (λ e₁ c₂ g₂ h₁.
+      fit-bind (fit_row u.row1 u.init1 u.inject1 u.sum1 e₁.value (grow-ready g₂ (grow-ready g₁ ready)) h₁.1 (λ y q. from-right u.row0 (from-left (u.carryIn ∷ []) q)) s.1.0 h₁.0) (λ e₂ c₃ g₃ h₂.
+      fit-last _ (fit-assign room m u.carry (grow-ready g₃ (grow-ready g₂ (grow-ready g₁ ready))) s.1.1.0 h₂.0))))
 
   fit_all : {S : ℕ → Type 0} (ws : List ℕ) {e : ℕ} {c : Context} → Ready words c m → ((w : ℕ) → Mem w ws → Suits D words m w 1 S) → Exp c e 1 S → Fit widest words D c (assignAll m ws e) (λ x c'. Unit {0})
   unfolding assignAll

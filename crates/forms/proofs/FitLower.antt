@@ -24,7 +24,7 @@ use Rattle.lowering.specs.Lower.{emitConstants, emitNetlist}
 use Rattle.forms.specs.Typed.{Context, Sig, Exp, Grows, Wide, Fit, None, Wired}
 use Rattle.forms.specs.Suits.{CellSuits, BankSuits, PortsSuit}
 use Rattle.forms.proofs.Fits.{grows-trans, grow-exp, exp-so, grow-sig, fit-pure, fit-refuse, fit-new, fit-declare, fit-state, fit-bind}
-use Rattle.forms.proofs.FitCells.{Ready, grow-ready, one-wide, Levelled, fit-vector, fit-multiplier, fit-lut4, fit-pfumx, fit-l6mux21, fit-io, fit-ccu2c, fit-jtagg, fit-pll, fit-bank}
+use Rattle.forms.proofs.FitCells.{Ready, grow-ready, one-wide, Levelled, stood-nothing, fit-forgetting, fit-vector, fit-multiplier, fit-lut4, fit-pfumx, fit-l6mux21, fit-io, fit-ccu2c, fit-jtagg, fit-pll, fit-bank}
 use Rattle.forms.proofs.FitRams.{fit-block-ram, fit-distributed-ram}
 
 -- the constants are there too
@@ -52,25 +52,25 @@ grow-ports g p [] h = tt
 grow-ports g p (x ∷ xs) h = (grow-sig g h.0, grow-ports g (suc p) xs h.1)
 
 module _ {widest words : ℕ} {D : ℕ → ℕ → Type 0} (room : 36 ≤ widest) (limits : Limits) (m : Wires) (z : Constants) where
-  fit-cell : (owner : ℕ) (x : Cell) {c : Context} → FitsCell limits x → CellSuits D words m x → Set words c m z → Fit widest words D c (emitCell m z owner x) (λ u c'. Unit {0})
+  fit-cell : (shared owner : ℕ) (x : Cell) {c : Context} → FitsCell limits x → CellSuits D words m x → Set words c m z → Fit widest words D c (emitCell shared m z owner x) (λ u c'. Unit {0})
   unfolding emitCell
-  fit-cell owner (lut4 i o t) f su s = fit-lut4 room m s.ready i o t su
-  fit-cell owner (pfumx t g l o) f su s = fit-pfumx room m s.ready t g l o su
-  fit-cell owner (l6mux21 g t l o) f su s = fit-l6mux21 room m s.ready g t l o su
-  fit-cell owner (ccu2c u) f su s = fit-ccu2c room m u s.ready su
-  fit-cell owner (multiplier l r p) f su s = fit-multiplier room m s.ready l r p su
-  fit-cell owner (flipFlop g) f su s = fit-pure tt
-  fit-cell owner (blockRam r) f su s = fit-block-ram room m z limits owner r f s.ready s.zero_is s.one-is su.0 su.1
-  fit-cell owner (distributedRam r) {c} f su s =
-      by-test (λ (w : Writer (Unit {0})). Fit widest words D c w (λ u c'. Unit {0})) (eqb r.second 1) (λ q. fit-refuse) (λ q. fit-distributed-ram room m z owner r s.ready s.zero_is s.one-is (omega (arith, f.edge)) su)
-  fit-cell owner (io p d i t) f su s = fit-io room m s.ready p d i t su
-  fit-cell owner (jtagg ws) f su s = fit-jtagg room m ws s.ready f.0 su
-  fit-cell owner (pll p) f su s = fit-pll room m p s.ready su.0 su.1
+  fit-cell k owner (lut4 i o t) {c} f su s = fit-forgetting (fit-lut4 room m s.ready (stood-nothing c m k) i o t su)
+  fit-cell k owner (pfumx t g l o) {c} f su s = fit-forgetting (fit-pfumx room m s.ready (stood-nothing c m k) t g l o su)
+  fit-cell k owner (l6mux21 g t l o) {c} f su s = fit-forgetting (fit-l6mux21 room m s.ready (stood-nothing c m k) g t l o su)
+  fit-cell k owner (ccu2c u) {c} f su s = fit-forgetting (fit-ccu2c room m u s.ready (stood-nothing c m k) su)
+  fit-cell k owner (multiplier l r p) {c} f su s = fit-forgetting (fit-multiplier room m s.ready (stood-nothing c m k) l r p su)
+  fit-cell k owner (flipFlop g) f su s = fit-pure tt
+  fit-cell k owner (blockRam r) {c} f su s = fit-forgetting (fit-block-ram room m z limits owner r f s.ready (stood-nothing c m k) s.zero_is s.one-is su.0 su.1)
+  fit-cell k owner (distributedRam r) {c} f su s =
+      by-test (λ (w : Writer (Unit {0})). Fit widest words D c w (λ u c'. Unit {0})) (eqb r.second 1) (λ q. fit-refuse) (λ q. fit-forgetting (fit-distributed-ram room m z owner r s.ready (stood-nothing c m k) s.zero_is s.one-is (omega (arith, f.edge)) su))
+  fit-cell k owner (io p d i t) {c} f su s = fit-forgetting (fit-io room m s.ready (stood-nothing c m k) p d i t su)
+  fit-cell k owner (jtagg ws) f su s = fit-jtagg room m ws s.ready f.0 su
+  fit-cell k owner (pll p) f su s = fit-pll room m p s.ready su.0 su.1
 
-  fit-cells : (owner : ℕ) (xs : List Cell) {c : Context} → Each (FitsCell limits) xs → Each (CellSuits D words m) xs → Set words c m z → Fit widest words D c (emitCells m z owner xs) (λ u c'. Unit {0})
+  fit-cells : (shared owner : ℕ) (xs : List Cell) {c : Context} → Each (FitsCell limits) xs → Each (CellSuits D words m) xs → Set words c m z → Fit widest words D c (emitCells shared m z owner xs) (λ u c'. Unit {0})
   unfolding emitCells
-  fit-cells owner [] f su s = fit-pure tt
-  fit-cells owner (x ∷ xs) f su s = fit-bind (fit-cell owner x f.0 su.0 s) (λ u c₁ g v. fit-cells (suc owner) xs f.1 su.1 (grow-set g s))
+  fit-cells k owner [] f su s = fit-pure tt
+  fit-cells k owner (x ∷ xs) f su s = fit-bind (fit-cell k owner x f.0 su.0 s) (λ u c₁ g v. fit-cells k (suc owner) xs f.1 su.1 (grow-set g s))
 
   fit-banks : (bs : List Bank) {c : Context} → Each (FitsBank widest) bs → Each (BankSuits D words m) bs → Set words c m z → Fit widest words D c (emitBanks m z bs) (λ u c'. Unit {0})
   unfolding emitBanks
@@ -136,10 +136,10 @@ pub record Suited (widest : ℕ) (D : ℕ → ℕ → Type 0) (words : ℕ) (lim
   pub ports-suit : PortsSuit D words m 0 n.ports
   pub ports-there : PortsThere c 0 n.ports
 
-pub fit-netlist : {widest words : ℕ} {D : ℕ → ℕ → Type 0} {limits : Limits} (n : Netlist) (m : Wires) {c : Context} → Suited widest D words limits n m c → Fit widest words D c (emitNetlist n m) (λ u c'. Unit {0})
+pub fit-netlist : {widest words : ℕ} {D : ℕ → ℕ → Type 0} {limits : Limits} (shared : ℕ) (n : Netlist) (m : Wires) {c : Context} → Suited widest D words limits n m c → Fit widest words D c (emitNetlist shared n m) (λ u c'. Unit {0})
 unfolding emitNetlist
-fit-netlist {limits = limits} n m s =
+fit-netlist {limits = limits} shared n m s =
     fit-bind (fit-constants s.room m s.none_yet s.wired s.many s.under) (λ z c₁ g₁ h₁.
-    fit-bind (fit-cells s.room limits m z 0 n.cells s.cells s.cells-suit h₁) (λ u c₂ g₂ v.
+    fit-bind (fit-cells s.room limits m z shared 0 n.cells s.cells s.cells-suit h₁) (λ u c₂ g₂ v.
     fit-bind (fit-banks s.room limits m z (collectFlipFlopBanks n.cells) s.banks s.banks-suit (grow-set g₂ h₁)) (λ u c₃ g₃ v.
     fit-outputs s.room limits m z 0 n.ports s.ports s.ports-suit (grow-ports g₃ 0 n.ports (grow-ports g₂ 0 n.ports (grow-ports g₁ 0 n.ports s.ports-there))) (grow-ready g₃ (grow-ready g₂ h₁.ready)))))

@@ -21,11 +21,12 @@ use Rattle.behaviour.specs.Behaviour.{shiftIn}
 use Rattle.wires.specs.declared.Constants.{Constants}
 use Rattle.wires.specs.Wires.{Wires}
 use Rattle.address_mux.specs.AddressMux.{Node, muxLevel, muxLevels}
-use Rattle.memories.specs.Memories.{Word, PortExprs, gate, writeWord, writeSecond, ramWord, ramWords, candidatesFrom, enableOf, nextRead, emitBlockRamReadPort, emitSecondReadPort, updateWords, secondExprs, emitBlockRam, dramWords, dramSelect, emitDistributedRam}
+use Rattle.wires.specs.Seen.{Seen, standing}
+use Rattle.memories.specs.Memories.{Word, PortExprs, gate, writeWord, writeSecond, ramWord, ramWords, candidatesFrom, enableOf, ownRead, ownExpression, nextRead, emitBlockRamReadPort, emitSecondReadPort, updateWords, secondOutput, secondExprs, emitBlockRam, dramWords, dramSelect, emitDistributedRam}
 use Rattle.forms.specs.Typed.{Context, Sig, Exp, Grows, Wide, Fit, Any, GoodEnable}
 use Rattle.forms.specs.Suits.{From, WideAs, Suits, SecondSuits}
 use Rattle.forms.proofs.Fits.{grow-exp, exp-so, grow-sig, fit-pure, fit-declare, fit-state, fit-bind, fit-so, emit-const, emit-read, emit-and, emit-or, emit-mux, emit-eq}
-use Rattle.forms.proofs.FitCells.{Ready, grow-ready, fit-ref, fit-signal, fit-asserted, fit-vector, fit-assign}
+use Rattle.forms.proofs.FitCells.{Ready, grow-ready, Stood, grow-stood, fit-ref, fit-signal, fit-asserted-once, fit-vector-once, fit-assign, fit-last}
 
 -- THE ADDRESS'S WIDTH
 
@@ -105,6 +106,25 @@ data FitEnabled (c : Context) : Option ℕ → Type 0 where
 grow-enabled : {c c' : Context} {o : Option ℕ} → Grows c c' → FitEnabled c o → FitEnabled c' o
 grow-enabled g no-enable = no-enable
 grow-enabled g (enable h) = enable (grow-exp g h)
+
+-- a register's own read, where it stands
+data FitOwn (c : Context) (width : ℕ) : Option ℕ → Type 0 where
+  no-own : FitOwn c width none
+  stands : {e : ℕ} → Exp c e width Any → FitOwn c width (some e)
+
+grow-own : {c c' : Context} {width : ℕ} {o : Option ℕ} → Grows c c' → FitOwn c width o → FitOwn c' width o
+grow-own g no-own = no-own
+grow-own g (stands h) = stands (grow-exp g h)
+
+-- it reads one wire, so the register has one bit
+fit-own-read : {c : Context} {m : Wires} {seen : Seen} (width : ℕ) (ws : List ℕ) → Stood c m seen → (length ws ≡ 1 → width ≡ 1) → FitOwn c width (ownRead seen ws)
+fit-own-read width [] stood h = no-own
+fit-own-read width (w ∷ v ∷ ws) stood h = no-own
+fit-own-read {c} {m} {seen} width (w ∷ []) stood h = go (standing seen w) refl
+  where
+    go : (o : Option ℕ) → standing seen w ≡ o → FitOwn c width o
+    go none q = no-own
+    go (some e) q = stands (subst (λ (k : ℕ). Exp c e k Any) (let p : 1 ≡ width = omega (arith, h refl) in p) (exp-so (λ y x. tt) (stood.all w e q)))
 
 record FitPort (c : Context) (width aw : ℕ) (p : PortExprs) : Type 0 where
   write-address : Exp c p.writeAddress aw Any
@@ -195,6 +215,11 @@ module _ {widest words : ℕ} {D : ℕ → ℕ → Type 0} (room : 36 ≤ widest
   fit-updates [] clock edge h k e = fit-pure tt
   fit-updates (w ∷ ws) clock edge (word x h) k e = fit-bind (fit-state (width, x.signal, x.next.typed, k, e, tt, tt)) (λ u c₁ g v. fit-updates ws clock edge (grow-words g h) (grow-sig g k) e)
 
+-- a second port's own read
+second-one-bit : (limits : Limits) (width : ℕ) (o : Option SecondPort) → FitsOption (FitsSecond limits width) o → length (secondOutput o) ≡ 1 → width ≡ 1
+second-one-bit limits width none h q = absurd (omega (arith, q))
+second-one-bit limits width (some p) h q = omega (arith, q, h.output.0)
+
 abbrev pub LevelledControl : Option Control → Type 0
 LevelledControl none = Unit {0}
 LevelledControl (some k) = k.active ≤ 1
@@ -217,15 +242,19 @@ module _ {widest words : ℕ} {D : ℕ → ℕ → Type 0} (room : 36 ≤ widest
   fit-enable none ready hz ho l = fit-pure tt
   fit-enable (some k) ready hz ho l = fit-bind (fit-signal room m ready hz ho k.signal) (λ s c₁ g h. fit-pure (h, l))
 
-  fit-next-read : (width : ℕ) {o : Option ℕ} {target word : ℕ} {c : Context} → Wide widest width → FitEnabled c o → Sig c target width → Exp c word width Any → Fit widest words D c (nextRead o width target word) (λ e c'. Exp c' e width Any)
-  fit-next-read width wide no-enable hs hv = fit-pure hv
-  fit-next-read width wide (enable h) hs hv = fit-bind (emit-read wide hs (omega arith) tt) (λ own c₁ g ho. emit-mux wide (grow-exp g h) (grow-exp g hv) ho)
+  fit-own : (width : ℕ) {o : Option ℕ} {target : ℕ} {c : Context} → Wide widest width → FitOwn c width o → Sig c target width → Fit widest words D c (ownExpression o width target) (λ e c'. Exp c' e width Any)
+  fit-own width wide no-own hs = emit-read wide hs (omega arith) tt
+  fit-own width wide (stands h) hs = fit-pure h
 
-  fit-read-port : (p : PortExprs) (ws : List Word) (width aw clock edge : ℕ) {c : Context} → Wide widest width → Wide widest aw → Ready words c m → Sig c z.zero.0 1 → Sig c z.one.0 1 → FitPort c width aw p
+  fit-next-read : (width : ℕ) {o own : Option ℕ} {target word : ℕ} {c : Context} → Wide widest width → FitEnabled c o → FitOwn c width own → Sig c target width → Exp c word width Any → Fit widest words D c (nextRead o own width target word) (λ e c'. Exp c' e width Any)
+  fit-next-read width wide no-enable hw hs hv = fit-pure hv
+  fit-next-read width wide (enable h) hw hs hv = fit-bind (fit-own width wide hw hs) (λ e c₁ g ho. emit-mux wide (grow-exp g h) (grow-exp g hv) ho)
+
+  fit-read-port : (p : PortExprs) (o : Option ℕ) (ws : List Word) (width aw clock edge : ℕ) {c : Context} → FitOwn c width o → Wide widest width → Wide widest aw → Ready words c m → Sig c z.zero.0 1 → Sig c z.one.0 1 → FitPort c width aw p
       → length ws ≤ 2 ^ aw → FitWords c words width ws → Sig c clock 1 → edge ≤ 1 → LevelledControl p.readEnable → WideAs m (get_or p.readData 0 0) width
-      → Fit widest words D c (emitBlockRamReadPort m z p ws width aw clock edge) (λ x c'. Unit {0})
+      → Fit widest words D c (emitBlockRamReadPort m z p o ws width aw clock edge) (λ x c'. Unit {0})
   unfolding emitBlockRamReadPort
-  fit-read-port p ws width aw clock edge wide aww ready hz ho hp hl hw hk he hen hwide =
+  fit-read-port p o ws width aw clock edge own wide aww ready hz ho hp hl hw hk he hen hwide =
       fit-bind (emit-const wide (pow_pos width)) (λ e c₁ g₁ h₁.
       fit-bind (fit-candidates room width aw wide aww p.readAddress 0 ws [] (grow-exp g₁ hp.read-address) (omega (arith, hl)) (grow-words g₁ hw) no_node) (λ ns c₂ g₂ hn.
       fit-bind (fit-levels width wide (length ns) ns hn (grow-exp g₂ h₁)) (λ v c₃ g₃ hv.
@@ -233,40 +262,40 @@ module _ {widest words : ℕ} {D : ℕ → ℕ → Type 0} (room : 36 ≤ widest
       fit-bind (fit-ref room m r₃ (get_or p.readData 0 0)) (λ r c₄ g₄ hr.
       fit-bind (fit-enable p.readEnable (grow-ready g₄ r₃) (grow-sig g₄ (grow-sig g₃ (grow-sig g₂ (grow-sig g₁ hz)))) (grow-sig g₄ (grow-sig g₃ (grow-sig g₂ (grow-sig g₁ ho)))) hen) (λ en c₅ g₅ h₅.
       let hs : Sig c₅ r.signal width = subst (λ (k : ℕ). Sig c₅ r.signal k) (hwide r hr.0) (grow-sig g₅ hr.1) in
-      fit-bind (fit-next-read width wide (grow-enabled g₅ (grow-enabled g₄ (grow-enabled g₃ (grow-enabled g₂ (grow-enabled g₁ hp.clock-enabled))))) hs (grow-exp g₅ (grow-exp g₄ hv))) (λ n c₆ g₆ hx.
+      fit-bind (fit-next-read width wide (grow-enabled g₅ (grow-enabled g₄ (grow-enabled g₃ (grow-enabled g₂ (grow-enabled g₁ hp.clock-enabled))))) (grow-own g₅ (grow-own g₄ (grow-own g₃ (grow-own g₂ (grow-own g₁ own))))) hs (grow-exp g₅ (grow-exp g₄ hv))) (λ n c₆ g₆ hx.
       fit-state (width, grow-sig g₆ hs, hx.typed, grow-sig g₆ (grow-sig g₅ (grow-sig g₄ (grow-sig g₃ (grow-sig g₂ (grow-sig g₁ hk))))), he, tt, grow-reg-enable g₆ en h₅)))))))
 
-  fit-second-port : (o : Option PortExprs) (ws : List Word) (width aw clock edge : ℕ) {c : Context} → Wide widest width → Wide widest aw → Ready words c m → Sig c z.zero.0 1 → Sig c z.one.0 1 → FitSecond c width aw o
-      → length ws ≤ 2 ^ aw → FitWords c words width ws → Sig c clock 1 → edge ≤ 1 → SecondIs m width o → Fit widest words D c (emitSecondReadPort m z o ws width aw clock edge) (λ x c'. Unit {0})
-  fit-second-port none ws width aw clock edge wide aww ready hz ho hp hl hw hk he hs = fit-pure tt
-  fit-second-port (some p) ws width aw clock edge wide aww ready hz ho (second hp) hl hw hk he hs = fit-read-port p ws width aw clock edge wide aww ready hz ho hp hl hw hk he hs.0 hs.1
+  fit-second-port : (o : Option PortExprs) (k : Option ℕ) (ws : List Word) (width aw clock edge : ℕ) {c : Context} → FitOwn c width k → Wide widest width → Wide widest aw → Ready words c m → Sig c z.zero.0 1 → Sig c z.one.0 1 → FitSecond c width aw o
+      → length ws ≤ 2 ^ aw → FitWords c words width ws → Sig c clock 1 → edge ≤ 1 → SecondIs m width o → Fit widest words D c (emitSecondReadPort m z o k ws width aw clock edge) (λ x c'. Unit {0})
+  fit-second-port none k ws width aw clock edge own wide aww ready hz ho hp hl hw hk he hs = fit-pure tt
+  fit-second-port (some p) k ws width aw clock edge own wide aww ready hz ho (second hp) hl hw hk he hs = fit-read-port p k ws width aw clock edge own wide aww ready hz ho hp hl hw hk he hs.0 hs.1
 
-  fit-gate : {c : Context} → Ready words c m → (write : Control) (o : Option Control) → Fit widest words D c (gate m write o) (λ g c'. Exp c' g.writeAsserted 1 Any × FitEnabled c' g.clockEnabled)
+  fit-gate : {c : Context} {seen : Seen} → Ready words c m → Stood c m seen → (write : Control) (o : Option Control) → Fit widest words D c (gate m seen write o) (λ r c'. (Exp c' r.value.writeAsserted 1 Any × FitEnabled c' r.value.clockEnabled) × Stood c' m r.seen)
   unfolding gate
-  fit-gate ready write none = fit-bind (fit-asserted room m {S = Any} ready write (λ y q. tt)) (λ y c₁ g₁ hy. fit-pure (hy, no-enable))
-  fit-gate ready write (some k) =
-      fit-bind (fit-asserted room m {S = Any} ready write (λ y q. tt)) (λ y c₁ g₁ hy.
-      fit-bind (fit-asserted room m {S = Any} (grow-ready g₁ ready) k (λ y q. tt)) (λ e c₂ g₂ he.
-      fit-bind (emit-and (grow-exp g₂ hy) he) (λ g c₃ g₃ hg. fit-pure (hg, enable (grow-exp g₃ he)))))
+  fit-gate ready stood write none = fit-bind (fit-asserted-once room m {S = Any} ready stood write (λ y q. tt)) (λ y c₁ g₁ hy. fit-pure ((hy.0, no-enable), hy.1))
+  fit-gate ready stood write (some k) =
+      fit-bind (fit-asserted-once room m {S = Any} ready stood write (λ y q. tt)) (λ y c₁ g₁ hy.
+      fit-bind (fit-asserted-once room m {S = Any} (grow-ready g₁ ready) hy.1 k (λ y q. tt)) (λ e c₂ g₂ he.
+      fit-bind (emit-and (grow-exp g₂ hy.0) he.0) (λ g c₃ g₃ hg. fit-pure ((hg, enable (grow-exp g₃ he.0)), grow-stood g₃ he.1))))
 
-  fit-second-exprs : (limits : Limits) (shift aw width : ℕ) (o : Option SecondPort) {c : Context} → Ready words c m → Wide widest aw → Wide widest width → FitsOption (FitsSecond limits width) o → SecondSuits D words m width o
-      → Fit widest words D c (secondExprs m shift aw o) (λ p c'. FitSecond c' width aw p × SecondIs m width p)
-  fit-second-exprs limits shift aw width none ready aww wide sh su = fit-pure (no_second, tt)
-  fit-second-exprs limits shift aw width (some p) ready aww wide sh su =
+  fit-second-exprs : (limits : Limits) (shift aw width : ℕ) (o : Option SecondPort) {c : Context} {seen : Seen} → Ready words c m → Stood c m seen → Wide widest aw → Wide widest width → FitsOption (FitsSecond limits width) o → SecondSuits D words m width o
+      → Fit widest words D c (secondExprs m seen shift aw o) (λ r c'. (FitSecond c' width aw r.value × SecondIs m width r.value) × Stood c' m r.seen)
+  fit-second-exprs limits shift aw width none ready stood aww wide sh su = fit-pure ((no_second, tt), stood)
+  fit-second-exprs limits shift aw width (some p) ready stood aww wide sh su =
       let k : length p.input ≡ width = sh.input.0 in
-      fit-bind (fit-vector room m {S = Any} p.address shift aw ready aww (λ y q. tt)) (λ a c₁ g₁ ha.
+      fit-bind (fit-vector-once room m {S = Any} p.address shift aw ready stood aww (λ y q. tt)) (λ a c₁ g₁ ha.
       let r₁ = grow-ready g₁ ready in
-      fit-bind (fit-vector room m {S = Any} p.input 0 (length p.input) r₁ (omega (arith, k, wide.0), omega (arith, k, wide.1)) (λ y q. tt)) (λ d c₂ g₂ hd.
-      fit-bind (fit-gate (grow-ready g₂ r₁) p.write p.clockEnable) (λ g c₃ g₃ hg.
-      fit-pure (
-        second (record { write-address = grow-exp g₃ (grow-exp g₂ ha); write-data = subst (λ (j : ℕ). Exp c₃ d j Any) k (grow-exp g₃ hd); write-asserted = hg.0; read-address = grow-exp g₃ (grow-exp g₂ ha); clock-enabled = hg.1 }),
+      fit-bind (fit-vector-once room m {S = Any} p.input 0 (length p.input) r₁ ha.1 (omega (arith, k, wide.0), omega (arith, k, wide.1)) (λ y q. tt)) (λ d c₂ g₂ hd.
+      fit-bind (fit-gate (grow-ready g₂ r₁) hd.1 p.write p.clockEnable) (λ g c₃ g₃ hg.
+      fit-pure ((
+        second (record { write-address = grow-exp g₃ (grow-exp g₂ ha.0); write-data = subst (λ (j : ℕ). Exp c₃ d.value j Any) k (grow-exp g₃ hd.0); write-asserted = hg.0.0; read-address = grow-exp g₃ (grow-exp g₂ ha.0); clock-enabled = hg.0.1 }),
         (control-level limits p.readEnable sh.readEnable, su),
-      ))))
+      ), hg.1))))
 
-  pub fit-block-ram : (limits : Limits) (owner : ℕ) (r : BlockRam) {c : Context} → FitsBlockRam limits r → Ready words c m → Sig c z.zero.0 1 → Sig c z.one.0 1 → WideAs m (get_or r.output 0 0) r.width → SecondSuits D words m r.width r.second
-      → Fit widest words D c (emitBlockRam m z owner r) (λ x c'. Unit {0})
+  pub fit-block-ram : (limits : Limits) (owner : ℕ) (r : BlockRam) {c : Context} → FitsBlockRam limits r → Ready words c m → {seen : Seen} → Stood c m seen → Sig c z.zero.0 1 → Sig c z.one.0 1 → WideAs m (get_or r.output 0 0) r.width → SecondSuits D words m r.width r.second
+      → Fit widest words D c (emitBlockRam m z seen owner r) (λ x c'. Unit {0})
   unfolding emitBlockRam
-  fit-block-ram limits owner r sh ready hz ho su ss =
+  fit-block-ram limits owner r sh ready stood hz ho su ss =
       let aw : ℕ = addressWidth r.depth in
       let shift : ℕ = shiftIn (shift_of r.physical) in
       let ad = addressed limits r sh in
@@ -274,34 +303,36 @@ module _ {widest words : ℕ} {D : ℕ → ℕ → Type 0} (room : 36 ≤ widest
       let wide : Wide widest r.width = (sh.width.0, omega (arith, sh.width.1, room)) in
       let aww : Wide widest aw = (ad.some_bits, omega (arith, ad.few_bits, room)) in
       let edge : r.edge ≤ 1 = omega (arith, sh.edge) in
-      fit-bind (fit-vector room m {S = Any} r.writeAddress shift aw ready aww (λ y q. tt)) (λ wa c₁ g₁ hwa.
+      fit-bind (fit-vector-once room m {S = Any} r.writeAddress shift aw ready stood aww (λ y q. tt)) (λ wa c₁ g₁ hwa.
       let r₁ = grow-ready g₁ ready in
-      fit-bind (fit-vector room m {S = Any} r.readAddress shift aw r₁ aww (λ y q. tt)) (λ ra c₂ g₂ hra.
+      fit-bind (fit-vector-once room m {S = Any} r.readAddress shift aw r₁ hwa.1 aww (λ y q. tt)) (λ ra c₂ g₂ hra.
       let r₂ = grow-ready g₂ r₁ in
-      fit-bind (fit-vector room m {S = Any} r.input 0 (length r.input) r₂ (omega (arith, k, wide.0), omega (arith, k, wide.1)) (λ y q. tt)) (λ d c₃ g₃ hd.
+      fit-bind (fit-vector-once room m {S = Any} r.input 0 (length r.input) r₂ hra.1 (omega (arith, k, wide.0), omega (arith, k, wide.1)) (λ y q. tt)) (λ d c₃ g₃ hd.
       let r₃ = grow-ready g₃ r₂ in
-      fit-bind (fit-gate r₃ r.write r.clockEnable) (λ g c₄ g₄ hg.
+      fit-bind (fit-gate r₃ hd.1 r.write r.clockEnable) (λ g c₄ g₄ hg.
       let r₄ = grow-ready g₄ r₃ in
-      fit-bind (fit-second-exprs limits shift aw r.width r.second r₄ aww wide sh.second ss) (λ b c₅ g₅ hb.
+      fit-bind (fit-second-exprs limits shift aw r.width r.second r₄ hg.1 aww wide sh.second ss) (λ b c₅ g₅ hb.
       let r₅ = grow-ready g₅ r₄ in
       let z₅ = grow-sig g₅ (grow-sig g₄ (grow-sig g₃ (grow-sig g₂ (grow-sig g₁ hz)))) in
       let o₅ = grow-sig g₅ (grow-sig g₄ (grow-sig g₃ (grow-sig g₂ (grow-sig g₁ ho)))) in
-      let a : PortExprs = record { writeAddress = wa; writeData = d; writeAsserted = g.writeAsserted; readAddress = ra; readData = r.output; readEnable = r.readEnable; clockEnabled = g.clockEnabled } in
+      let a : PortExprs = record { writeAddress = wa.value; writeData = d.value; writeAsserted = g.value.writeAsserted; readAddress = ra.value; readData = r.output; readEnable = r.readEnable; clockEnabled = g.value.clockEnabled } in
       let ha : FitPort c₅ r.width aw a = record {
-        write-address = grow-exp g₅ (grow-exp g₄ (grow-exp g₃ (grow-exp g₂ hwa)));
-        write-data = subst (λ (j : ℕ). Exp c₅ d j Any) k (grow-exp g₅ (grow-exp g₄ hd));
-        write-asserted = grow-exp g₅ hg.0;
-        read-address = grow-exp g₅ (grow-exp g₄ (grow-exp g₃ hra));
-        clock-enabled = grow-enabled g₅ hg.1;
+        write-address = grow-exp g₅ (grow-exp g₄ (grow-exp g₃ (grow-exp g₂ hwa.0)));
+        write-data = subst (λ (j : ℕ). Exp c₅ d.value j Any) k (grow-exp g₅ (grow-exp g₄ hd.0));
+        write-asserted = grow-exp g₅ hg.0.0;
+        read-address = grow-exp g₅ (grow-exp g₄ (grow-exp g₃ hra.0));
+        clock-enabled = grow-enabled g₅ hg.0.1;
       } in
       fit-bind (fit-signal room m r₅ z₅ o₅ r.clock) (λ clock c₆ g₆ hk.
       let r₆ = grow-ready g₆ r₅ in
-      fit-bind (fit_words room r.width aw wide aww a b owner r.depth 0 [] r₆.many (grow-port g₆ ha) (grow-second g₆ hb.0) (omega (arith, ad.covers)) no_word) (λ ws c₇ g₇ hw.
+      fit-bind (fit_words room r.width aw wide aww a b.value owner r.depth 0 [] r₆.many (grow-port g₆ ha) (grow-second g₆ hb.0.0) (omega (arith, ad.covers)) no_word) (λ ws c₇ g₇ hw.
       let r₇ = grow-ready g₇ r₆ in
       let fits : length ws ≤ 2 ^ aw = omega (arith, hw.1, ad.covers) in
-      fit-bind (fit-read-port a ws r.width aw clock r.edge wide aww r₇ (grow-sig g₇ (grow-sig g₆ z₅)) (grow-sig g₇ (grow-sig g₆ o₅)) (grow-port g₇ (grow-port g₆ ha)) fits hw.0 (grow-sig g₇ hk) edge (control-level limits r.readEnable sh.readEnable) su) (λ x c₈ g₈ u.
-      fit-bind (fit-second-port b ws r.width aw clock r.edge wide aww (grow-ready g₈ r₇) (grow-sig g₈ (grow-sig g₇ (grow-sig g₆ z₅))) (grow-sig g₈ (grow-sig g₇ (grow-sig g₆ o₅))) (grow-second g₈ (grow-second g₇ (grow-second g₆ hb.0))) fits (grow-words g₈ hw.0) (grow-sig g₈ (grow-sig g₇ hk)) edge hb.1) (λ x c₉ g₉ u.
-      fit-updates room r.width aw wide aww ws clock r.edge (grow-words g₉ (grow-words g₈ hw.0)) (grow-sig g₉ (grow-sig g₈ (grow-sig g₇ hk))) edge)))))))))
+      let own : FitOwn c₇ r.width (ownRead b.seen r.output) = grow-own g₇ (grow-own g₆ (fit-own-read {m = m} r.width r.output hb.1 (λ q. omega (arith, q, sh.output.0)))) in
+      let own₂ : FitOwn c₇ r.width (ownRead b.seen (secondOutput r.second)) = grow-own g₇ (grow-own g₆ (fit-own-read {m = m} r.width (secondOutput r.second) hb.1 (second-one-bit limits r.width r.second sh.second))) in
+      fit-bind (fit-read-port a (ownRead b.seen r.output) ws r.width aw clock r.edge own wide aww r₇ (grow-sig g₇ (grow-sig g₆ z₅)) (grow-sig g₇ (grow-sig g₆ o₅)) (grow-port g₇ (grow-port g₆ ha)) fits hw.0 (grow-sig g₇ hk) edge (control-level limits r.readEnable sh.readEnable) su) (λ x c₈ g₈ u.
+      fit-bind (fit-second-port b.value (ownRead b.seen (secondOutput r.second)) ws r.width aw clock r.edge (grow-own g₈ own₂) wide aww (grow-ready g₈ r₇) (grow-sig g₈ (grow-sig g₇ (grow-sig g₆ z₅))) (grow-sig g₈ (grow-sig g₇ (grow-sig g₆ o₅))) (grow-second g₈ (grow-second g₇ (grow-second g₆ hb.0.0))) fits (grow-words g₈ hw.0) (grow-sig g₈ (grow-sig g₇ hk)) edge hb.0.1) (λ x c₉ g₉ u.
+      fit-last _ (fit-updates room r.width aw wide aww ws clock r.edge (grow-words g₉ (grow-words g₈ hw.0)) (grow-sig g₉ (grow-sig g₈ (grow-sig g₇ hk))) edge))))))))))
 
 -- DISTRIBUTED RAM
 
@@ -329,25 +360,25 @@ module _ {widest words : ℕ} {D : ℕ → ℕ → Type 0} (room : 36 ≤ widest
       fit-bind (emit-mux (four-wide room) he (exp-so f (grow-exp g₂ (grow-exp g₁ x.current))) (grow-exp g₂ (grow-exp g₁ k))) (λ v c₃ g₃ hv.
       fit-dram-select address (suc index) ws v f (grow-exp g₃ (grow-exp g₂ (grow-exp g₁ ha))) (omega (arith, hi)) (grow-words g₃ (grow-words g₂ (grow-words g₁ h))) hv)))
 
-  pub fit-distributed-ram : (m : Wires) (z : Constants) (owner : ℕ) (r : DistributedRam) {c : Context} → Ready words c m → Sig c z.zero.0 1 → Sig c z.one.0 1 → r.edge ≤ 1
-      → Suits D words m (get_or r.output 0 0) 4 (λ y. From m r.readAddress y ⊎ (words ≤ y)) → Fit widest words D c (emitDistributedRam m z owner r) (λ x c'. Unit {0})
+  pub fit-distributed-ram : (m : Wires) (z : Constants) (owner : ℕ) (r : DistributedRam) {c : Context} → Ready words c m → {seen : Seen} → Stood c m seen → Sig c z.zero.0 1 → Sig c z.one.0 1 → r.edge ≤ 1
+      → Suits D words m (get_or r.output 0 0) 4 (λ y. From m r.readAddress y ⊎ (words ≤ y)) → Fit widest words D c (emitDistributedRam m z seen owner r) (λ x c'. Unit {0})
   unfolding emitDistributedRam
-  fit-distributed-ram m z owner r ready hz ho edge su =
+  fit-distributed-ram m z owner r ready stood hz ho edge su =
       let four : Wide widest 4 = four-wide room in
-      fit-bind (fit-vector room m {S = Any} r.writeAddress 0 4 ready four (λ y q. tt)) (λ wa c₁ g₁ hwa.
+      fit-bind (fit-vector-once room m {S = Any} r.writeAddress 0 4 ready stood four (λ y q. tt)) (λ wa c₁ g₁ hwa.
       let r₁ = grow-ready g₁ ready in
-      fit-bind (fit-vector room m {S = λ y. From m r.readAddress y ⊎ (words ≤ y)} r.readAddress 0 4 r₁ four (λ y q. inl q)) (λ ra c₂ g₂ hra.
+      fit-bind (fit-vector-once room m {S = λ y. From m r.readAddress y ⊎ (words ≤ y)} r.readAddress 0 4 r₁ hwa.1 four (λ y q. inl q)) (λ ra c₂ g₂ hra.
       let r₂ = grow-ready g₂ r₁ in
-      fit-bind (fit-vector room m {S = Any} r.input 0 4 r₂ four (λ y q. tt)) (λ d c₃ g₃ hd.
+      fit-bind (fit-vector-once room m {S = Any} r.input 0 4 r₂ hra.1 four (λ y q. tt)) (λ d c₃ g₃ hd.
       let r₃ = grow-ready g₃ r₂ in
-      fit-bind (fit-asserted room m {S = Any} r₃ r.write (λ y q. tt)) (λ y c₄ g₄ hy.
+      fit-bind (fit-asserted-once room m {S = Any} r₃ hd.1 r.write (λ y q. tt)) (λ y c₄ g₄ hy.
       let r₄ = grow-ready g₄ r₃ in
       fit-bind (fit-signal room m r₄ (grow-sig g₄ (grow-sig g₃ (grow-sig g₂ (grow-sig g₁ hz)))) (grow-sig g₄ (grow-sig g₃ (grow-sig g₂ (grow-sig g₁ ho)))) r.clock) (λ clock c₅ g₅ hk.
       let r₅ = grow-ready g₅ r₄ in
-      let ra₅ = grow-exp g₅ (grow-exp g₄ (grow-exp g₃ hra)) in
-      let p : PortExprs = record { writeAddress = wa; writeData = d; writeAsserted = y; readAddress = ra; readData = r.output; readEnable = none; clockEnabled = none } in
-      let hp : FitPort c₅ 4 4 p = record { write-address = grow-exp g₅ (grow-exp g₄ (grow-exp g₃ (grow-exp g₂ hwa))); write-data = grow-exp g₅ (grow-exp g₄ hd); write-asserted = grow-exp g₅ hy; read-address = any ra₅; clock-enabled = no-enable } in
+      let ra₅ = grow-exp g₅ (grow-exp g₄ (grow-exp g₃ hra.0)) in
+      let p : PortExprs = record { writeAddress = wa.value; writeData = d.value; writeAsserted = y.value; readAddress = ra.value; readData = r.output; readEnable = none; clockEnabled = none } in
+      let hp : FitPort c₅ 4 4 p = record { write-address = grow-exp g₅ (grow-exp g₄ (grow-exp g₃ (grow-exp g₂ hwa.0))); write-data = grow-exp g₅ (grow-exp g₄ hd.0); write-asserted = grow-exp g₅ hy.0; read-address = any ra₅; clock-enabled = no-enable } in
       fit-bind (fit-dram-words p owner clock r.edge 16 0 [] r₅.many hp hk edge (omega arith) no_word) (λ ws c₆ g₆ hw.
       fit-bind (emit-const {S = λ y. From m r.readAddress y ⊎ (words ≤ y)} four (pow_pos 4)) (λ e c₇ g₇ he.
-      fit-bind (fit-dram-select ra 0 ws e (λ y q. inr q) (grow-exp g₇ (grow-exp g₆ ra₅)) (omega (arith, hw.1)) (grow-words g₇ hw.0) he) (λ v c₈ g₈ hv.
-      fit-assign room m (get_or r.output 0 0) (grow-ready g₈ (grow-ready g₇ (grow-ready g₆ r₅))) su hv))))))))
+      fit-bind (fit-dram-select ra.value 0 ws e (λ y q. inr q) (grow-exp g₇ (grow-exp g₆ ra₅)) (omega (arith, hw.1)) (grow-words g₇ hw.0) he) (λ v c₈ g₈ hv.
+      fit-last _ (fit-assign room m (get_or r.output 0 0) (grow-ready g₈ (grow-ready g₇ (grow-ready g₆ r₅))) su hv)))))))))

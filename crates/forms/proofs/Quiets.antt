@@ -23,9 +23,10 @@ use Rattle.optimize.specs.Lut.{low_of, high_of, fullTable, joinCofactors, lutCof
 use Rattle.behaviour.specs.Banks.{Member}
 use Rattle.wires.specs.declared.Constants.{Constants}
 use Rattle.wires.specs.Wires.{WireRef, Wires}
-use Rattle.wires.specs.Expressions.{refOf, wireRef, bitExpression, whole, bitSignal, assertedExpression, concatParts, vectorParts, vectorExpression, readBits}
+use Rattle.wires.specs.Seen.{Seen, standing, Reading, keeping, forgetting}
+use Rattle.wires.specs.Expressions.{refOf, wireRef, bitExpression, whole, bitSignal, assertedExpression, readOnce, bitOnce, assertedOnce, concatParts, vectorParts, vectorOnce, vectorExpression, readBits}
 use Rattle.address_mux.specs.AddressMux.{Node, muxLevel, muxLevels}
-use Rattle.memories.specs.Memories.{Word, PortExprs, gate, writeWord, writeSecond, candidatesFrom, enableOf, nextRead, secondExprs, dramSelect}
+use Rattle.memories.specs.Memories.{Word, PortExprs, gate, writeWord, writeSecond, candidatesFrom, enableOf, ownExpression, nextRead, secondExprs, dramSelect}
 use Rattle.lowering.specs.Emit.{withEnable, withReset, nextBit, nextBits, resetBits, bankReset}
 use Rattle.forms.specs.Acts.{Quiet}
 
@@ -49,6 +50,13 @@ quiet_bind {A} {B} {w} {k} f g = record { signals = λ n. one n (w n).end; stmts
     two : (n : Count) (y : End A) → stmtsOf (after (w n).events y (further n (w n).events) k).events ≡ []
     two n (ok a) = stmts-append (w n).events (k a (further n (w n).events)).events ∙ ap₂ (λ (x y : List Stmt). x ++ y) (f.stmts n) ((g a).stmts (further n (w n).events))
     two n (no x y) = f.stmts n
+
+-- the last step of a cell's, and of a cell
+pub quiet-keeping : {A : Type 0} {w : Writer A} (seen : Seen) → Quiet w → Quiet (keeping seen w)
+quiet-keeping seen q = quiet_bind q (λ a. quiet-pure)
+
+pub quiet-forgetting : {A : Type 0} {w : Writer (Reading A)} → Quiet w → Quiet (forgetting w)
+quiet-forgetting q = quiet_bind q (λ r. quiet-pure)
 
 -- WIRES
 
@@ -77,10 +85,26 @@ module _ (m : Wires) where
   unfolding assertedExpression
   quiet-asserted c = quiet_bind (quiet-bit c.signal) (λ e. by-test (λ (x : Writer ℕ). Quiet x) (eqb c.active 1) (λ q. quiet-pure) (λ q. quiet-emit))
 
-  quiet-parts : (bits : List Bit) (at k : ℕ) (ps : List ℕ) → Quiet (vectorParts m bits at k ps)
+  -- in a cell
+
+  pub quiet-once : (seen : Seen) (b : Bit) → Quiet (bitOnce m seen b)
+  unfolding bitOnce
+  quiet-once seen Zero = quiet-pure
+  quiet-once seen One = quiet-pure
+  quiet-once seen (Wire w) = go (standing seen w)
+    where
+      go : (o : Option ℕ) → Quiet (readOnce o m seen w)
+      go none = quiet_bind (quiet-bit (Wire w)) (λ e. quiet-pure)
+      go (some e) = quiet-pure
+
+  pub quiet-asserted-once : (seen : Seen) (c : Control) → Quiet (assertedOnce m seen c)
+  unfolding assertedOnce
+  quiet-asserted-once seen c = quiet_bind (quiet-once seen c.signal) (λ r. quiet-keeping r.seen (by-test (λ (x : Writer ℕ). Quiet x) (eqb c.active 1) (λ q. quiet-pure) (λ q. quiet-emit)))
+
+  quiet-parts : (seen : Seen) (bits : List Bit) (at k : ℕ) (ps : List ℕ) → Quiet (vectorParts m seen bits at k ps)
   unfolding vectorParts
-  quiet-parts bits at zero ps = quiet-pure
-  quiet-parts bits at (suc k) ps = quiet_bind (quiet-bit (get_or bits (at + k) Zero)) (λ e. quiet-parts bits at k (ps ++ (e ∷ [])))
+  quiet-parts seen bits at zero ps = quiet-pure
+  quiet-parts seen bits at (suc k) ps = quiet_bind (quiet-once seen (get_or bits (at + k) Zero)) (λ r. quiet-parts r.seen bits at k (ps ++ (r.value ∷ [])))
 
   pub quiet-concat : (ps : List ℕ) → Quiet (concatParts ps)
   unfolding concatParts
@@ -88,14 +112,18 @@ module _ (m : Wires) where
   quiet-concat (e ∷ []) = quiet-pure
   quiet-concat (e ∷ f ∷ es) = quiet-emit
 
+  pub quiet-vector-once : (seen : Seen) (bits : List Bit) (at k : ℕ) → Quiet (vectorOnce m seen bits at k)
+  unfolding vectorOnce
+  quiet-vector-once seen bits at k = quiet_bind (quiet-parts seen bits at k []) (λ r. quiet-keeping r.seen (quiet-concat r.value))
+
   pub quiet-vector : (bits : List Bit) (at k : ℕ) → Quiet (vectorExpression m bits at k)
   unfolding vectorExpression
-  quiet-vector bits at k = quiet_bind (quiet-parts bits at k []) (λ ps. quiet-concat ps)
+  quiet-vector bits at k = quiet-forgetting (quiet-vector-once [] bits at k)
 
-  pub quiet-reads : (bits : List Bit) (ps : List ℕ) → Quiet (readBits m bits ps)
+  pub quiet-reads : (seen : Seen) (bits : List Bit) (ps : List ℕ) → Quiet (readBits m seen bits ps)
   unfolding readBits
-  quiet-reads [] ps = quiet-pure
-  quiet-reads (b ∷ bs) ps = quiet_bind (quiet-bit b) (λ e. quiet-reads bs (ps ++ (e ∷ [])))
+  quiet-reads seen [] ps = quiet-pure
+  quiet-reads seen (b ∷ bs) ps = quiet_bind (quiet-once seen b) (λ r. quiet-reads r.seen bs (ps ++ (r.value ∷ [])))
 
 -- REWRITES AND TABLES
 
@@ -148,10 +176,10 @@ quiet-levels (suc fuel) width [] e = quiet-pure
 quiet-levels (suc fuel) width (n ∷ []) e = quiet-emit
 quiet-levels (suc fuel) width (l ∷ r ∷ ns) e = quiet_bind (quiet-level width (l ∷ r ∷ ns) []) (λ next. quiet-levels fuel width next e)
 
-pub quiet-gate : (m : Wires) (write : Control) (o : Option Control) → Quiet (gate m write o)
+pub quiet-gate : (m : Wires) (seen : Seen) (write : Control) (o : Option Control) → Quiet (gate m seen write o)
 unfolding gate
-quiet-gate m write none = quiet_bind (quiet-asserted m write) (λ y. quiet-pure)
-quiet-gate m write (some enable) = quiet_bind (quiet-asserted m write) (λ y. quiet_bind (quiet-asserted m enable) (λ c. quiet_bind quiet-emit (λ g. quiet-pure)))
+quiet-gate m seen write none = quiet_bind (quiet-asserted-once m seen write) (λ y. quiet-pure)
+quiet-gate m seen write (some enable) = quiet_bind (quiet-asserted-once m seen write) (λ y. quiet_bind (quiet-asserted-once m y.seen enable) (λ c. quiet_bind quiet-emit (λ g. quiet-pure)))
 
 pub quiet_write : (p : PortExprs) (width aw index now : ℕ) → Quiet (writeWord p width aw index now)
 unfolding writeWord
@@ -170,13 +198,17 @@ pub quiet-enable : (m : Wires) (z : Constants) (o : Option Control) → Quiet (e
 quiet-enable m z none = quiet-pure
 quiet-enable m z (some c) = quiet_bind (quiet-signal m z c.signal) (λ s. quiet-pure)
 
-pub quiet-next-read : (o : Option ℕ) (width target word : ℕ) → Quiet (nextRead o width target word)
-quiet-next-read none width target word = quiet-pure
-quiet-next-read (some c) width target word = quiet_bind quiet-emit (λ own. quiet-emit)
+quiet-own : (o : Option ℕ) (width target : ℕ) → Quiet (ownExpression o width target)
+quiet-own none width target = quiet-emit
+quiet-own (some e) width target = quiet-pure
 
-pub quiet-exprs : (m : Wires) (shift aw : ℕ) (o : Option SecondPort) → Quiet (secondExprs m shift aw o)
-quiet-exprs m shift aw none = quiet-pure
-quiet-exprs m shift aw (some p) = quiet_bind (quiet-vector m p.address shift aw) (λ a. quiet_bind (quiet-vector m p.input 0 (length p.input)) (λ d. quiet_bind (quiet-gate m p.write p.clockEnable) (λ g. quiet-pure)))
+pub quiet-next-read : (o own : Option ℕ) (width target word : ℕ) → Quiet (nextRead o own width target word)
+quiet-next-read none own width target word = quiet-pure
+quiet-next-read (some c) own width target word = quiet_bind (quiet-own own width target) (λ e. quiet-emit)
+
+pub quiet-exprs : (m : Wires) (seen : Seen) (shift aw : ℕ) (o : Option SecondPort) → Quiet (secondExprs m seen shift aw o)
+quiet-exprs m seen shift aw none = quiet-pure
+quiet-exprs m seen shift aw (some p) = quiet_bind (quiet-vector-once m seen p.address shift aw) (λ a. quiet_bind (quiet-vector-once m a.seen p.input 0 (length p.input)) (λ d. quiet_bind (quiet-gate m d.seen p.write p.clockEnable) (λ g. quiet-pure)))
 
 pub quiet-select : (address index : ℕ) (ws : List Word) (now : ℕ) → Quiet (dramSelect address index ws now)
 unfolding dramSelect

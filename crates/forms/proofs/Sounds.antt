@@ -245,7 +245,7 @@ module _ (widest : ℕ) (limits : Limits) (room : 36 ≤ widest) where
   all-words-plain c [] f = tt
   all-words-plain c (x ∷ xs) f = each_append (Plain widest) (cellWords c x) (allWords (suc c) xs) (cell-words-plain c x f.0) (all-words-plain (suc c) xs f.1)
 
-module _ {limits : Limits} {n : Netlist} (a : Lowered limits n) {widest : ℕ} (r : Roomy limits widest) where
+module _ {shared : ℕ} {limits : Limits} {n : Netlist} (a : Lowered shared limits n) {widest : ℕ} (r : Roomy limits widest) where
   abbrev s₀ : Signal
   s₀ = noSignal
 
@@ -263,25 +263,25 @@ module _ {limits : Limits} {n : Netlist} (a : Lowered limits n) {widest : ℕ} (
   label-few (pins c k) l h = h.1
   label-few (bank cells) l h = h.1
 
-  late-wide : (s : ℕ) → s < length (slots n) → Late n (get_or (slots n) s no_slot) → Wide widest (get_or (loweredModel n).signals s s₀).width
+  late-wide : (s : ℕ) → s < length (slots n) → Late n (get_or (slots n) s no_slot) → Wide widest (get_or (loweredModel shared n).signals s s₀).width
   late-wide s h (of-cell o) =
       let f = slot-fits a s h in
       let g = o.of-group.group in
-      let e : (get_or (loweredModel n).signals s s₀).width ≡ length g.wires = subst (λ (x : Slot). WidthFits x.source (length x.bits) (get_or (loweredModel n).signals s s₀).width) o.of-group.is f.width ∙ length-map g.wires Wire in
+      let e : (get_or (loweredModel shared n).signals s s₀).width ≡ length g.wires = subst (λ (x : Slot). WidthFits x.source (length x.bits) (get_or (loweredModel shared n).signals s s₀).width) o.of-group.is f.width ∙ length-map g.wires Wire in
       let q = each_at (FitsCell limits) n.cells o.place absent a.fits.cells o.inside in
       (omega (arith, e, group-some limits (get_or n.cells o.place absent) g q o.of-group.one_of), omega (arith, e, group-few limits (get_or n.cells o.place absent) g q o.of-group.one_of, r.products))
   late-wide s h (of-bank b q is) =
       let f = slot-fits a s h in
-      let e : (get_or (loweredModel n).signals s s₀).width ≡ length b.members = subst (λ (x : Slot). WidthFits x.source (length x.bits) (get_or (loweredModel n).signals s s₀).width) is f.width ∙ length-map (outputsOf b.members) Wire ∙ length-map b.members (λ (m : Member). m.flop.output) in
+      let e : (get_or (loweredModel shared n).signals s s₀).width ≡ length b.members = subst (λ (x : Slot). WidthFits x.source (length x.bits) (get_or (loweredModel shared n).signals s s₀).width) is f.width ∙ length-map (outputsOf b.members) Wire ∙ length-map b.members (λ (m : Member). m.flop.output) in
       let w = bank-wide b q in
       (omega (arith, e, w.0), omega (arith, e, w.1))
 
-  slot-wide : (s : ℕ) → s < length (slots n) → Wide widest (get_or (loweredModel n).signals s s₀).width
+  slot-wide : (s : ℕ) → s < length (slots n) → Wide widest (get_or (loweredModel shared n).signals s s₀).width
   slot-wide s h = go (dec_lt s (length n.ports))
     where
-      go : Dec (s < length n.ports) → Wide widest (get_or (loweredModel n).signals s s₀).width
+      go : Dec (s < length n.ports) → Wide widest (get_or (loweredModel shared n).signals s s₀).width
       go (yes q) =
-          let e : (get_or (loweredModel n).signals s s₀).width ≡ length (get_or n.ports s noPort').bits = ap (λ (x : Signal). x.width) (port-signal a s q) ∙ port-width 0 n.ports s q in
+          let e : (get_or (loweredModel shared n).signals s s₀).width ≡ length (get_or n.ports s noPort').bits = ap (λ (x : Signal). x.width) (port-signal a s q) ∙ port-width 0 n.ports s q in
           let w = port-plain s q in
           (omega (arith, e, w.0), omega (arith, e, w.1))
       go (no q) = late-wide s h (slot-late n s (omega arith) h)
@@ -292,7 +292,7 @@ module _ {limits : Limits} {n : Netlist} (a : Lowered limits n) {widest : ℕ} (
   slots-plain : Each (Plain widest) (slot-signals a)
   slots-plain = each_from a (Plain widest) s₀ (slot-signals a) (λ i h. slot-plain i (omega (arith, h, slot-count a)))
 
-  pub signals-plain : Each (Plain widest) (loweredModel n).signals
+  pub signals-plain : Each (Plain widest) (loweredModel shared n).signals
   signals-plain =
       subst (Each (Plain widest)) (sym (signals-are a))
       (each_append (Plain widest) (slot-signals a) (netlistWords n) slots-plain
@@ -319,27 +319,27 @@ module _ {limits : Limits} {n : Netlist} (a : Lowered limits n) {widest : ℕ} (
   there-count : length c₀.signals ≡ length (slots n)
   there-count = ap length there-signals ∙ length-map (slot-signals a) _ ∙ slot-count a
 
-  signal-at : (s w : ℕ) → s < length (slots n) → (get_or (loweredModel n).signals s s₀).width ≡ w → Sig c₀ s w
+  signal-at : (s w : ℕ) → s < length (slots n) → (get_or (loweredModel shared n).signals s s₀).width ≡ w → Sig c₀ s w
   signal-at s w h e = record {
     there = omega (arith, h, there-count);
     width = ap (λ (l : List ℕ). get_or l s 0) there-signals ∙ get_or-map (λ (x : Signal). x.width) (slot-signals a) s s₀ ∙ ap (λ (x : Signal). x.width) (sym (slot-signal a s h)) ∙ e;
   }
 
-  held-width : (s : ℕ) → s < length (slots n) → 1 ≤ length (get_or (slots n) s no_slot).bits → (get_or (loweredModel n).signals s s₀).width ≡ length (get_or (slots n) s no_slot).bits
+  held-width : (s : ℕ) → s < length (slots n) → 1 ≤ length (get_or (slots n) s no_slot).bits → (get_or (loweredModel shared n).signals s s₀).width ≡ length (get_or (slots n) s no_slot).bits
   held-width s h some_bits = go (dec_lt s (length n.ports))
     where
-      by-source : (x : Source) → (get_or (slots n) s no_slot).source ≡ x → WidthFits x (length (get_or (slots n) s no_slot).bits) (get_or (loweredModel n).signals s s₀).width
-      by-source x e = subst (λ (y : Source). WidthFits y (length (get_or (slots n) s no_slot).bits) (get_or (loweredModel n).signals s s₀).width) e (slot-fits a s h).width
+      by-source : (x : Source) → (get_or (slots n) s no_slot).source ≡ x → WidthFits x (length (get_or (slots n) s no_slot).bits) (get_or (loweredModel shared n).signals s s₀).width
+      by-source x e = subst (λ (y : Source). WidthFits y (length (get_or (slots n) s no_slot).bits) (get_or (loweredModel shared n).signals s s₀).width) e (slot-fits a s h).width
 
-      ported : PortSlot (get_or (slots n) s no_slot) → (get_or (loweredModel n).signals s s₀).width ≡ length (get_or (slots n) s no_slot).bits
+      ported : PortSlot (get_or (slots n) s no_slot) → (get_or (loweredModel shared n).signals s s₀).width ≡ length (get_or (slots n) s no_slot).bits
       ported (gives k e) = by-source (inputs k) e
       ported (shows e) = absurd (omega (arith, some_bits, ap length e))
 
-      late : Late n (get_or (slots n) s no_slot) → (get_or (loweredModel n).signals s s₀).width ≡ length (get_or (slots n) s no_slot).bits
+      late : Late n (get_or (slots n) s no_slot) → (get_or (loweredModel shared n).signals s s₀).width ≡ length (get_or (slots n) s no_slot).bits
       late (of-cell o) = by-source (pins (0 + o.place) o.of-group.group.pin) (ap (λ (x : Slot). x.source) o.of-group.is)
       late (of-bank b q e) = by-source _ (ap (λ (x : Slot). x.source) e)
 
-      go : Dec (s < length n.ports) → (get_or (loweredModel n).signals s s₀).width ≡ length (get_or (slots n) s no_slot).bits
+      go : Dec (s < length n.ports) → (get_or (loweredModel shared n).signals s s₀).width ≡ length (get_or (slots n) s no_slot).bits
       go (yes q) = ported (subst PortSlot (sym (ports-first n s q)) (port-slot n.ports 0 s q))
       go (no q) = late (slot-late n s (omega arith) h)
 
@@ -390,7 +390,7 @@ module _ {limits : Limits} {n : Netlist} (a : Lowered limits n) {widest : ℕ} (
     ports = each_from a (λ (x : Port). Wide widest (length x.bits)) noPort' n.ports port-plain;
     ports-suit = ports-suit a;
     ports-there = ports-there 0 n.ports (λ i h. signal-at (0 + i) (length (get_or n.ports i noPort').bits) (omega (arith, h, ports-within n))
-        (ap (λ (k : ℕ). (get_or (loweredModel n).signals k s₀).width) (let z : 0 + i ≡ i = omega arith in z) ∙ ap (λ (x : Signal). x.width) (port-signal a i h) ∙ port-width 0 n.ports i h));
+        (ap (λ (k : ℕ). (get_or (loweredModel shared n).signals k s₀).width) (let z : 0 + i ≡ i = omega arith in z) ∙ ap (λ (x : Signal). x.width) (port-signal a i h) ∙ port-width 0 n.ports i h));
   }
 
   -- ALL RECORDS ARE GOOD
@@ -402,10 +402,10 @@ module _ {limits : Limits} {n : Netlist} (a : Lowered limits n) {widest : ℕ} (
   signals-good c (stmt t ∷ xs) e f h = absurd (let z : suc (length (stmtsOf xs)) ≡ 0 = ap length f in omega (arith, z))
 
   abbrev rest : List Event
-  rest = (emitNetlist n a.wires (further none_yet es)).events
+  rest = (emitNetlist shared n a.wires (further none_yet es)).events
 
-  events-are : (lowerNetlist n none_yet).events ≡ es ++ rest
-  events-are = ap (λ (o : Out (Unit {0})). o.events) (lowering-is limits n a.fits.cells a.wires a.reserved)
+  events-are : (lowerNetlist shared n none_yet).events ≡ es ++ rest
+  events-are = ap (λ (o : Out (Unit {0})). o.events) (lowering-is shared limits n a.fits.cells a.wires a.reserved)
 
   nothing_read : length (readsAll [] []) ≡ 0
   unfolding readsAll
@@ -418,25 +418,25 @@ module _ {limits : Limits} {n : Netlist} (a : Lowered limits n) {widest : ℕ} (
     reads = omega (arith, ap length (kept a).exprs, ap length (grown-reads empty es ∙ ap (readsAll []) (kept a).exprs), nothing_read);
   }
 
-  pub lowering-good : GoodAll widest (first_word n) D empty (lowerNetlist n none_yet).events
+  pub lowering-good : GoodAll widest (first_word n) D empty (lowerNetlist shared n none_yet).events
   lowering-good =
       subst (GoodAll widest (first_word n) D empty) (sym events-are)
       (good-append widest (first_word n) D empty es rest (signals-good empty es (kept a).exprs (kept a).stmts (subst (Each (Plain widest)) (sym reserved-signals) slots-plain))
-      ((fit-netlist n a.wires suited).fit (further none_yet es) numbered).0)
+      ((fit-netlist shared n a.wires suited).fit (further none_yet es) numbered).0)
 
   -- SOUND
 
   abbrev F : Context
-  F = growAll empty (lowerNetlist n none_yet).events
+  F = growAll empty (lowerNetlist shared n none_yet).events
 
-  F-signals : F.signals ≡ signalWidths (loweredModel n)
-  F-signals = grown-signals empty (lowerNetlist n none_yet).events
+  F-signals : F.signals ≡ signalWidths (loweredModel shared n)
+  F-signals = grown-signals empty (lowerNetlist shared n none_yet).events
 
-  F-exprs : F.exprs ≡ exprWidths (loweredModel n)
-  F-exprs = grown-exprs empty (lowerNetlist n none_yet).events
+  F-exprs : F.exprs ≡ exprWidths (loweredModel shared n)
+  F-exprs = grown-exprs empty (lowerNetlist shared n none_yet).events
 
-  F-reads : F.reads ≡ readsAll [] (loweredModel n).exprs
-  F-reads = grown-reads empty (lowerNetlist n none_yet).events
+  F-reads : F.reads ≡ readsAll [] (loweredModel shared n).exprs
+  F-reads = grown-reads empty (lowerNetlist shared n none_yet).events
 
   stays : Grows F F
   stays = record { signals = λ s w h. h; exprs = λ e w h. h; reads = λ e h. (h, refl); many = omega arith }
@@ -449,9 +449,9 @@ module _ {limits : Limits} {n : Netlist} (a : Lowered limits n) {widest : ℕ} (
       go true e = omega (arith, e)
       go false e = omega (arith, e)
 
-  pub drivers-are : (s : ℕ) → s < length (loweredModel n).signals → drivers (loweredModel n) s ≡ allowed (get_or (loweredModel n).signals s s₀)
+  pub drivers-are : (s : ℕ) → s < length (loweredModel shared n).signals → drivers (loweredModel shared n) s ≡ allowed (get_or (loweredModel shared n).signals s s₀)
   unfolding on-signal
-  drivers-are s h = count-occurs s (loweredModel n).stmts ∙ ap (occurs s) (targets-are a) ∙ one-statement a s h
+  drivers-are s h = count-occurs s (loweredModel shared n).stmts ∙ ap (occurs s) (targets-are a) ∙ one-statement a s h
 
   allowed-is : (x : Signal) → allowed x ≡ statements x.label
   allowed-is x = go x.label refl
@@ -460,26 +460,26 @@ module _ {limits : Limits} {n : Netlist} (a : Lowered limits n) {widest : ℕ} (
       go zero e = ap {B = ℕ} (λ (b : Bool). pick b 0 1) (eq-eqb x.label 0 e)
       go (suc l) e = ap {B = ℕ} (λ (b : Bool). pick b 0 1) (ne_eqb x.label 0 (omega (arith, e)))
 
-  signals-from : (j : ℕ) (xs : List Signal) → Each (Plain widest) xs → ((i : ℕ) → i < length xs → drivers (loweredModel n) (j + i) ≡ allowed (get_or xs i s₀)) → AllFrom (λ k. signalFits widest (drivers (loweredModel n) k)) j xs
+  signals-from : (j : ℕ) (xs : List Signal) → Each (Plain widest) xs → ((i : ℕ) → i < length xs → drivers (loweredModel shared n) (j + i) ≡ allowed (get_or xs i s₀)) → AllFrom (λ k. signalFits widest (drivers (loweredModel shared n) k)) j xs
   signals-from j [] f g = tt
   signals-from j (x ∷ xs) f g = (
-    both (both (le-leb x.label 15 f.0.label) (in-range f.0.width)) (eq-eqb (drivers (loweredModel n) j) (statements x.label) (ap (drivers (loweredModel n)) (let z : j ≡ j + 0 = omega arith in z) ∙ g 0 (omega arith) ∙ allowed-is x)),
-    signals-from (suc j) xs f.1 (λ i h. ap (drivers (loweredModel n)) (let z : suc j + i ≡ j + suc i = omega arith in z) ∙ g (suc i) (omega arith)),
+    both (both (le-leb x.label 15 f.0.label) (in-range f.0.width)) (eq-eqb (drivers (loweredModel shared n) j) (statements x.label) (ap (drivers (loweredModel shared n)) (let z : j ≡ j + 0 = omega arith in z) ∙ g 0 (omega arith) ∙ allowed-is x)),
+    signals-from (suc j) xs f.1 (λ i h. ap (drivers (loweredModel shared n)) (let z : suc j + i ≡ j + suc i = omega arith in z) ∙ g (suc i) (omega arith)),
   )
 
   -- every accepted model is sound
-  pub lowered-sound : Sound widest (loweredModel n)
+  pub lowered-sound : Sound widest (loweredModel shared n)
   lowered-sound = record {
-    signals-fit = signals-from 0 (loweredModel n).signals signals-plain (λ i h. ap (drivers (loweredModel n)) (let z : 0 + i ≡ i = omega arith in z) ∙ drivers-are i h);
-    exprs-fit = subst (λ (sw : List ℕ). AllFrom (exprFits widest sw (exprWidths (loweredModel n))) 0 (loweredModel n).exprs) F-signals
-        (subst (λ (ew : List ℕ). AllFrom (exprFits widest F.signals ew) 0 (loweredModel n).exprs) F-exprs (all-exprs widest (first_word n) D F empty (lowerNetlist n none_yet).events stays lowering-good));
-    stmts-fit = subst (λ (sw : List ℕ). AllFrom (λ (i : ℕ). stmtFits sw (exprWidths (loweredModel n))) 0 (loweredModel n).stmts) F-signals
-        (subst (λ (ew : List ℕ). AllFrom (λ (i : ℕ). stmtFits F.signals ew) 0 (loweredModel n).stmts) F-exprs (all-stmts widest (first_word n) D F empty (lowerNetlist n none_yet).events 0 stays lowering-good));
+    signals-fit = signals-from 0 (loweredModel shared n).signals signals-plain (λ i h. ap (drivers (loweredModel shared n)) (let z : 0 + i ≡ i = omega arith in z) ∙ drivers-are i h);
+    exprs-fit = subst (λ (sw : List ℕ). AllFrom (exprFits widest sw (exprWidths (loweredModel shared n))) 0 (loweredModel shared n).exprs) F-signals
+        (subst (λ (ew : List ℕ). AllFrom (exprFits widest F.signals ew) 0 (loweredModel shared n).exprs) F-exprs (all-exprs widest (first_word n) D F empty (lowerNetlist shared n none_yet).events stays lowering-good));
+    stmts-fit = subst (λ (sw : List ℕ). AllFrom (λ (i : ℕ). stmtFits sw (exprWidths (loweredModel shared n))) 0 (loweredModel shared n).stmts) F-signals
+        (subst (λ (ew : List ℕ). AllFrom (λ (i : ℕ). stmtFits F.signals ew) 0 (loweredModel shared n).stmts) F-exprs (all-stmts widest (first_word n) D F empty (lowerNetlist shared n none_yet).events 0 stays lowering-good));
   }
 
   -- and an assignment reads only what its target may depend on
-  pub assigned-reads : (t e : ℕ) → Mem (assign t e) (loweredModel n).stmts → (y : ℕ) → Mem y (get_or (readsAll [] (loweredModel n).exprs) e []) → MayRead n a.wires t y
-  assigned-reads t e h y q = assign_reads widest (first_word n) D F empty (lowerNetlist n none_yet).events stays lowering-good t e h y (subst (λ (l : List (List ℕ)). Mem y (get_or l e [])) (sym F-reads) q)
+  pub assigned-reads : (t e : ℕ) → Mem (assign t e) (loweredModel shared n).stmts → (y : ℕ) → Mem y (get_or (readsAll [] (loweredModel shared n).exprs) e []) → MayRead n a.wires t y
+  assigned-reads t e h y q = assign_reads widest (first_word n) D F empty (lowerNetlist shared n none_yet).events stays lowering-good t e h y (subst (λ (l : List (List ℕ)). Mem y (get_or l e [])) (sym F-reads) q)
 
-  pub assigned-under : (t e : ℕ) → Mem (assign t e) (loweredModel n).stmts → t < first_word n
-  assigned-under t e h = assign-under widest (first_word n) D F empty (lowerNetlist n none_yet).events lowering-good t e h
+  pub assigned-under : (t e : ℕ) → Mem (assign t e) (loweredModel shared n).stmts → t < first_word n
+  assigned-under t e h = assign-under widest (first_word n) D F empty (lowerNetlist shared n none_yet).events lowering-good t e h

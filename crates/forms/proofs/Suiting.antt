@@ -34,7 +34,7 @@ use Rattle.forms.specs.Dependent.{first_word, MayRead, a_word, a-wire}
 use Rattle.forms.proofs.Slots.{Placed, group-slot, bank-slot, ports-first, ports-within}
 use Rattle.forms.proofs.Counting.{slot-signals, mapping, wire-at, bank-is, Located, located, OwnSlot, pll-own, pll-apart, apiece-wire, group-some, leader-first, leader-there}
 
-module _ {limits : Limits} {n : Netlist} (a : Lowered limits n) where
+module _ {shared : ℕ} {limits : Limits} {n : Netlist} (a : Lowered shared limits n) where
   abbrev m : Wires
   m = a.wires
 
