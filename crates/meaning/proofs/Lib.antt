@@ -7,7 +7,9 @@ pub mod Equations
 pub mod Registers
 pub mod Writing
 pub mod Reserving
-pub mod Staying
+pub mod Placing
 pub mod Owned
 pub mod Memories
+pub mod Plains
+pub mod ReadOnce
 pub mod Whole

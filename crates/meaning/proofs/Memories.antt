@@ -282,9 +282,13 @@ secondValue v shift aw none = none
 secondValue v shift aw (some p) = some (portValue v shift aw p)
 
 -- the second port's expressions, and its wires and read enable
-abbrev IsSecond : Option SecondPort → Option PortExprs → Type 0
+abbrev pub IsSecond : Option SecondPort → Option PortExprs → Type 0
 IsSecond none p = p ≡ none
 IsSecond (some q) p = (x : PortExprs) × (p ≡ some x) × (x.readData ≡ q.output) × (x.readEnable ≡ q.readEnable)
+
+pub second-gets : (m : Wires) (seen : Seen) (shift aw : ℕ) (o : Option SecondPort) → Gets (secondExprs m seen shift aw o) (λ b. IsSecond o b.value)
+second-gets m seen shift aw none = gets-pure refl
+second-gets m seen shift aw (some q) = gets-bind (gets-any _) (λ a u. gets-bind (gets-any _) (λ d v. gets-bind (gets-any _) (λ g w. gets-pure (_, refl, refl, refl))))
 
 -- what the second port reads
 abbrev pub SecondRead : Tick → Wires → Constants → ℕ → ℕ → ℕ → PortValue → Option PortValue → Option SecondPort → List ℕ → ℕ → ℕ → Type 0
@@ -305,15 +309,14 @@ module _ {K : Type 0} (κ : K → Tick) (Ω : K → Values) (m : Wires) (z : Con
   second o k = secondValue (now (κ k) m) shift aw o
 
   second-exprs : (o : Option SecondPort) {env : K → Values} {seen : Seen} → Bases env → Knowns κ m env seen
-      → Settles κ Ω env (secondExprs m seen shift aw o) (λ p env'. IsSecond o p.value × ((k : K) → SecondIs (env' k) p.value (second o k)) × Knowns κ m env' p.seen)
-  second-exprs none base known = settles-pure (refl, λ k. tt, known)
+      → Settles κ Ω env (secondExprs m seen shift aw o) (λ p env'. ((k : K) → SecondIs (env' k) p.value (second o k)) × Knowns κ m env' p.seen)
+  second-exprs none base known = settles-pure (λ k. tt, known)
   second-exprs (some q) base known =
       settles-bind (settles-makes (λ k. vector-once m q.address shift aw (base k) (known k))) (λ a env₁ k₁ ha.
       let b₁ = bases-keep k₁ base in
       settles-bind (settles-makes (λ k. vector-once m q.input 0 (length q.input) (b₁ k) (ha k).1)) (λ d env₂ k₂ hd.
       settles-bind (settles-makes (λ k. gate-makes (κ k).before m (base-keeps (k₂ k) (b₁ k)) (hd k).1 q.write q.clockEnable)) (λ g env₃ k₃ hg.
       settles-pure (
-        (_, refl, refl, refl),
         λ k. record { address_is = k₃ k _ _ (k₂ k _ _ (ha k).0); word-is = k₃ k _ _ (hd k).0; asserted-is = (hg k).0; read_is = k₃ k _ _ (k₂ k _ _ (ha k).0); enabled-is = (hg k).1 },
         λ k. (hg k).2,
       ))))
@@ -363,7 +366,7 @@ module _ {K : Type 0} (κ : K → Tick) (Ω : K → Values) (m : Wires) (z : Con
       let b₃ = bases-keep k₃ b₂ in
       settles-bind (settles-makes (λ k. gate-makes (κ k).before m (b₃ k) (hd k).1 r.write r.clockEnable)) (λ g env₄ k₄ hg.
       let b₄ = bases-keep k₄ b₃ in
-      settles-bind (second-exprs κ Ω m z shift aw r.second b₄ (λ k. (hg k).2)) (λ b env₅ k₅ hb.
+      settles-bind (settles-both (settles-gets (second-gets m g.seen shift aw r.second)) (second-exprs κ Ω m z shift aw r.second b₄ (λ k. (hg k).2))) (λ b env₅ k₅ hb.
       settles-bind (settles-gets (signal-gets m z r.clock)) (λ clock env₆ k₆ hc.
       let a : PortExprs = record { writeAddress = wa.value; writeData = d.value; writeAsserted = g.value.writeAsserted; readAddress = ra.value; readData = r.output; readEnable = r.readEnable; clockEnabled = g.value.clockEnabled } in
       let ha : (k : K) → PortIs (env₆ k) a (va k) = λ k. record {
@@ -373,9 +376,9 @@ module _ {K : Type 0} (κ : K → Tick) (Ω : K → Values) (m : Wires) (z : Con
         read_is = k₆ k _ _ (k₅ k _ _ (k₄ k _ _ (k₃ k _ _ (hra k).0)));
         enabled-is = keep-enabled (k₆ k) (keep-enabled (k₅ k) (hg k).1);
       } in
-      let hb₆ : (k : K) → SecondIs (env₆ k) b.value (vb k) = λ k. keep-second (k₆ k) b.value (vb k) (hb.1 k) in
+      let hb₆ : (k : K) → SecondIs (env₆ k) b.value (vb k) = λ k. keep-second (k₆ k) b.value (vb k) (hb.1.0 k) in
       settles-bind (settles-both (settles-gets (words-get a b.value owner r.width aw r.depth 0 [])) (settles-makes (λ k. words-make (κ k).before r.width aw (va k) (vb k) a b.value owner r.depth 0 [] refl (ha k) (hb₆ k) tt))) (λ ws env₇ k₇ hw.
-      let s₇ : Knowns κ m env₇ b.seen = λ k. known-keeps (k₇ k) (known-keeps (k₆ k) (hb.2 k)) in
+      let s₇ : Knowns κ m env₇ b.seen = λ k. known-keeps (k₇ k) (known-keeps (k₆ k) (hb.1.1 k)) in
       settles-bind (read-port-equation κ Ω m z r.width aw va vb a (ownRead b.seen r.output) r.clockEnable (λ k. (va k).readAt) ws clock r.edge (λ k. keep-enabled (k₇ k) (ha k).enabled-is) (λ k. own-is r.output (s₇ k) owned) (λ k. k₇ k _ _ (ha k).read_is) hw.1) (λ u env₈ k₈ first.
       settles-bind (second-read κ Ω m z shift aw r va r.second b.value b.seen ws clock r.edge hb.0 (λ k. keep-second (k₈ k) b.value (vb k) (keep-second (k₇ k) b.value (vb k) (hb₆ k))) (λ k. known-keeps (k₈ k) (s₇ k)) owned₂ (λ k. keep-words (κ k).before r.width aw (va k) (vb k) (k₈ k) 0 ws (hw.1 k))) (λ u env₉ k₉ second.
       settles-keeping b.seen (settles-so (updates-equation κ Ω m z r.width aw va vb ws clock r.edge 0 (λ k. keep-words (κ k).before r.width aw (va k) (vb k) (k₉ k) 0 ws (keep-words (κ k).before r.width aw (va k) (vb k) (k₈ k) 0 ws (hw.1 k)))) (λ x env₁₀ k₁₀ updated.

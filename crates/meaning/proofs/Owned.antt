@@ -22,7 +22,7 @@ use Rattle.behaviour.specs.Banks.{collectFlipFlopBanks}
 use Rattle.behaviour.specs.WireMap.{pins, Slot, find, portSlots, together, secondSlot, reserve, reserveAll, bankSlot, slots}
 use Rattle.wires.specs.Wires.{WireRef, Wires}
 use Rattle.meaning.specs.Mapped.{refOf, no_slot, entry_of, Mapping}
-use Rattle.meaning.proofs.Staying.{placed, all-keeps}
+use Rattle.meaning.proofs.Placing.{placed, each-mem, all-keeps}
 
 -- the wires of a read register
 pub record Owned (m : Wires) (width : ℕ) (output : List ℕ) : Type 0 where
@@ -116,9 +116,5 @@ module _ (limits : Limits) (n : Netlist) (fits : Each (FitsCell limits) n.cells)
   one-owned (jtagg ws) e f = tt
   one-owned (pll p) e f = tt
 
-  each-owned : (xs : List Cell) → ((x : Cell) → Mem x xs → Mem x n.cells) → Each (FitsCell limits) xs → Each (ReadsOwned m) xs
-  each-owned [] f h = tt
-  each-owned (x ∷ xs) f h = (one-owned x (f x (here refl)) h.0, each-owned xs (λ y e. f y (there e)) h.1)
-
-  pub reads-owned : Each (ReadsOwned m) n.cells
-  reads-owned = each-owned n.cells (λ x e. e) fits
+  pub reads-owned : (x : Cell) → Mem x n.cells → ReadsOwned m x
+  reads-owned x e = one-owned x e (each-mem (FitsCell limits) n.cells fits x e)

@@ -112,11 +112,11 @@ module _ {K : Type 0} (κ : K → Tick) (Ω : K → Values) (m : Wires) (z : Con
   cell-does owner (jtagg ws) h own base = no_words (jtagg ws) refl (jtagg-equation κ Ω m ws base)
   cell-does owner (pll p) h own base = no_words (pll p) refl (pll-equation κ Ω m p base)
 
-  all-do : (c : ℕ) (xs : List Cell) {env : K → Values} → Each (FitsCell limits) xs → Each (ReadsOwned m) xs → Bases env → Settles κ Ω env (emitCells shared m z c xs) (λ u env'. Done κ m z xs)
+  all-do : (c : ℕ) (xs : List Cell) {env : K → Values} → Each (FitsCell limits) xs → ((x : Cell) → Mem x xs → ReadsOwned m x) → Bases env → Settles κ Ω env (emitCells shared m z c xs) (λ u env'. Done κ m z xs)
   unfolding emitCells
   all-do c [] h own base = settles-pure (record { words = []; laid = tt; do-all = λ k. tt })
-  all-do c (x ∷ xs) h own base = settles-bind (cell-does c x h.0 own.0 base) (λ u env₁ kp d.
-      settles-so (all-do (suc c) xs h.1 own.1 (bases-keep kp base)) (λ v env₂ k₂ r. record { words = d.words ∷ r.words; laid = (d.count, r.laid); do-all = λ k. (d.stored k, r.do-all k) }))
+  all-do c (x ∷ xs) h own base = settles-bind (cell-does c x h.0 (own x (here refl)) base) (λ u env₁ kp d.
+      settles-so (all-do (suc c) xs h.1 (λ y e. own y (there e)) (bases-keep kp base)) (λ v env₂ k₂ r. record { words = d.words ∷ r.words; laid = (d.count, r.laid); do-all = λ k. (d.stored k, r.do-all k) }))
 
 -- BANKS
 
@@ -181,7 +181,7 @@ module _ {K : Type 0} (κ : K → Tick) (Ω : K → Values) where
       settles-pure (record { base = bases-keep k₆ (bases-keep k₅ base); zero_is = p₀; one-is = p₁ })))))))
 
   -- what follows the constants
-  after-constants : (limits : Limits) (shared : ℕ) (n : Netlist) (m : Wires) (z : Constants) (env : K → Values) → Each (FitsCell limits) n.cells → Each (ReadsOwned m) n.cells → Constant κ env z
+  after-constants : (limits : Limits) (shared : ℕ) (n : Netlist) (m : Wires) (z : Constants) (env : K → Values) → Each (FitsCell limits) n.cells → ((x : Cell) → Mem x n.cells → ReadsOwned m x) → Constant κ env z
       → z.zero.0 ≡ length (slots n) → z.one.0 ≡ suc (length (slots n))
       → Settles κ Ω env (emitCells shared m z 0 n.cells >>= λ u. emitBanks m z (collectFlipFlopBanks n.cells) >>= λ v. emitOutputs m 0 n.ports) (λ u env'. Runs κ n m)
   after-constants limits shared n m z env h own c p q =

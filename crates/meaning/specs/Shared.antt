@@ -1,4 +1,4 @@
--- A cell reads each bit of each signal one time. Sharing goes by wire; in a netlist's map that is the same as by signal, lowest bit and width.
+-- A cell records no read twice. Sharing goes by wire; in a netlist's map that is the same as by signal, lowest bit and width.
 use Rattle.std.specs.Prelude.{◌≡◌, List, [], ◌∷◌, ◌≤◌, ℕ, length}
 use mathlib.Core.List.{Memᴰ as Mem}
 use Rattle.std.proofs.Math.Option.{some}
