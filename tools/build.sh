@@ -4,5 +4,11 @@
 set -e
 cd "$(dirname "$0")/../crates"
 for c in "$@"; do
-    if [ "$c" = capi ]; then (cd capi && rt lib); else (cd "$c" && rt check); fi
+    if [ "$c" = capi ]; then
+        (cd capi && rt lib)
+    elif [ -f "$c/src/main.rt" ]; then
+        (cd "$c" && rt run < /dev/null > /dev/null || [ -x "out/$c" ])
+    else
+        (cd "$c" && rt check)
+    fi
 done

@@ -1,11 +1,12 @@
 // A netlist and a list of ticks, lowered, run and printed, with buffers of its own: some thousand cells, 4,096 ticks.
-ghost use Rattle.io.specs.Counts.{IsPrefixLen};
+ghost use Rattle.std.specs.Counts.{IsPrefixLen};
 
 use crate::tick_text::vcd::print_vcd;
 use crate::tick_text::{output_total, print_refusal, print_ticks};
 use converter::Lowered;
 use recorder::Tape;
 use simulator::simulate;
+use std::io::Write;
 
 fn used(list: &[u32], tape: Tape) -> usize
     ensures { IsPrefixLen result list.now }
@@ -15,7 +16,8 @@ fn used(list: &[u32], tape: Tape) -> usize
 }
 
 // A line for each tick, or a VCD file.
-fn print_shown(
+fn print_shown<W: Write>(
+    to: &mut W,
     signals: &[u32],
     heads: &[u32],
     bits: &[u8],
@@ -26,13 +28,14 @@ fn print_shown(
     let mut out = [0u8; 32768];
     if vcd {
         let outputs = output_total(signals);
-        return print_vcd(&mut out, signals, heads, bits, answers, shown, outputs);
+        return print_vcd(to, &mut out, signals, heads, bits, answers, shown, outputs);
     }
-    print_ticks(&mut out, signals, answers, shown, heads.len() / 3)
+    print_ticks(to, &mut out, signals, answers, shown, heads.len() / 3)
 }
 
 // What is shown, or one line for the refusal.
-fn print_answer(
+fn print_answer<W: Write>(
+    to: &mut W,
     answer: Lowered,
     signals: &[u32],
     heads: &[u32],
@@ -44,18 +47,18 @@ fn print_answer(
     match answer {
         Lowered::Accepted(t) => {
             let n = used(signals, t.signals);
-            print_shown(&signals[..n], heads, bits, answers, shown, vcd)
+            print_shown(to, &signals[..n], heads, bits, answers, shown, vcd)
         }
         Lowered::Refused(x) => {
             let mut out = [0u8; 64];
-            print_refusal(&mut out, x.number(), x.place())
+            print_refusal(to, &mut out, x.number(), x.place())
         }
     }
 }
 
 // Lowers, runs and prints. The five works of lowering are the run's tables too: they have room for 98,304 expressions and
 // 16,384 signals.
-pub fn run(words: &[u32], heads: &[u32], bits: &[u8], vcd: bool) -> bool {
+pub fn run<W: Write>(to: &mut W, words: &[u32], heads: &[u32], bits: &[u8], vcd: bool) -> bool {
     let mut signals = [0u32; 65536];
     let mut exprs = [0u32; 1000000];
     let mut stmts = [0u32; 98304];
@@ -89,5 +92,5 @@ pub fn run(words: &[u32], heads: &[u32], bits: &[u8], vcd: bool) -> bool {
         &mut answers,
         &mut shown,
     );
-    print_answer(answer, &signals, heads, bits, &answers, &shown, vcd)
+    print_answer(to, answer, &signals, heads, bits, &answers, &shown, vcd)
 }

@@ -3,6 +3,7 @@ pub mod vcd; // vcd.rt: the same as a VCD file
 
 use crate::input::wide;
 use lines::records::put_refused;
+use std::io::Write;
 use text::{Place, flush};
 
 // Where the next byte goes, and which byte of what is shown comes next.
@@ -23,12 +24,12 @@ fn plus(a: usize, b: usize) -> usize {
 }
 
 // One byte more; a full buffer is written out first.
-fn put(out: &mut [u8], at: usize, byte: u8) -> usize {
+fn put<W: Write>(to: &mut W, out: &mut [u8], at: usize, byte: u8) -> usize {
     if at < out.len() {
         out[at] = byte;
         return at + 1;
     }
-    flush(out, out.len());
+    flush(to, out, out.len());
     if 0 < out.len() {
         out[0] = byte;
         return 1;
@@ -37,13 +38,19 @@ fn put(out: &mut [u8], at: usize, byte: u8) -> usize {
 }
 
 // A refusal as a line of its own.
-fn put_refusal(out: &mut [u8], at: usize, number: usize, place: usize) -> usize {
-    flush(out, at);
+fn put_refusal<W: Write>(
+    to: &mut W,
+    out: &mut [u8],
+    at: usize,
+    number: usize,
+    place: usize,
+) -> usize {
+    flush(to, out, at);
     let r = put_refused(out, 0, number, place);
     let Place::At(end) = r else {
         return 0;
     };
-    put(out, end, b'\n')
+    put(to, out, end, b'\n')
 }
 
 // The digit of a byte of what is shown; none that is missing is one.
@@ -57,13 +64,13 @@ fn digit(shown: &[u8], i: usize) -> u8 {
 }
 
 // A port's bits, the highest first.
-fn put_port(out: &mut [u8], spot: Spot, shown: &[u8], width: usize) -> Spot {
+fn put_port<W: Write>(to: &mut W, out: &mut [u8], spot: Spot, shown: &[u8], width: usize) -> Spot {
     let end = plus(spot.next, width);
     let mut at = spot.at;
     let mut left = width;
     while 0 < left {
         left -= 1;
-        at = put(out, at, digit(shown, plus(spot.next, left)));
+        at = put(to, out, at, digit(shown, plus(spot.next, left)));
     }
     Spot { at: at, next: end }
 }
@@ -80,7 +87,8 @@ fn is_output(signals: &[u32], i: usize) -> bool {
 
 // Signal i after a tick if it is an output port's, behind a space unless it is the line's first, which begins with byte `first` of
 // what is shown.
-fn put_next(
+fn put_next<W: Write>(
+    to: &mut W,
     out: &mut [u8],
     from: Spot,
     signals: &[u32],
@@ -93,27 +101,33 @@ fn put_next(
     }
     let width = wide(word(signals, plus(i, 2)));
     if from.next == first {
-        return put_port(out, from, shown, width);
+        return put_port(to, out, from, shown, width);
     }
     let spot = Spot {
-        at: put(out, from.at, b' '),
+        at: put(to, out, from.at, b' '),
         next: from.next,
     };
-    put_port(out, spot, shown, width)
+    put_port(to, out, spot, shown, width)
 }
 
 // The output ports after one tick, as a line.
-fn put_ports(out: &mut [u8], from: Spot, signals: &[u32], shown: &[u8]) -> Spot {
+fn put_ports<W: Write>(
+    to: &mut W,
+    out: &mut [u8],
+    from: Spot,
+    signals: &[u32],
+    shown: &[u8],
+) -> Spot {
     let first = from.next;
     let mut spot = from;
     let n = signals.len() / 4;
     let mut i: usize = 0;
     while i < n {
-        spot = put_next(out, spot, signals, shown, 4 * i, first);
+        spot = put_next(to, out, spot, signals, shown, 4 * i, first);
         i += 1;
     }
     Spot {
-        at: put(out, spot.at, b'\n'),
+        at: put(to, out, spot.at, b'\n'),
         next: spot.next,
     }
 }
@@ -141,7 +155,8 @@ fn answer(answers: &[u64], i: usize) -> usize {
 }
 
 // Tick i: what the ports show, or its refusal.
-fn put_tick(
+fn put_tick<W: Write>(
+    to: &mut W,
     out: &mut [u8],
     from: Spot,
     signals: &[u32],
@@ -152,17 +167,18 @@ fn put_tick(
 ) -> Spot {
     let number = answer(answers, plus(i, i));
     if number == 0 {
-        return put_ports(out, from, signals, shown);
+        return put_ports(to, out, from, signals, shown);
     }
     let place = answer(answers, plus(plus(i, i), 1));
     Spot {
-        at: put_refusal(out, from.at, number, place),
+        at: put_refusal(to, out, from.at, number, place),
         next: plus(from.next, outputs),
     }
 }
 
 // All ticks, a line each. The signals are a model's, four words each.
-pub fn print_ticks(
+pub fn print_ticks<W: Write>(
+    to: &mut W,
     out: &mut [u8],
     signals: &[u32],
     answers: &[u64],
@@ -173,14 +189,14 @@ pub fn print_ticks(
     let mut spot = Spot { at: 0, next: 0 };
     let mut i: usize = 0;
     while i < ticks {
-        spot = put_tick(out, spot, signals, answers, shown, i, outputs);
+        spot = put_tick(to, out, spot, signals, answers, shown, i, outputs);
         i += 1;
     }
-    flush(out, spot.at)
+    flush(to, out, spot.at)
 }
 
 // A refusal of the whole, as a line.
-pub fn print_refusal(out: &mut [u8], number: usize, place: usize) -> bool {
-    let at = put_refusal(out, 0, number, place);
-    flush(out, at)
+pub fn print_refusal<W: Write>(to: &mut W, out: &mut [u8], number: usize, place: usize) -> bool {
+    let at = put_refusal(to, out, 0, number, place);
+    flush(to, out, at)
 }
