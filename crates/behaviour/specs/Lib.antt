@@ -2,9 +2,7 @@
 pub mod Banks
 pub mod WireMap
 pub mod Behaviour
-pub mod Settled
 pub mod LoopTest
-pub mod Runs
 pub mod Checking
 pub mod Netlists
 pub mod Cases

@@ -1,23 +1,11 @@
--- Whether a netlist has a loop, as a test that computes. It is true exactly of the netlists with no loop.
-use Rattle.std.specs.Prelude.{◌≡◌, refl, Bool, true, false, ℕ, suc, length, eqb}
-use mathlib.Core.List.Memᴰ.{append_left as in_left}
-use mathlib.Core.List.Memᴰ.{append_right as in_right}
-use mathlib.Core.List.Memᴰ.{head as here}
-use mathlib.Core.List.Memᴰ.{not-nil}
-use mathlib.Core.List.Memᴰ.{tail as there}
-use mathlib.Core.List.{List, [], ◌∷◌, ◌++◌, Memᴰ as Mem}
-use Rattle.std.proofs.Math.Option.{Option, none, some}
-use Rattle.std.proofs.Common.{eqb-true}
-use Rattle.bits.specs.Bits.{pick}
-use Rattle.settle.specs.Ground.{way-first, grounded-no-loop, ends→grounded}
-use Rattle.settle.specs.Loop.{mark, mark→ends, ends→mark}
-use Rattle.settle.specs.Tests.{all, all_in, all-out}
-use Rattle.netlist.specs.declared.Bit.{Bit}
-use Rattle.netlist.specs.declared.Bit.TheVariants.{Zero, One, Wire}
+-- Whether a netlist has a loop, as a test that computes. It is true exactly of the netlists with no loop (proofs/LoopTest).
+use Rattle.std.specs.Prelude.{Bool, ℕ, suc, length}
+use mathlib.Core.List.{List, [], ◌∷◌, ◌++◌}
+use Rattle.settle.specs.Loop.{mark}
+use Rattle.settle.specs.Tests.{all}
 use Rattle.netlist.specs.Netlist.{Netlist}
-use Rattle.behaviour.specs.WireMap.{Slot, WireRef, slots, place_of, held_at, find}
-use Rattle.behaviour.specs.Behaviour.{wiresOf, driver, driverIn, driverReads, Depends, NoWireLoop}
-use Rattle.behaviour.specs.Settled.{walks-end}
+use Rattle.behaviour.specs.WireMap.{Slot, slots}
+use Rattle.behaviour.specs.Behaviour.{wiresOf, driver, driverReads}
 
 abbrev pub heldWires : List Slot → List ℕ
 heldWires [] = []
@@ -29,62 +17,3 @@ reads n x = driverReads n.cells (driver (slots n) x)
 -- every driven wire is marked after as many rounds as `settle` sweeps; a round marks the wires whose reads were marked before
 abbrev pub loopFree : Netlist → Bool
 loopFree n = all (mark (reads n) (suc (length n.cells))) (heldWires (slots n))
-
-abbrev Placed : ℕ → List Bit → Option ℕ → Type 0
-Placed w l none = Unit {0}
-Placed w l (some i) = Mem w (wiresOf l)
-
-placed : (w : ℕ) (l : List Bit) (i : ℕ) → Placed w l (place_of w l i)
-placed w [] i = tt
-placed w (Zero ∷ l) i = go (place_of w l (suc i)) (placed w l (suc i))
-  where
-    go : (o : Option ℕ) → Placed w l o → Placed w (Zero ∷ l) o
-    go none h = tt
-    go (some k) h = h
-placed w (One ∷ l) i = go (place_of w l (suc i)) (placed w l (suc i))
-  where
-    go : (o : Option ℕ) → Placed w l o → Placed w (One ∷ l) o
-    go none h = tt
-    go (some k) h = h
-placed w (Wire x ∷ l) i = go (eqb w x) refl (place_of w l (suc i)) (placed w l (suc i))
-  where
-    more : (o : Option ℕ) → Placed w l o → Placed w (Wire x ∷ l) o
-    more none h = tt
-    more (some k) h = there h
-
-    go : (b : Bool) → eqb w x ≡ b → (o : Option ℕ) → Placed w l o → Placed w (Wire x ∷ l) (pick b (some i) o)
-    go true e o h = here (eqb-true w x e)
-    go false e o h = more o h
-
-abbrev Found : ℕ → List Slot → Option WireRef → Type 0
-Found w l none = Unit {0}
-Found w l (some r) = Mem w (heldWires l)
-
-found : (w : ℕ) (l : List Slot) (n : ℕ) → Found w l (find w l n)
-found w [] n = tt
-found w (s ∷ l) n = go (place_of w s.bits 0) (placed w s.bits 0) (find w l (suc n)) (found w l (suc n))
-  where
-    more : (o : Option WireRef) → Found w l o → Found w (s ∷ l) o
-    more none h = tt
-    more (some r) h = in_right (wiresOf s.bits) h
-
-    go : (p : Option ℕ) → Placed w s.bits p → (o : Option WireRef) → Found w l o → Found w (s ∷ l) (held_at p s n o)
-    go none q o h = more o h
-    go (some i) q o h = in_left (heldWires l) q
-
--- a wire that reads another is held
-reader-held : (n : Netlist) (x z : ℕ) → Depends n x z → Mem x (heldWires (slots n))
-reader-held n x z = go (find x (slots n) 0) (found x (slots n) 0)
-  where
-    go : (o : Option WireRef) → Found x (slots n) o → Mem z (driverReads n.cells (driverIn o)) → Mem x (heldWires (slots n))
-    go none h m = absurd (not-nil m)
-    go (some r) h m = h
-
-pub loopFree→no-loop : (n : Netlist) → loopFree n ≡ true → NoWireLoop n
-loopFree→no-loop n h x w =
-    let r = way-first (Depends n) w in
-    let m = all-out (mark (reads n) (suc (length n.cells))) (heldWires (slots n)) h x (reader-held n x r.0 r.1) in
-    grounded-no-loop (Depends n) (ends→grounded (Depends n) (suc (length n.cells)) x (mark→ends (reads n) (suc (length n.cells)) x m)) w
-
-pub no-loop→loopFree : (n : Netlist) → NoWireLoop n → loopFree n ≡ true
-no-loop→loopFree n h = all_in (mark (reads n) (suc (length n.cells))) (heldWires (slots n)) (λ x m. ends→mark (reads n) (suc (length n.cells)) x (walks-end (slots n) n.cells h x))

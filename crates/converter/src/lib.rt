@@ -64,7 +64,17 @@ fn lower_checked(
     match checked {
         Checked::Netlist(layout) => {
             let r = record_netlist(
-                signals, exprs, stmts, wires, places, parts, values, banks, words, layout, limits.wires,
+                signals,
+                exprs,
+                stmts,
+                wires,
+                places,
+                parts,
+                values,
+                banks,
+                words,
+                layout,
+                limits.wires,
             );
             answered(signals, stmts, r)
         }

@@ -6,6 +6,7 @@ ghost use Rattle.wires.specs.Wires.{wiresOf};
 ghost use Rattle.converter.specs.Emits.{EmitsAll};
 ghost use Rattle.converter.specs.Steps.{ReservesNetlist, EmitsRest, EmitsNetlist, RecordsNetlist, unstartedOf};
 
+use crate::WORK;
 use crate::bank::reserve_flip_flop_banks;
 use crate::cell::emit_cells;
 use crate::collect::collect_flip_flop_banks;
@@ -13,7 +14,6 @@ use crate::constants::{Started, emit_constants};
 use crate::outputs::emit_outputs;
 use crate::ports::reserve_ports;
 use crate::register::emit_flip_flop_banks;
-use crate::WORK;
 use crate::reserve::reserve_cells;
 use crate::zeros::cut;
 use netlist::Layout;
@@ -176,7 +176,8 @@ fn emit_netlist(
         return unstarted(r);
     };
     let q = emit_shared_cells(
-        signals, exprs, stmts, parts, values, wires, places, first, constants, words, layout, shared,
+        signals, exprs, stmts, parts, values, wires, places, first, constants, words, layout,
+        shared,
     );
     let Stated::Done(next) = q else {
         return q;
@@ -208,7 +209,6 @@ pub fn record_netlist(
         return r;
     };
     emit_netlist(
-        signals, exprs, stmts, parts, values, wires, places, t, words, layout, banks, count,
-        shared,
+        signals, exprs, stmts, parts, values, wires, places, t, words, layout, banks, count, shared,
     )
 }

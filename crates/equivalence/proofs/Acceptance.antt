@@ -11,7 +11,7 @@ use Rattle.netlist.specs.declared.Limits.{Limits}
 use Rattle.netlist.specs.Netlist.{Netlist}
 use Rattle.netlist.specs.Reader.{netlist, readWords}
 use Rattle.netlist.specs.Shape.{Fits, Answer as ReadAnswer}
-use Rattle.netlist.specs.ReaderFits.{answer}
+use Rattle.netlist.proofs.ReaderFits.{answer}
 use Rattle.recorder.specs.declared.Tapes.{Tapes}
 use Rattle.recorder.specs.Record.{Model}
 use Rattle.recorder.specs.Writer.{End, End.ok, End.no, Out}

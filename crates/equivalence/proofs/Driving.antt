@@ -19,7 +19,7 @@ use Rattle.recorder.specs.Evaluate.{Signals}
 use Rattle.behaviour.specs.Banks.{Member}
 use Rattle.behaviour.specs.WireMap.{Source, inputs, Slot, WireRef, find, slots, bankSlot, wordSignals}
 use Rattle.behaviour.specs.Behaviour.{Valuation, Registers, unused, absent, output, Driver, driver, driverIn, bitSource, gives as given_by, drive, settle, NoWireLoop}
-use Rattle.behaviour.specs.Settled.{settled_only}
+use Rattle.behaviour.proofs.Settled.{settled_only}
 use Rattle.behaviour.proofs.MapLaws.{Holds as SlotHolds, BankHolds, bank-holds}
 use Rattle.wires.specs.declared.Constants.{Constants}
 use Rattle.wires.specs.Wires.{Wires, WireRef as Ref}

@@ -19,7 +19,7 @@ use Rattle.netlist.specs.declared.Limits.{Limits}
 use Rattle.netlist.specs.Netlist.{Netlist}
 use Rattle.recorder.specs.Record.{Stmt, Stmt.assign, Stmt.reg, Model}
 use Rattle.behaviour.specs.Behaviour.{Depends, NoWireLoop}
-use Rattle.behaviour.specs.Settled.{wires-grounded}
+use Rattle.behaviour.proofs.Settled.{wires-grounded}
 use Rattle.wires.specs.Wires.{WireRef}
 use Rattle.simulation.specs.Wellformed.{or_else}
 use Rattle.simulation.specs.Tick.{target, given, assigns, readsAll, readsBy, depends, looped}

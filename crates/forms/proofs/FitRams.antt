@@ -287,10 +287,13 @@ module _ {widest words : ℕ} {D : ℕ → ℕ → Type 0} (room : 36 ≤ widest
       let r₁ = grow-ready g₁ ready in
       fit-bind (fit-vector-once room m {S = Any} p.input 0 (length p.input) r₁ ha.1 (omega (arith, k, wide.0), omega (arith, k, wide.1)) (λ y q. tt)) (λ d c₂ g₂ hd.
       fit-bind (fit-gate (grow-ready g₂ r₁) hd.1 p.write p.clockEnable) (λ g c₃ g₃ hg.
-      fit-pure ((
-        second (record { write-address = grow-exp g₃ (grow-exp g₂ ha.0); write-data = subst (λ (j : ℕ). Exp c₃ d.value j Any) k (grow-exp g₃ hd.0); write-asserted = hg.0.0; read-address = grow-exp g₃ (grow-exp g₂ ha.0); clock-enabled = hg.0.1 }),
-        (control-level limits p.readEnable sh.readEnable, su),
-      ), hg.1))))
+      fit-pure (
+        (
+          second (record { write-address = grow-exp g₃ (grow-exp g₂ ha.0); write-data = subst (λ (j : ℕ). Exp c₃ d.value j Any) k (grow-exp g₃ hd.0); write-asserted = hg.0.0; read-address = grow-exp g₃ (grow-exp g₂ ha.0); clock-enabled = hg.0.1 }),
+          (control-level limits p.readEnable sh.readEnable, su),
+        ),
+        hg.1,
+      ))))
 
   pub fit-block-ram : (limits : Limits) (owner : ℕ) (r : BlockRam) {c : Context} → FitsBlockRam limits r → Ready words c m → {seen : Seen} → Stood c m seen → Sig c z.zero.0 1 → Sig c z.one.0 1 → WideAs m (get_or r.output 0 0) r.width → SecondSuits D words m r.width r.second
       → Fit widest words D c (emitBlockRam m z seen owner r) (λ x c'. Unit {0})

@@ -15,7 +15,7 @@ use Rattle.netlist.specs.Reader
 use Rattle.netlist.specs.Reader.{Limits, netlist, Step, got, fault, Parser, and_then, ◌>>=◌, done, many, judged, fetched, closed}
 use Rattle.netlist.specs.Shape.{FitsCell, FitsPort, Row}
 use Rattle.netlist.specs.ReaderLaws.{parts, went, many-at, trailerAt, portCountOf, cellsAtOf, cellCountOf}
-use Rattle.netlist.specs.ReaderFits.{Outcome, Sound, many-sound, cell-sound, port-sound}
+use Rattle.netlist.proofs.ReaderFits.{Outcome, Sound, many-sound, cell-sound, port-sound}
 use Rattle.netlist.specs.Placed.{portPlace, cellPlace, Laid, PortPlaced, CellPlaced}
 use Rattle.netlist.proofs.RecordLaws.{end_after}
 use Rattle.netlist.specs.Fields.{recordsAt, end_at, after, whenSet, sizeIf, word_at, bit_at, bits_at, wiresAt, controlAt, optionalControlAt, resetAt, optionalResetAt}

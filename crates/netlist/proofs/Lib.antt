@@ -3,3 +3,4 @@ pub mod RecordLaws
 pub mod FieldLaws
 pub mod WordLaws
 pub mod RamLaws
+pub mod ReaderFits

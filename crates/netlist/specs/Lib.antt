@@ -5,7 +5,6 @@ pub mod Fields
 pub mod FieldForms
 pub mod Placed
 pub mod Shape
-pub mod ReaderFits
 pub mod ReaderLaws
 pub mod ReaderChecks
 pub mod Records

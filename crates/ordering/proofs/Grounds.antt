@@ -22,7 +22,8 @@ use borrow.Author.Tests.{ltb-true, eq-eqb}
 use Rattle.recorder.specs.Record.{Expr, Model}
 use Rattle.recorder.specs.Record.{const, read, concat, not, and, or, xor, mux, eq, mul}
 use Rattle.settle.specs.Ground.{Grounded, ground, no-loop→grounded, grounded→no-loop, below, mem_below}
-use Rattle.settle.specs.Loop.{Reads, Under, NoLoops, LowestOnLoop, lowest-on-loop, lowest-on-loop-only}
+use Rattle.settle.specs.Loop.{Reads, Under, NoLoops, LowestOnLoop}
+use Rattle.settle.proofs.Loop.{lowest-on-loop, lowest-on-loop-only}
 use Rattle.settle.specs.Tests.{and_left, and_right}
 use Rattle.simulation.specs.Wellformed.{wide, earlier, widthSum, in_range, exprFits}
 use Rattle.simulation.specs.Tick.{given, assigns, joinedReads, readsExpr, readsAll, readsBy, depends, looped}

@@ -14,7 +14,8 @@ use lib.ListN.{length, set, replicate, length-set}
 use Rattle.bits.specs.Bits.{pick}
 use Rattle.recorder.specs.Record.{Model}
 use Rattle.settle.specs.Walk.{Way}
-use Rattle.settle.specs.Loop.{Reads, lowest-on-loop-only}
+use Rattle.settle.specs.Loop.{Reads}
+use Rattle.settle.proofs.Loop.{lowest-on-loop-only}
 use Rattle.simulation.specs.Tick.{given, assigns, depends, looped}
 use Rattle.simulation.specs.Sound.{Sound}
 use Rattle.simulation.proofs.Bounds.{reads-under}

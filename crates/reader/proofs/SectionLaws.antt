@@ -26,7 +26,7 @@ use Rattle.netlist.specs.Reader.{netlist, refused, Step, got, fault, Parser, and
 use Rattle.netlist.specs.declared.Limits.{Limits}
 use Rattle.netlist.specs.ReaderLaws.{many_more, many-fault, many-faulty}
 use Rattle.netlist.specs.Shape.{Row, FitsPort, FitsCell}
-use Rattle.netlist.specs.ReaderFits.{Outcome, ports-sound, cells-sound}
+use Rattle.netlist.proofs.ReaderFits.{Outcome, ports-sound, cells-sound}
 use Rattle.netlist.specs.Fields.{word_at, bit_at, whenSet, firstSize, secondPortAt, ramAt, blockRamAt, pllAt, kindsAt, cell_at, layout_of}
 use Rattle.reader.specs.Walk.{refusalOf, walk_of, along, Passed, ends_at}
 use Rattle.reader.specs.Checks.{Checks, found, first_of, CellsChecked, sectionsOf, Reads, SectionsChecked}

@@ -19,7 +19,8 @@ use Rattle.recorder.specs.Record.{const, read, concat, not, and, or, xor, mux, e
 use Rattle.recorder.specs.Evaluate.{Signals, joinedParts, evalExpr, evalAll}
 use Rattle.settle.specs.Settle.{Respects, iterate, settles, settled-unique}
 use Rattle.settle.specs.Ground.{below, length-below, mem_below}
-use Rattle.settle.specs.Loop.{Reads, DepsUnder, NoLoops, Under, LowestOnLoop, lowest-on-loop}
+use Rattle.settle.specs.Loop.{Reads, DepsUnder, NoLoops, Under, LowestOnLoop}
+use Rattle.settle.proofs.Loop.{lowest-on-loop}
 use Rattle.settle.specs.Table.{at, rounds-at, length-tab}
 use Rattle.simulation.specs.Tick.{given, assigns, become, sweep, settle, joinedReads, readsExpr, readsAll, readsBy, depends, looped}
 use Rattle.simulation.specs.Settled.{driven, IsSettled}

@@ -1,0 +1,2 @@
+-- The laws of settle's tests.
+pub mod Loop
