@@ -19,7 +19,7 @@ use Rattle.recorder.proofs.Wrote.{then-stop}
 use Rattle.optimize.specs.Rewrite.{xorOf, muxOf}
 use Rattle.optimize.specs.Lut.{lutCofactor}
 use Rattle.wires.specs.Wires.{Wires}
-use Rattle.wires.specs.Seen.{Seen, Reading, withSeen, keeping}
+use Rattle.wires.specs.Seen.{Seen, withSeen, keeping}
 use Rattle.wires.specs.Expressions.{bitExpression, bitOnce, vectorOnce, readBits, assignWire, roomy}
 use Rattle.wires.proofs.Laws.{roomy-yes}
 use Rattle.cells.specs.Cells.{emitMultiplier, ccuRow, emitCyclePll, pllClocks}

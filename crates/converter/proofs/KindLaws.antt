@@ -32,14 +32,14 @@ use Rattle.recorder.proofs.Wrote.{wrote_as, wrote-pure, wrote-refuse}
 use Rattle.wires.specs.declared.Constants.{Constants}
 use Rattle.wires.specs.Wires.{Wires}
 use Rattle.wires.specs.Seen.{Seen, nothingSeen, Reading, forgetting}
-use Rattle.wires.specs.Once.{seenOf, Leaves, Once, OnceAll, OnceBoth}
+use Rattle.wires.specs.Once.{seenOf, Once, OnceAll, OnceBoth}
 use Rattle.wires.proofs.Laws.{roomy-yes}
 use Rattle.wires.proofs.OnceLaws.{seen-nothing, once-forget, wrote-grows}
 use Rattle.cells.specs.Cells.{emitLut4, emitPfumx, emitL6mux21, emitCcu2c, emitMultiplier, emitIo, emitIdleJtagg, emitCyclePll}
 use Rattle.cells.specs.Answers.{ccuOf, pllOf}
 use Rattle.cells.proofs.Laws.{bits-ahead}
 use Rattle.address_mux.proofs.Addresses.{at-most-yes}
-use Rattle.memories.specs.Memories.{emitBlockRam, emitDistributedRam}
+use Rattle.memories.specs.Memories.{emitDistributedRam}
 use Rattle.memories.specs.Rams.{dramAt, dramAddressed, addressed, workOf, blockRamIn}
 use Rattle.memories.proofs.PortLaws.{addressed-same}
 use Rattle.lowering.specs.Emit.{emitCell}

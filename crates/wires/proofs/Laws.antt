@@ -21,7 +21,7 @@ use Rattle.wires.specs.declared.Constants.{Constants}
 use Rattle.wires.specs.declared.Controlled.{Controlled}
 use Rattle.wires.specs.Wires.{WireRef, Wires, entry, wiresOf}
 use Rattle.wires.specs.Seen.{Seen, Reading, withSeen, keeping}
-use Rattle.wires.specs.Expressions.{bitOnce, vectorOnce, refOf, wireRef, readRef, bitExpression, whole, bitSignal, concatParts, vectorBit, vectorParts, vectorExpression, assignWire, roomy, controlled, Reads}
+use Rattle.wires.specs.Expressions.{bitOnce, vectorOnce, refOf, wireRef, readRef, bitExpression, whole, bitSignal, concatParts, vectorBit, vectorParts, assignWire, roomy, controlled, Reads}
 
 -- THE TABLES
 

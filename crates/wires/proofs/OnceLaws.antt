@@ -7,9 +7,8 @@ use Rattle.std.proofs.Math.Option.{Option, none, some}
 use borrow.Author.Tests.{le-leb, lt-leb}
 use Rattle.bits.specs.Bits.{pick}
 use Rattle.recorder.specs.declared.Tapes.{Tapes}
-use Rattle.recorder.specs.Writer.{Count, End, End.ok, End.no, Event, exprsOf, further, Writer, pure, refuse, ◌>>=◌}
-use Rattle.recorder.specs.Lists.{Lists, count_of, Played, Played.going, Played.full, play, Answer, Answer.Done, Answer.Failed, Left, finish, writing, Wrote}
-use Rattle.recorder.specs.Words.{zeroed}
+use Rattle.recorder.specs.Writer.{Count, End, End.ok, End.no, exprsOf, further, Writer, pure, refuse, ◌>>=◌}
+use Rattle.recorder.specs.Lists.{Lists, count_of, Played, Played.going, Played.full, play, Answer, Answer.Done, Answer.Failed, Left, finish, Wrote}
 use Rattle.recorder.proofs.Wrote.{play-counts, then-done, then-stop, wrote_as, wrote-pure, wrote-refuse}
 use Rattle.recorder.proofs.Events.{bind-refuse}
 use Rattle.wires.specs.Seen.{Seen, nothingSeen, standing, noted, Reading, withSeen, keeping, forgetting}

@@ -8,8 +8,8 @@ use Rattle.recorder.specs.declared.Tapes.{Tapes}
 use Rattle.recorder.specs.Writer.{Writer, ◌>>=◌}
 use Rattle.recorder.specs.Lists.{lists, WroteExprs, Answer, Answer.Done, Answer.Failed}
 use Rattle.wires.specs.Wires.{Wires}
-use Rattle.wires.specs.Seen.{Seen, Reading, withSeen, keeping}
-use Rattle.wires.specs.Once.{seenOf, Once, OnceAt}
+use Rattle.wires.specs.Seen.{Reading, keeping}
+use Rattle.wires.specs.Once.{seenOf, OnceAt}
 use Rattle.wires.specs.Expressions.{bitOnce, vectorBit, vectorOnce, concatParts, roomy}
 use Rattle.wires.proofs.Laws.{vectorLeft, vector-start, vector-more, vector-done, parts-step, parts_all, roomy-yes}
 use Rattle.wires.proofs.OnceLaws.{once-as, once-keep, GoingOnce, going-once, once-more, once-no-more}

@@ -1,7 +1,7 @@
 use Rattle.std.proofs.Common.{ap, arith}
 use Rattle.cells.proofs.Laws.{changed-failed}
 use Rattle.cells.specs.Answers.{nothing}
-use Rattle.recorder.specs.Lists.{emitted, stated}
+use Rattle.recorder.specs.Lists.{emitted}
 use Rattle.cells.specs.Cells.{emitCcu2c}
 use Rattle.wires.proofs.OnceLaws.{once-done, once-stop, once-keep, once-swept}
 use Rattle.carry.proofs.ccu2c.emit_ccu2c.Goals as goal

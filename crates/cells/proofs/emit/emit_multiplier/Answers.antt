@@ -1,7 +1,7 @@
-use Rattle.std.proofs.Common.{ap, arith, refl, replicate, ◌∙◌, sym}
+use Rattle.std.proofs.Common.{ap, arith, refl, replicate}
 use Rattle.cells.proofs.Laws.{changed-failed, multiplier-from}
 use Rattle.cells.specs.Answers.{nothing}
-use Rattle.recorder.specs.Lists.{emitted, stated}
+use Rattle.recorder.specs.Lists.{emitted}
 use Rattle.wires.specs.Wires.{wiresOf}
 use Rattle.wires.specs.Once.{seenOf}
 use Rattle.wires.proofs.OnceLaws.{once-as, once-done, once-stop, once-then, once-failed, once-keep, once-swept}

@@ -1,7 +1,7 @@
-use Rattle.std.proofs.Common.{ap, arith, ◌∙◌, sym}
+use Rattle.std.proofs.Common.{ap, arith}
 use Rattle.cells.proofs.Laws.{changed-failed}
 use Rattle.cells.specs.Answers.{nothing}
-use Rattle.recorder.specs.Lists.{emitted, stated}
+use Rattle.recorder.specs.Lists.{emitted}
 use Rattle.wires.proofs.OnceLaws.{once-done, once-stop, once-then, once-failed, once-keep, once-swept}
 use Rattle.cells.specs.Cells.{emitPfumx}
 use Rattle.cells.proofs.emit.emit_pfumx.Goals as goal

@@ -1,4 +1,4 @@
-use Rattle.std.proofs.Common.{ap, arith, ◌≡◌, length, rules, ◌∙◌, sym}
+use Rattle.std.proofs.Common.{ap, arith, ◌≡◌, length, rules}
 use Rattle.cells.proofs.Laws.{changed-failed, read-four}
 use Rattle.cells.specs.Answers.{fourfold}
 use Rattle.recorder.specs.Lists.{emitted}

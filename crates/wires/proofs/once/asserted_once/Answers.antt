@@ -1,14 +1,9 @@
 use Rattle.std.proofs.Common.{ap, []}
 use Rattle.recorder.specs.Lists.{emitted}
 use Rattle.wires.proofs.OnceLaws.{once-stop, once-done, once-keep, once-swept, grows-on}
-use Rattle.std.proofs.Common.{rules, ◌≡◌, ◌+◌, ℕ, ◌-◌, ◌*◌, ◌<◌, ◌≤◌, length, ◌/◌, ◌%◌, Bool, true, false, nat_eq, nat_lt, List, [], ◌∷◌, ◌++◌, slice_index_or, bit_and, bit_or, Fits, w8, w32, w64, Bor, MutBor}
-use Rattle.std.proofs.Math.ListN.{set}
-use Rattle.netlist.specs.Fields.{bits_at}
-use Rattle.recorder.specs.Lists.{WroteExprs, emitted}
-use Rattle.recorder.specs.Words.{zeroed}
-use Rattle.wires.specs.Wires.{wiresOf}
-use Rattle.wires.specs.Once.{begun, OnceExprs, swept, Cleared, Grows}
-use Rattle.wires.specs.Expressions.{bitOnce, levelled, assertedOnce, vectorBit, vectorOnce, roomy}
+use Rattle.std.proofs.Common.{[]}
+use Rattle.recorder.specs.Lists.{emitted}
+use Rattle.wires.specs.Expressions.{assertedOnce}
 use Rattle.wires.proofs.once.asserted_once.Goals as goal
 
 -- src/once.rt:123:9

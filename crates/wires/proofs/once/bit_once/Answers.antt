@@ -1,14 +1,8 @@
 use Rattle.std.proofs.Common.{ap}
 use Rattle.wires.specs.Once.{seenOf}
 use Rattle.wires.proofs.OnceLaws.{once-as, once-pure}
-use Rattle.std.proofs.Common.{rules, ◌≡◌, ◌+◌, ℕ, ◌-◌, ◌*◌, ◌<◌, ◌≤◌, length, ◌/◌, ◌%◌, Bool, true, false, nat_eq, nat_lt, List, [], ◌∷◌, ◌++◌, slice_index_or, bit_and, bit_or, Fits, w8, w32, w64, Bor, MutBor}
-use Rattle.std.proofs.Math.ListN.{set}
-use Rattle.netlist.specs.Fields.{bits_at}
-use Rattle.recorder.specs.Lists.{WroteExprs, emitted}
-use Rattle.recorder.specs.Words.{zeroed}
 use Rattle.wires.specs.Wires.{wiresOf}
-use Rattle.wires.specs.Once.{begun, OnceExprs, swept, Cleared, Grows}
-use Rattle.wires.specs.Expressions.{bitOnce, levelled, assertedOnce, vectorBit, vectorOnce, roomy}
+use Rattle.wires.specs.Expressions.{bitOnce}
 use Rattle.wires.proofs.once.bit_once.Goals as goal
 
 -- src/once.rt:68:1

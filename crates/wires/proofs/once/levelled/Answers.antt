@@ -1,6 +1,5 @@
 use Rattle.recorder.proofs.Wrote.{wrote_as, wrote-pure}
-use Rattle.std.proofs.Common.{ap, refl}
-use borrow.Author.Tests.{eq-eqb, ne_eqb}
+use borrow.Author.Tests.{eq-eqb}
 use Rattle.wires.proofs.once.levelled.Goals as goal
 
 pub returns-then-active-eq1 : goal.returns-then-active-eq1

@@ -1,12 +1,9 @@
 use Rattle.wires.proofs.Vectors.{Doing}
-use Rattle.std.proofs.Common.{◌≡◌, ◌+◌, ℕ, ◌-◌, ◌*◌, ◌<◌, ◌≤◌, length}
-use Rattle.std.proofs.Math.ListN.{set}
+use Rattle.std.proofs.Common.{◌≤◌, length}
 use Rattle.netlist.specs.Fields.{bits_at}
-use Rattle.recorder.specs.Lists.{WroteExprs, emitted}
-use Rattle.recorder.specs.Words.{zeroed}
 use Rattle.wires.specs.Wires.{wiresOf}
 use Rattle.wires.specs.Once.{seenOf}
-use Rattle.wires.specs.Expressions.{bitOnce, levelled, assertedOnce, vectorBit, vectorOnce, roomy}
+use Rattle.wires.specs.Expressions.{vectorOnce, roomy}
 use Rattle.wires.proofs.once.vector_once.Given as goal
 
 abbrev pub invariant-loop-left : goal.invariant-loop-left

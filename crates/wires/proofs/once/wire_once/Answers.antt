@@ -1,16 +1,10 @@
 use Rattle.wires.proofs.OnceLaws.{wire-known, wire-new, once-as, once-pure, once-failed, once-noted, wrote-grows}
-use Rattle.std.proofs.Common.{ap, sym, subst, ◌∙◌, arith, ℕ, get_or, List, []}
-use Rattle.recorder.specs.Lists.{emitted, Done}
-use Rattle.wires.specs.Once.{Once}
+use Rattle.std.proofs.Common.{ap, ◌∙◌, arith, ℕ, get_or, []}
+use Rattle.recorder.specs.Lists.{emitted}
 use Rattle.wires.specs.Wires.{wiresOf}
-use Rattle.std.proofs.Common.{rules, ◌≡◌, ◌+◌, ℕ, ◌-◌, ◌*◌, ◌<◌, ◌≤◌, length, ◌/◌, ◌%◌, Bool, true, false, nat_eq, nat_lt, List, [], ◌∷◌, ◌++◌, slice_index_or, bit_and, bit_or, Fits, w8, w32, w64, Bor, MutBor}
-use Rattle.std.proofs.Math.ListN.{set}
-use Rattle.netlist.specs.Fields.{bits_at}
-use Rattle.recorder.specs.Lists.{WroteExprs, emitted}
-use Rattle.recorder.specs.Words.{zeroed}
+use Rattle.std.proofs.Common.{ℕ, []}
+use Rattle.recorder.specs.Lists.{emitted}
 use Rattle.wires.specs.Wires.{wiresOf}
-use Rattle.wires.specs.Once.{begun, OnceExprs, swept, Cleared, Grows}
-use Rattle.wires.specs.Expressions.{bitOnce, levelled, assertedOnce, vectorBit, vectorOnce, roomy}
 use Rattle.wires.proofs.once.wire_once.Goals as goal
 
 -- src/once.rt:57:9
