@@ -27,7 +27,7 @@ done
 python3 yosys/compare.py --batch "$new/simulate/stdin" $bin/simulate
 echo "answers as stored"
 cargo test --release --offline -j1 --quiet > "$new/tests" 2>&1 || { cat "$new/tests"; exit 1; }
-for focus in "" --clock-enables; do
+for focus in "" --clock-enables --repeats; do
     # shellcheck disable=SC2086
     $bin/compare $focus 1 1000 40
     # shellcheck disable=SC2086

@@ -1,11 +1,12 @@
 #!/bin/sh
-# compare-lower.sh [--clock-enables] [BATCHES [NETLISTS]]: the proved lowering (crates/cases_lower/out/cases_lower) against the Rust, on batches of random
+# compare-lower.sh [--clock-enables | --repeats] [BATCHES [NETLISTS]]: the proved lowering (crates/cases_lower/out/cases_lower) against the Rust, on batches of random
 # netlists, seeds from 1 on; answers, counts, words used, hashes of all words and of the listing. The Rust is the amended one, and where no block
-# RAM has a clock enable also the unchanged one. With --clock-enables each netlist has a block RAM with a clock enable in both ports.
+# RAM has a clock enable and no cell reads a wire twice also the unchanged one. With --clock-enables each netlist has a block RAM with a clock enable
+# in both ports, with --repeats a cell that reads a wire twice.
 # Needs oracle/build.sh and tools/build.sh cases_lower. PROGRAM, if set, is run instead of crates/cases_lower/out/cases_lower.
 set -e
 focus=
-if [ "$1" = --clock-enables ]; then
+if [ "$1" = --clock-enables ] || [ "$1" = --repeats ]; then
     focus=$1
     shift
 fi

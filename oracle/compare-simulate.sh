@@ -1,10 +1,10 @@
 #!/bin/sh
-# compare-simulate.sh [--clock-enables] [BATCHES [CASES [TICKS [WORDS]]]]: the proved lowering and run (crates/simulate/out/simulate --batch) against the independent simulators,
+# compare-simulate.sh [--clock-enables | --repeats] [BATCHES [CASES [TICKS [WORDS]]]]: the proved lowering and run (crates/simulate/out/simulate --batch) against the independent simulators,
 # on batches of random netlists of at most WORDS words and random ticks, seeds from 1 on; every line. With --clock-enables each has a block RAM
-# with a clock enable in both ports. Needs oracle/build.sh and tools/build.sh simulate. PROGRAM, if set, is run instead of crates/simulate/out/simulate.
+# with a clock enable in both ports, with --repeats a cell that reads a wire twice. Needs oracle/build.sh and tools/build.sh simulate. PROGRAM, if set, is run instead of crates/simulate/out/simulate.
 set -e
 focus=
-if [ "$1" = --clock-enables ]; then
+if [ "$1" = --clock-enables ] || [ "$1" = --repeats ]; then
     focus=$1
     shift
 fi

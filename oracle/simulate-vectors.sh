@@ -1,6 +1,6 @@
 #!/bin/sh
 # simulate-vectors.sh [DIRECTORY]: the runs that the gate replays (crates/simulate/stdin, stdout), made again without the proved program.
-# An example, cases with answers by hand (here and in clock-enables.py), random ones by the independent simulators, one-cell netlists by Yosys' cell models
+# An example, cases with answers by hand (here, in clock-enables.py and in repeats.py), random ones by the independent simulators, one-cell netlists by Yosys' cell models
 # (answers/yosys.txt), designs by Icarus Verilog (answers/design.*, made by yosys/design.sh). Needs build.sh. In the end the oracle's `simulate` must say the same of them all.
 set -eu
 cd "$(dirname "$0")"
@@ -58,13 +58,26 @@ python3 ../tools/words.py asm-ticks ../examples/counter.txt ../examples/counter.
 $bin/words $(($(wc -c < "$work/one.bin") / 4)) | cat - "$work/one.bin" > "$work/example.bin"
 
 ./clock-enables.py ticks "$work/small.bin" "$work/small.txt"
+./repeats.py ticks "$work/twice.bin" "$work/twice.txt"
 $bin/simulate-cases 1 700 20 3000 "$work/random.bin" "$work/random.txt" > "$work/tally"
 $bin/simulate-cases --clock-enables 1 100 20 2000 "$work/enables.bin" "$work/enables.txt" > "$work/tally-enables"
+$bin/simulate-cases --repeats 1 100 20 2000 "$work/repeats.bin" "$work/repeats.txt" > "$work/tally-repeats"
 yosys/cases.py answers/yosys.txt "$work/yosys.bin" "$work/yosys.txt"
-cat "$work/example.bin" "$work/hand.bin" "$work/small.bin" "$work/random.bin" "$work/enables.bin" "$work/yosys.bin" answers/design.bin > "$to/stdin"
-cat ../examples/counter.shown "$work/hand.txt" "$work/small.txt" "$work/random.txt" "$work/enables.txt" "$work/yosys.txt" answers/design.txt > "$to/stdout"
+set -- hand small twice random enables repeats yosys
+{
+    cat "$work/example.bin"
+    for part; do cat "$work/$part.bin"; done
+    cat answers/design.bin
+} > "$to/stdin"
+{
+    cat ../examples/counter.shown
+    for part; do cat "$work/$part.txt"; done
+    cat answers/design.txt
+} > "$to/stdout"
 $bin/simulate --batch < "$to/stdin" | cmp "$to/stdout" -
 cat "$work/tally"
 echo "with clock enables:"
 cat "$work/tally-enables"
+echo "with wires read twice:"
+cat "$work/tally-repeats"
 echo "$(wc -c < "$to/stdin") bytes of cases, $(wc -l < "$to/stdout") lines"

@@ -1,5 +1,6 @@
 //! Batches of random netlists with their expected answers, those of the amended
-//! Rust. Without a clock enable they are the unchanged Rust's too.
+//! Rust. Without a clock enable and a cell that reads a wire twice they are the
+//! unchanged Rust's too.
 //!
 //!     bulk SEED COUNT BATCH EXPECTED   write a batch and its answers
 //!     bulk --answers BATCH EXPECTED    write the answers of a batch that is there
@@ -8,16 +9,16 @@
 //!     bulk SEED --lists INDEX          print its list lengths
 //!     bulk SEED --tally COUNT          count the answers by refusal
 //!
-//! Both of the first say how many netlists have clock enables. With
-//! `--clock-enables` in front of SEED, all have.
+//! Both of the first say how many netlists have clock enables and cells that read a
+//! wire twice. With `--clock-enables` or `--repeats` in front of SEED, all have.
 
 use std::collections::BTreeMap;
 use std::io::{BufWriter, Write};
 
 use celox::recorder::{EXPRESSIONS, Recording};
 use generate::{Focus, Rng};
-use lower::{Rust, answer, lower, lower_by};
-use netlist::{Limits, Refusal};
+use lower::{Rust, answer, lower, lower_by, spoken_of};
+use netlist::{BlockRam, Limits, Refusal};
 
 const ROOMY: [usize; 3] = [1 << 22; 3];
 
@@ -25,13 +26,13 @@ struct Item {
     words: Vec<u32>,
     lengths: [usize; 3],
     outcome: Result<Recording, Refusal>,
-    /// What its block RAMs have.
-    kind: &'static str,
+    /// What it has, for a reader.
+    kinds: Vec<&'static str>,
 }
 
 /// A netlist with list lengths. Most get the lengths that `lower` lends; the
-/// others get lists that end near the last record, or too early. Netlists with
-/// clock enables also get a list of expressions that ends with some record of
+/// others get lists that end near the last record, or too early. Netlists drawn for
+/// a request also get a list of expressions that ends with some record of
 /// theirs, or a word before.
 fn item(focus: Focus, seed: u64, index: u64) -> Item {
     let words = focus.sample(seed, index);
@@ -67,24 +68,30 @@ fn item(focus: Focus, seed: u64, index: u64) -> Item {
 impl Item {
     fn new(words: Vec<u32>, lengths: [usize; 3]) -> Self {
         let outcome = lower(&words, &Limits::BASE, lengths);
-        let (kind, unchanged) = match netlist::read_words(&words, &Limits::BASE) {
-            Ok(netlist) if netlist.has_two_clock_enables() => {
-                ("clock enables in both ports", false)
-            }
-            Ok(netlist) if netlist.has_clock_enable() => ("another clock enable", false),
-            Ok(netlist) if netlist.block_rams().next().is_some() => ("no clock enable", true),
-            _ => ("no block RAM", true),
-        };
+        let read = netlist::read_words(&words, &Limits::BASE).ok();
+        let unchanged = !read.as_ref().is_some_and(spoken_of);
         if unchanged {
             let unchanged = lower_by(Rust::Unchanged, &words, &Limits::BASE, lengths);
             assert_eq!(outcome, unchanged, "{words:?}");
         }
-        Self { words, lengths, outcome, kind }
+        let mut kinds = vec![""];
+        let mut add = |has: bool, kind| kinds.extend(has.then_some(kind));
+        add(unchanged, ", by both Rusts");
+        if let Some(netlist) = read {
+            add(netlist.has_clock_enable(), ", clock enable");
+            add(netlist.has_two_clock_enables(), ", clock enables in both ports");
+            add(netlist.has_repeat(), ", wire read twice");
+            let own = netlist.block_rams().any(BlockRam::shares_own_read);
+            add(own, ", wire read twice by own read");
+        }
+        Self { words, lengths, outcome, kinds }
     }
 
     fn count(&self, tally: &mut BTreeMap<String, u64>) {
         let mut add = |end: &str| {
-            *tally.entry(format!("netlists, {}{end}", self.kind)).or_default() += 1;
+            for kind in &self.kinds {
+                *tally.entry(format!("netlists{kind}{end}")).or_default() += 1;
+            }
         };
         add("");
         match &self.outcome {
@@ -213,7 +220,7 @@ fn say(tally: &BTreeMap<String, u64>) {
 
 fn usage() -> ! {
     eprintln!(
-        "usage: bulk [--clock-enables] SEED COUNT BATCH EXPECTED\n       bulk --answers BATCH EXPECTED\n       bulk [--clock-enables] SEED --text|--netlist|--lists INDEX\n       bulk [--clock-enables] SEED --tally COUNT"
+        "usage: bulk [FOCUS] SEED COUNT BATCH EXPECTED\n       bulk --answers BATCH EXPECTED\n       bulk [FOCUS] SEED --text|--netlist|--lists INDEX\n       bulk [FOCUS] SEED --tally COUNT\nFOCUS: --clock-enables | --repeats"
     );
     std::process::exit(2)
 }

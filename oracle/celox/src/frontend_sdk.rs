@@ -1,5 +1,6 @@
 //! The part of the frontend SDK that the lowering calls, as a recorder.
 
+use std::collections::BTreeMap;
 use std::error::Error;
 use std::fmt::{self, Display, Formatter};
 
@@ -114,6 +115,8 @@ pub struct ModuleBuilder {
     /// mux and a concat are asked for without a width.
     signal_widths: Vec<usize>,
     expression_widths: Vec<usize>,
+    /// The reads of the cell that has begun, by signal, lowest bit and width.
+    reads: Option<BTreeMap<[u32; 3], ExprId>>,
 }
 
 impl Drop for ModuleBuilder {
@@ -130,6 +133,15 @@ impl ModuleBuilder {
     #[must_use]
     pub fn recording(&self) -> &Recording {
         &self.recording
+    }
+
+    /// A cell begins: until it ends, equal reads are one record.
+    pub fn begin_cell(&mut self) {
+        self.reads = Some(BTreeMap::new());
+    }
+
+    pub fn end_cell(&mut self) {
+        self.reads = None;
     }
 
     pub fn input(
@@ -182,8 +194,18 @@ impl ModuleBuilder {
         self.read_slice(whole)
     }
 
+    /// Within a cell, a read that was there before is that read.
     pub fn read_slice(&mut self, slice: Slice) -> Result<ExprId, BuildError> {
-        Ok(self.expression(1, slice.width, &[slice.signal.0, slice.lsb as u32]))
+        let [signal, lsb, width] = [slice.signal.0, slice.lsb as u32, slice.width as u32];
+        let before = self.reads.as_ref().and_then(|reads| reads.get(&[signal, lsb, width]));
+        if let Some(read) = before {
+            return Ok(*read);
+        }
+        let read = self.expression(1, slice.width, &[signal, lsb]);
+        if let Some(reads) = &mut self.reads {
+            reads.insert([signal, lsb, width], read);
+        }
+        Ok(read)
     }
 
     pub fn concat(&mut self, parts: Vec<ExprId>) -> Result<ExprId, BuildError> {

@@ -29,6 +29,8 @@ pub struct Tally {
     /// Of those run, with a clock enable, and with one in both ports of a RAM.
     pub clock_enable: u64,
     pub two_clock_enables: u64,
+    /// Of those run, with a cell that reads a wire twice.
+    pub repeat: u64,
     /// Refused by lowering, with a loop of cells, and those of the latter whose
     /// model has a loop too.
     pub refused: u64,
@@ -84,6 +86,7 @@ pub fn compare(
     tally.run += 1;
     tally.clock_enable += u64::from(netlist.has_clock_enable());
     tally.two_clock_enables += u64::from(netlist.has_two_clock_enables());
+    tally.repeat += u64::from(netlist.has_repeat());
     let mut bytes = vec![0; model.signal_bits()];
     let mut before = model.shown(&bytes);
     if before != circuit.shown() {

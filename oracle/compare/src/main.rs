@@ -1,7 +1,7 @@
 //! Compares the two simulators on random netlists.
 //!
-//!     compare [--clock-enables] SEED NETLISTS TICKS
-//!     compare [--clock-enables] SEED NETLISTS TICKS --wrong
+//!     compare [--clock-enables | --repeats] SEED NETLISTS TICKS
+//!     compare [--clock-enables | --repeats] SEED NETLISTS TICKS --wrong
 //!
 //! The second form tries each wrong reading of `wrong.rs` and says how soon it
 //! is found.
@@ -16,7 +16,7 @@ fn main() {
     let focus = Focus::option(&mut arguments);
     let number = |at: usize| arguments.get(at).and_then(|text| text.parse::<u64>().ok());
     let (Some(seed), Some(netlists), Some(ticks)) = (number(0), number(1), number(2)) else {
-        eprintln!("usage: compare [--clock-enables] SEED NETLISTS TICKS [--wrong]");
+        eprintln!("usage: compare [--clock-enables | --repeats] SEED NETLISTS TICKS [--wrong]");
         std::process::exit(2)
     };
     let ticks = ticks as usize;

@@ -9,6 +9,7 @@ use netlist::{
     address_width,
 };
 
+use crate::tie::{self, tie};
 use crate::{Faults, Rng};
 
 /// How large a netlist becomes and what goes wrong in it.
@@ -27,6 +28,8 @@ pub struct Plan {
     pub shallow: usize,
     /// Block RAM ports in a hundred that have a clock enable.
     pub clock_enables: usize,
+    /// Cells, and output ports, in a hundred of which inputs are tied together.
+    pub ties: usize,
 }
 
 impl Plan {
@@ -64,6 +67,7 @@ impl Plan {
             very_deep: 0,
             shallow: 0,
             clock_enables: 30,
+            ties: 0,
         }
     }
 
@@ -73,6 +77,18 @@ impl Plan {
         self.kinds[6] += 12;
         self.shallow = 60;
         self.clock_enables = 85;
+    }
+
+    /// Fewer flip-flops, which share nothing, and inputs of half of the cells tied
+    /// together.
+    pub fn favour_ties(&mut self) {
+        self.cells = self.cells.clamp(1, 40);
+        for kind in [0, 1, 2, 3, 4, 6, 7, 8] {
+            self.kinds[kind] += 2;
+        }
+        self.shallow = 40;
+        self.clock_enables = 50;
+        self.ties = 50;
     }
 }
 
@@ -154,15 +170,28 @@ impl Builder<'_> {
         let shells = shells.collect::<Vec<_>>();
         self.choose_controls();
         let cells = shells.into_iter().zip(&ranks);
-        let cells = cells.map(|((kind, size, wires), &rank)| self.cell(kind, size, wires, rank));
+        let cells = cells.map(|((kind, size, wires), &rank)| {
+            let mut cell = self.cell(kind, size, wires, rank);
+            if self.ties() {
+                tie(self.rng, &mut cell);
+            }
+            cell
+        });
         let cells = cells.collect();
         for port in &mut ports {
             if port.direction == Direction::Output {
                 let width = port.bits.len();
                 port.bits = (0..width).map(|_| self.bit(usize::MAX)).collect();
+                if self.ties() {
+                    tie::some(self.rng, &mut port.bits.iter_mut().collect::<Vec<_>>());
+                }
             }
         }
         Netlist { ports, cells }
+    }
+
+    fn ties(&mut self) -> bool {
+        self.plan.ties > 0 && self.rng.chance(self.plan.ties)
     }
 
     fn kind(&mut self) -> usize {

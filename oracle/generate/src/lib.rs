@@ -4,10 +4,12 @@
 mod build;
 mod rng;
 mod spoil;
+mod tie;
 
 pub use build::{Plan, netlist};
 pub use rng::Rng;
 pub use spoil::spoil;
+pub use tie::untie;
 
 /// Chances, in a hundred and per occasion, of the things that can go wrong.
 #[derive(Clone, Copy, Debug, Default, PartialEq, Eq)]
@@ -39,14 +41,23 @@ pub enum Focus {
     All,
     /// Each has a block RAM with a clock enable in both ports.
     ClockEnables,
+    /// Each has a cell that reads a wire twice, and most have many.
+    Repeats,
 }
 
 impl Focus {
-    /// Takes the option `--clock-enables` out of a program's arguments.
+    /// Takes the options `--clock-enables` and `--repeats` out of a program's arguments.
     pub fn option(arguments: &mut Vec<String>) -> Self {
-        let before = arguments.len();
-        arguments.retain(|argument| argument != "--clock-enables");
-        if arguments.len() < before { Self::ClockEnables } else { Self::All }
+        let mut focus = Self::All;
+        arguments.retain(|argument| {
+            focus = match argument.as_str() {
+                "--clock-enables" => Self::ClockEnables,
+                "--repeats" => Self::Repeats,
+                _ => return true,
+            };
+            false
+        });
+        focus
     }
 
     /// The netlist of a seed and index, in words.
@@ -83,16 +94,30 @@ impl Focus {
 
     #[must_use]
     pub fn netlist(self, rng: &mut Rng, mut plan: Plan) -> netlist::Netlist {
-        match self {
-            Self::All => netlist(rng, &plan),
+        let wanted: fn(&netlist::Netlist) -> bool = match self {
+            Self::All => {
+                // Drawn aside, so that the other netlists are what they were before.
+                let way = Rng::new(rng.clone().next(), 0).below(16);
+                plan.ties = if way == 0 { 50 } else { 0 };
+                let mut netlist = netlist(rng, &plan);
+                if (1..=4).contains(&way) {
+                    untie(&mut netlist);
+                }
+                return netlist;
+            }
             Self::ClockEnables => {
                 plan.favour_clock_enables();
-                loop {
-                    let netlist = netlist(rng, &plan);
-                    if netlist.has_two_clock_enables() {
-                        return netlist;
-                    }
-                }
+                netlist::Netlist::has_two_clock_enables
+            }
+            Self::Repeats => {
+                plan.favour_ties();
+                netlist::Netlist::has_repeat
+            }
+        };
+        loop {
+            let netlist = netlist(rng, &plan);
+            if wanted(&netlist) {
+                return netlist;
             }
         }
     }

@@ -1,6 +1,6 @@
 //! Writes one random netlist, as words, to standard output.
 //!
-//!     generate [--clock-enables] SEED INDEX [--runnable]
+//!     generate [--clock-enables | --repeats] SEED INDEX [--runnable]
 
 use std::io::Write;
 
@@ -11,7 +11,9 @@ fn main() {
     let focus = Focus::option(&mut arguments);
     let number = |at: usize| arguments.get(at).and_then(|text| text.parse::<u64>().ok());
     let (Some(seed), Some(index)) = (number(0), number(1)) else {
-        eprintln!("usage: generate [--clock-enables] SEED INDEX [--runnable] > NETLIST");
+        eprintln!(
+            "usage: generate [--clock-enables | --repeats] SEED INDEX [--runnable] > NETLIST"
+        );
         std::process::exit(2)
     };
     let words = if arguments.get(2).is_some_and(|option| option == "--runnable") {

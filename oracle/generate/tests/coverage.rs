@@ -3,7 +3,7 @@
 use std::collections::{BTreeMap, HashMap};
 
 use generate::Focus;
-use netlist::{Bit, Cell, Control, Direction, Limits, Netlist};
+use netlist::{Bit, BlockRam, Cell, Control, Direction, Limits, Netlist};
 
 #[derive(Clone, Copy, PartialEq, Eq)]
 enum Driver {
@@ -150,5 +150,211 @@ fn clock_enables_come_in_every_way() {
             assert_eq!(seen.remove("none, with block RAM"), Some(0));
         }
         assert!(seen.values().all(|&count| count > 0), "{seen:?}");
+    }
+}
+
+/// Ways seen, by name.
+#[derive(Default)]
+struct Seen(BTreeMap<&'static str, u32>);
+
+impl Seen {
+    fn note(&mut self, way: &'static str, found: bool) {
+        *self.0.entry(way).or_default() += u32::from(found);
+    }
+}
+
+fn wire(bit: Bit) -> Option<u32> {
+    match bit {
+        Bit::Wire(wire) => Some(wire),
+        Bit::Zero | Bit::One => None,
+    }
+}
+
+/// Whether both are one wire.
+fn same(a: Bit, b: Bit) -> bool {
+    a == b && wire(a).is_some()
+}
+
+/// Whether a wire stands twice among the bits.
+fn twice(bits: &[Bit]) -> bool {
+    bits.iter().enumerate().any(|(at, &bit)| bits[..at].iter().any(|&before| same(before, bit)))
+}
+
+/// Whether the two have a wire in common.
+fn common(some: &[Bit], others: &[Bit]) -> bool {
+    some.iter().any(|&bit| others.iter().any(|&other| same(bit, other)))
+}
+
+/// How often the most frequent wire stands among the bits.
+fn most(bits: &[Bit]) -> usize {
+    let times = |bit: &Bit| bits.iter().filter(|&&other| same(*bit, other)).count();
+    bits.iter().map(times).max().unwrap_or(0)
+}
+
+fn note_block_ram(seen: &mut Seen, ram: &BlockRam) {
+    let window = ram.window();
+    let write_address = &ram.write_address[window.clone()];
+    let read_address = &ram.read_address[window.clone()];
+    let write = ram.write.signal;
+    let bits = ram.read_bits();
+    seen.note("RAM: in an address", twice(write_address));
+    seen.note("RAM: addresses of a port", {
+        write_address == read_address && write_address.iter().any(|&bit| wire(bit).is_some())
+    });
+    seen.note("RAM: in the data", twice(&ram.data));
+    seen.note("RAM: write control and data", common(&ram.data, &[write]));
+    seen.note("RAM: write control and address", common(write_address, &[write]));
+    seen.note("RAM: address and data", common(read_address, &ram.data));
+    let enable = ram.clock_enable.map(|enable| enable.signal);
+    seen.note("RAM: clock enable and write control", enable.is_some_and(|on| same(on, write)));
+    seen.note("RAM: clock enable and data", enable.is_some_and(|on| common(&ram.data, &[on])));
+    if let Some(second) = &ram.second {
+        let address = &second.address[window.clone()];
+        seen.note("RAM: across ports, addresses", {
+            address == write_address && address.iter().any(|&bit| wire(bit).is_some())
+        });
+        seen.note("RAM: across ports, data", {
+            second.data == ram.data && ram.data.iter().any(|&bit| wire(bit).is_some())
+        });
+        seen.note("RAM: across ports, write controls", same(second.write.signal, write));
+        let pair = enable.zip(second.clock_enable.map(|enable| enable.signal));
+        seen.note("RAM: across ports, clock enables", pair.is_some_and(|(a, b)| same(a, b)));
+        seen.note("RAM: across ports, other", common(&second.data, &[write]));
+    }
+    // What is not read as a bit.
+    let outside = |at: &usize| !window.contains(at);
+    let outside = (0..14).filter(outside).map(|at| ram.read_address[at]).collect::<Vec<_>>();
+    seen.note("RAM: outside of the window", common(&outside, &bits));
+    seen.note("RAM: the clock read as a bit", common(&bits, &[ram.clock]));
+    let enable = ram.read_enable.map(|enable| enable.signal);
+    seen.note("RAM: a read enable read as a bit", enable.is_some_and(|on| common(&bits, &[on])));
+    // The registers' own reads.
+    let own = ram.own_reads();
+    let has = |place: &[Bit]| own.iter().any(|own| place.contains(&Bit::Wire(own[0])));
+    let narrow = ram.word_width == 1;
+    seen.note("own read: data", narrow && has(&ram.data));
+    seen.note("own read: address", narrow && has(write_address));
+    seen.note("own read: write control", narrow && has(&[write]));
+    let enable = ram.clock_enable.map(|enable| enable.signal);
+    seen.note("own read: clock enable", narrow && enable.is_some_and(|on| has(&[on])));
+    seen.note("own read: B's", {
+        let second = ram.second.as_ref().filter(|port| narrow && port.clock_enable.is_some());
+        second.is_some_and(|port| bits.contains(&Bit::Wire(port.read[0])))
+    });
+    seen.note("own read: of A, read by B", {
+        let own = narrow && ram.clock_enable.is_some();
+        ram.second.as_ref().is_some_and(|port| own && port.data == [Bit::Wire(ram.read[0])])
+    });
+    seen.note("own read: shared by no bit", narrow && !own.is_empty() && !ram.shares_own_read());
+    seen.note("own read: wider than the bit", !narrow && has(&bits));
+}
+
+fn note_cell(seen: &mut Seen, cell: &Cell) {
+    match cell {
+        Cell::Lut4 { inputs, .. } => {
+            let [a, b, c, d] = *inputs;
+            let pairs = [[a, b, c, d], [a, c, b, d], [a, d, b, c]];
+            let two = pairs.iter().any(|&[a, b, c, d]| same(a, b) && same(c, d) && a != c);
+            seen.note("LUT4: two pairs", two);
+            seen.note("LUT4: two", most(inputs) == 2);
+            seen.note("LUT4: three", most(inputs) == 3);
+            seen.note("LUT4: four", most(inputs) == 4);
+        }
+        Cell::PfuMux { lut_true, lut_false, select, .. } => {
+            seen.note("PFUMX: arms", same(*lut_true, *lut_false) && lut_true != select);
+            seen.note("PFUMX: select and true", same(*lut_true, *select));
+            seen.note("PFUMX: select and false", same(*lut_false, *select));
+            seen.note("PFUMX: all", most(&[*lut_true, *lut_false, *select]) == 3);
+        }
+        Cell::L6Mux21 { data_zero, data_one, select, .. } => {
+            seen.note("L6MUX21: arms", same(*data_zero, *data_one) && data_one != select);
+            seen.note("L6MUX21: select and zero", same(*data_zero, *select));
+            seen.note("L6MUX21: select and one", same(*data_one, *select));
+            seen.note("L6MUX21: all", most(&[*data_zero, *data_one, *select]) == 3);
+        }
+        Cell::Ccu2c { inputs: [first, second], carry_in, .. } => {
+            seen.note("CCU2C: in a row", twice(first) || twice(second));
+            seen.note("CCU2C: in both rows", common(first, second));
+            seen.note("CCU2C: rows alike", most(first) > 0 && first == second);
+            seen.note("CCU2C: carry and first row", common(first, &[*carry_in]));
+            seen.note("CCU2C: carry and second row", common(second, &[*carry_in]));
+        }
+        Cell::Multiplier { lhs, rhs, .. } => {
+            seen.note("multiplier: squared", most(lhs) > 0 && lhs == rhs);
+            seen.note("multiplier: in a side", twice(lhs) && !common(lhs, rhs));
+            seen.note("multiplier: in both sides", common(lhs, rhs) && lhs != rhs);
+        }
+        Cell::FlipFlop { data, output, enable, reset, .. } => {
+            let enable = enable.map(|enable| enable.signal);
+            let reset = reset.filter(|reset| !reset.asynchronous).map(|reset| reset.signal);
+            seen.note("flip-flop: data and enable", enable.is_some_and(|on| same(on, *data)));
+            seen.note("flip-flop: data and reset", reset.is_some_and(|by| same(by, *data)));
+            seen.note("flip-flop: output and enable, its own read", {
+                enable.is_some() && *data == Bit::Wire(*output)
+            });
+        }
+        Cell::BlockRam(ram) => note_block_ram(seen, ram),
+        Cell::DistributedRam { write_address, data, write, read_address, read, .. } => {
+            seen.note("distributed RAM: in an address", twice(write_address));
+            seen.note("distributed RAM: addresses alike", write_address == read_address);
+            seen.note("distributed RAM: in the data", twice(data));
+            seen.note("distributed RAM: address and data", common(read_address, data));
+            seen.note("distributed RAM: write control", common(data, &[write.signal]));
+            let read = read.map(Bit::Wire);
+            seen.note("distributed RAM: its own output", common(&read, data));
+        }
+        Cell::Io { pad, fabric_output, tristate, .. } => {
+            let pad = Bit::Wire(*pad);
+            seen.note("IO: pad and output", pad == *fabric_output);
+            seen.note("IO: pad and tristate", pad == *tristate);
+            seen.note("IO: output and tristate", same(*fabric_output, *tristate));
+            seen.note("IO: all", pad == *fabric_output && pad == *tristate);
+        }
+        Cell::Jtagg { .. } | Cell::Pll { .. } => {}
+    }
+}
+
+#[test]
+fn repeats_come_in_every_way() {
+    for focus in [Focus::All, Focus::Repeats] {
+        let mut seen = Seen::default();
+        for index in 0..8_000 {
+            let Ok(netlist) = netlist::read(&focus.sample(5, index), &Limits::BASE) else {
+                continue;
+            };
+            seen.note("none", !netlist.has_repeat());
+            for port in &netlist.ports {
+                let shows = port.direction == Direction::Output;
+                seen.note("an output port", shows && twice(&port.bits));
+            }
+            let driven = drivers(&netlist);
+            let mut before = Vec::new();
+            let mut data = BTreeMap::new();
+            for cell in &netlist.cells {
+                note_cell(&mut seen, cell);
+                let reads = cell.reads();
+                let missing = reads.iter().filter(|wire| !driven.contains_key(wire));
+                let missing = missing.copied().map(Bit::Wire).collect::<Vec<_>>();
+                seen.note("a missing wire", twice(&missing));
+                seen.note("in two cells, once in each", {
+                    !cell.has_repeat() && reads.iter().any(|wire| before.contains(wire))
+                });
+                if !cell.has_repeat() {
+                    before.extend(reads);
+                }
+                if let Cell::FlipFlop { data: bit, clock, edge, reset: None, .. } = cell {
+                    let with = data.entry((*clock, *edge as u8)).or_insert_with(Vec::new);
+                    seen.note("flip-flops of a bank", common(with, &[*bit]));
+                    with.push(*bit);
+                }
+            }
+        }
+        println!("{focus:?} {:?}", seen.0);
+        if focus == Focus::Repeats {
+            // Only where the words are changed afterwards.
+            let none = seen.0.remove("none");
+            assert!(none.is_some_and(|none| none < 40), "{none:?}");
+        }
+        assert!(seen.0.values().all(|&count| count > 0), "{:?}", seen.0);
     }
 }

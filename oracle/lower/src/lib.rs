@@ -25,6 +25,14 @@ pub enum Rust {
     Amended,
 }
 
+/// Whether a request that changes records speaks of something in the netlist: of a
+/// clock enable, or of a cell that reads a wire twice. Without, both Rusts record
+/// the same. The netlist is one that the reader takes.
+#[must_use]
+pub fn spoken_of(netlist: &Netlist) -> bool {
+    netlist.has_clock_enable() || netlist.has_repeat()
+}
+
 /// By the amended Rust.
 pub fn lower(words: &[u32], limits: &Limits, lengths: [usize; 3]) -> Result<Recording, Refusal> {
     lower_by(Rust::Amended, words, limits, lengths)

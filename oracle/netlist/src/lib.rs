@@ -4,6 +4,8 @@
 mod read;
 mod write;
 
+use std::ops::Range;
+
 pub use read::{read, read_words};
 pub use write::{bit_word, write};
 
@@ -186,6 +188,60 @@ impl BlockRam {
     }
 }
 
+impl BlockRam {
+    /// The bits of an address that are read.
+    #[must_use]
+    pub fn window(&self) -> Range<usize> {
+        let low = address_shift(self.physical_width).unwrap_or(0) as usize;
+        low..low + address_width(self.depth) as usize
+    }
+
+    /// The bits that lowering reads, in its order.
+    pub fn read_bits_mut(&mut self) -> Vec<&mut Bit> {
+        let window = self.window();
+        let mut bits = self.write_address[window.clone()].iter_mut().collect::<Vec<_>>();
+        bits.extend(&mut self.read_address[window.clone()]);
+        bits.extend(&mut self.data);
+        bits.push(&mut self.write.signal);
+        bits.extend(self.clock_enable.as_mut().map(|enable| &mut enable.signal));
+        if let Some(second) = &mut self.second {
+            bits.extend(&mut second.address[window]);
+            bits.extend(&mut second.data);
+            bits.push(&mut second.write.signal);
+            bits.extend(second.clock_enable.as_mut().map(|enable| &mut enable.signal));
+        }
+        bits
+    }
+
+    #[must_use]
+    pub fn read_bits(&self) -> Vec<Bit> {
+        self.clone().read_bits_mut().into_iter().map(|bit| *bit).collect()
+    }
+
+    /// Per port with a clock enable, the wires of the register that it reads itself.
+    #[must_use]
+    pub fn own_reads(&self) -> Vec<&[u32]> {
+        let first = self.clock_enable.map(|_| &self.read[..]);
+        let second = self.second.as_ref();
+        let second = second.and_then(|port| port.clock_enable.map(|_| &port.read[..]));
+        first.into_iter().chain(second).collect()
+    }
+
+    /// Whether a port's own read is a bit that the RAM read before.
+    #[must_use]
+    pub fn shares_own_read(&self) -> bool {
+        let bits = self.read_bits();
+        self.own_reads().iter().any(|own| own.len() == 1 && bits.contains(&Bit::Wire(own[0])))
+    }
+}
+
+/// Whether a wire stands twice.
+fn has_repeat(wires: &[u32]) -> bool {
+    let mut wires = wires.to_vec();
+    wires.sort_unstable();
+    wires.windows(2).any(|pair| pair[0] == pair[1])
+}
+
 impl Netlist {
     pub fn block_rams(&self) -> impl Iterator<Item = &BlockRam> {
         self.cells.iter().filter_map(|cell| match cell {
@@ -204,6 +260,12 @@ impl Netlist {
     #[must_use]
     pub fn has_two_clock_enables(&self) -> bool {
         self.block_rams().any(|ram| ram.clock_enables().iter().flatten().count() == 2)
+    }
+
+    /// Whether some cell reads a wire twice. The netlist is one that the reader takes.
+    #[must_use]
+    pub fn has_repeat(&self) -> bool {
+        self.cells.iter().any(Cell::has_repeat)
     }
 }
 
@@ -229,6 +291,65 @@ impl Cell {
                 [&[*feedback, *output, *locked], &further[..]].concat()
             }
         }
+    }
+
+    /// The bits that lowering the cell reads, in its order; none of a flip-flop,
+    /// whose bits its bank reads. An IO's pad, which is read before them, is a wire
+    /// and not among them, and neither is what is named as a signal: a clock, a read
+    /// enable.
+    pub fn read_bits_mut(&mut self) -> Vec<&mut Bit> {
+        match self {
+            Self::Lut4 { inputs, .. } => inputs.iter_mut().collect(),
+            Self::PfuMux { lut_true, lut_false, select, .. } => {
+                vec![select, lut_true, lut_false]
+            }
+            Self::L6Mux21 { data_zero, data_one, select, .. } => {
+                vec![select, data_zero, data_one]
+            }
+            Self::Ccu2c { inputs, carry_in, .. } => {
+                [carry_in].into_iter().chain(inputs.as_flattened_mut()).collect()
+            }
+            Self::Multiplier { lhs, rhs, .. } => lhs.iter_mut().chain(rhs).collect(),
+            Self::BlockRam(ram) => ram.read_bits_mut(),
+            Self::DistributedRam { write_address, data, write, read_address, .. } => {
+                let bits = write_address.iter_mut().chain(read_address).chain(data);
+                bits.chain([&mut write.signal]).collect()
+            }
+            Self::Io { fabric_output, tristate, .. } => vec![fabric_output, tristate],
+            Self::Pll { reference, .. } => vec![reference],
+            Self::FlipFlop { .. } | Self::Jtagg { .. } => Vec::new(),
+        }
+    }
+
+    /// The wires that the cell reads beside these bits: an IO's pad, and where a block
+    /// RAM's port has a clock enable and one bit the register that it reads itself.
+    #[must_use]
+    pub fn other_reads(&self) -> Vec<u32> {
+        match self {
+            Self::Io { pad, .. } => vec![*pad],
+            Self::BlockRam(ram) => {
+                let own = ram.own_reads().into_iter().filter(|own| own.len() == 1);
+                own.map(|own| own[0]).collect()
+            }
+            _ => Vec::new(),
+        }
+    }
+
+    /// The wires that the cell reads as bits, each as often as it asks for it.
+    #[must_use]
+    pub fn reads(&self) -> Vec<u32> {
+        let mut cell = self.clone();
+        let wires = cell.read_bits_mut().into_iter().filter_map(|bit| match bit {
+            Bit::Wire(wire) => Some(*wire),
+            Bit::Zero | Bit::One => None,
+        });
+        wires.chain(self.other_reads()).collect()
+    }
+
+    /// Whether the cell reads a wire twice.
+    #[must_use]
+    pub fn has_repeat(&self) -> bool {
+        has_repeat(&self.reads())
     }
 
     /// The bits that the cell reads, clocks and controls included; an IO's pad

@@ -1,6 +1,6 @@
 //! Random cases for `simulate`, and what it must print.
 //!
-//!     simulate-cases [--clock-enables] SEED CASES TICKS WORDS BATCH EXPECTED
+//!     simulate-cases [--clock-enables | --repeats] SEED CASES TICKS WORDS BATCH EXPECTED
 //!
 //! Most netlists are meant to be run; some have faults, and some close loops.
 //! Netlists of more than WORDS words are left out, and those that ask for longer
@@ -12,7 +12,7 @@ use std::io::{BufWriter, Write};
 use cells::Circuit;
 use generate::Focus;
 use model::Model;
-use netlist::Limits;
+use netlist::{BlockRam, Limits};
 use simulate::{Case, LISTS, NETLIST, TICKS};
 
 fn main() -> std::io::Result<()> {
@@ -22,7 +22,9 @@ fn main() -> std::io::Result<()> {
     let (Some(seed), Some(cases), Some(ticks), Some(words), [_, _, _, _, batch, expected]) =
         (number(0), number(1), number(2), number(3), arguments.as_slice())
     else {
-        eprintln!("usage: simulate-cases [--clock-enables] SEED CASES TICKS WORDS BATCH EXPECTED");
+        eprintln!(
+            "usage: simulate-cases [--clock-enables | --repeats] SEED CASES TICKS WORDS BATCH EXPECTED"
+        );
         std::process::exit(2)
     };
     let ticks = (ticks as usize).min(TICKS);
@@ -98,6 +100,9 @@ fn count(tally: &mut BTreeMap<String, u64>, case: &Case, lines: &str) {
         "cases with clock enables in both ports".to_owned(),
         netlist.has_two_clock_enables().into(),
     );
+    add("cases with a wire read twice".to_owned(), netlist.has_repeat().into());
+    let own = netlist.block_rams().any(BlockRam::shares_own_read);
+    add("cases with a wire read twice by an own read".to_owned(), own.into());
     for cell in &netlist.cells {
         let text = format!("{cell:?}");
         let kind = text.split([' ', '(']).next().expect("a name").to_owned();
