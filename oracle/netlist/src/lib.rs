@@ -186,9 +186,7 @@ impl BlockRam {
         let second = self.second.as_ref().map(|second| second.clock_enable);
         [self.clock_enable].into_iter().chain(second).collect()
     }
-}
 
-impl BlockRam {
     /// The bits of an address that are read.
     #[must_use]
     pub fn window(&self) -> Range<usize> {
