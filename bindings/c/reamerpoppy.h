@@ -1,4 +1,4 @@
-/* The proved lowering of ECP5 netlists and the proved run of their models: link libcapi.a (`rt staticlib capi`), on x86-64.
+/* The proved lowering of ECP5 netlists and the proved run of their models: link libcapi.a (`tools/build.sh capi`), on x86-64.
  *
  * A buffer is a pointer, never null, and how many elements it has. Those that are not const must not overlap any other. None needs to hold anything
  * but those that are const, and the signals' bytes of reamerpoppy_run. Every function answers 0 or a refusal's number (docs/REFUSALS.md),
