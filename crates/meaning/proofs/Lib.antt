@@ -13,3 +13,4 @@ pub mod Memories
 pub mod Plains
 pub mod ReadOnce
 pub mod Whole
+pub mod OwnRecords

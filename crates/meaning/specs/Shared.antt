@@ -1,12 +1,12 @@
 -- A cell records no read twice. Sharing goes by wire; in a netlist's map that is the same as by signal, lowest bit and width.
-use Rattle.std.specs.Prelude.{◌≡◌, List, [], ◌∷◌, ◌≤◌, ℕ, length}
+use Rattle.std.specs.Prelude.{◌≡◌, ◌⊎◌, List, [], ◌∷◌, ◌≤◌, ℕ, length}
 use mathlib.Core.List.{Memᴰ as Mem}
-use Rattle.std.proofs.Math.Option.{some}
+use Rattle.std.proofs.Math.Option.{none, some}
 use Rattle.netlist.specs.declared.Limits.{Limits}
 use Rattle.netlist.specs.Netlist.{Netlist, Cell}
 use Rattle.netlist.specs.Shape.{Fits}
-use Rattle.recorder.specs.Record.{Expr, Expr.const, Expr.read, Expr.concat, Expr.not, Expr.and, Expr.or, Expr.xor, Expr.mux, Expr.eq, Expr.mul}
-use Rattle.recorder.specs.Writer.{Count, End.ok, exprsOf}
+use Rattle.recorder.specs.Record.{Expr, Expr.const, Expr.read, Expr.concat, Expr.not, Expr.and, Expr.or, Expr.xor, Expr.mux, Expr.eq, Expr.mul, Stmt, Stmt.assign, Stmt.reg}
+use Rattle.recorder.specs.Writer.{Count, End.ok, exprsOf, stmtsOf}
 use Rattle.behaviour.specs.WireMap.{slots}
 use Rattle.wires.specs.declared.Constants.{Constants}
 use Rattle.wires.specs.Wires.{WireRef, Wires}
@@ -51,3 +51,45 @@ ReadOnceEach =
     (limits : Limits) (n : Netlist) → Fits limits n → (m : Wires) → (reserveNetlist n no-records).end ≡ ok m
     → (shared : ℕ) → limits.wires ≤ shared → (z : Constants) (owner : ℕ) (x : Cell) → Mem x n.cells
     → (count : Count) → length (slots n) ≤ count.signals → NoTwo (readsIn (exprsOf (emitCell shared m z owner x count).events))
+
+-- NOTHING FROM OTHERS: a cell's records work on the constants and on its own records alone, so a read is shared within one cell
+
+-- the expressions that a record works on
+abbrev pub operands : Expr → List ℕ
+operands (const w v) = []
+operands (read w s l) = []
+operands (concat w ps) = ps
+operands (not a) = a ∷ []
+operands (and a b) = a ∷ b ∷ []
+operands (or a b) = a ∷ b ∷ []
+operands (xor a b) = a ∷ b ∷ []
+operands (mux w s t f) = s ∷ t ∷ f ∷ []
+operands (eq a b) = a ∷ b ∷ []
+operands (mul a b) = a ∷ b ∷ []
+
+-- the constants are expressions 0 and 1; the cell's first expression has number `first`
+abbrev pub OfTheCell : ℕ → ℕ → Type 0
+OfTheCell first e = (e ≤ 1) ⊎ (first ≤ e)
+
+abbrev pub AllOf : ℕ → List ℕ → Type 0
+AllOf first [] = Unit {0}
+AllOf first (e ∷ es) = OfTheCell first e × AllOf first es
+
+abbrev pub WorkOn : ℕ → List Expr → Type 0
+WorkOn first [] = Unit {0}
+WorkOn first (x ∷ xs) = AllOf first (operands x) × WorkOn first xs
+
+-- and those that a statement takes
+abbrev pub values : Stmt → List ℕ
+values (assign s e) = e ∷ []
+values (reg s n c d none x) = n ∷ []
+values (reg s n c d (some r) x) = n ∷ r.value ∷ []
+
+abbrev pub Take : ℕ → List Stmt → Type 0
+Take first [] = Unit {0}
+Take first (t ∷ ts) = AllOf first (values t) × Take first ts
+
+abbrev pub NothingFromOthers : Type 0
+NothingFromOthers =
+    (shared : ℕ) (m : Wires) (z : Constants) (owner : ℕ) (x : Cell) (count : Count)
+    → let events = (emitCell shared m z owner x count).events in WorkOn count.exprs (exprsOf events) × Take count.exprs (stmtsOf events)
