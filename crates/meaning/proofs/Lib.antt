@@ -14,3 +14,4 @@ pub mod Plains
 pub mod ReadOnce
 pub mod Whole
 pub mod OwnRecords
+pub mod Anew

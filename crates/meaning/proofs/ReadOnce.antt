@@ -77,7 +77,7 @@ reads-cons (mux w s t f) xs = refl
 reads-cons (eq a b) xs = refl
 reads-cons (mul a b) xs = refl
 
-reads-append : (xs ys : List Expr) → readsIn (xs ++ ys) ≡ readsIn xs ++ readsIn ys
+pub reads-append : (xs ys : List Expr) → readsIn (xs ++ ys) ≡ readsIn xs ++ readsIn ys
 reads-append [] ys = refl
 reads-append (x ∷ xs) ys =
     reads-cons x (xs ++ ys) ∙ ap (λ (l : List Read). readsIn (x ∷ []) ++ l) (reads-append xs ys) ∙ sym (append_assoc (readsIn (x ∷ [])) (readsIn xs) (readsIn ys))

@@ -1,16 +1,23 @@
 -- A cell records no read twice. Sharing goes by wire; in a netlist's map that is the same as by signal, lowest bit and width.
-use Rattle.std.specs.Prelude.{◌≡◌, ◌⊎◌, List, [], ◌∷◌, ◌≤◌, ℕ, length}
+use Rattle.std.specs.Prelude.{◌≡◌, ◌⊎◌, List, [], ◌∷◌, ◌≤◌, ℕ, zero, suc, ◌+◌, eqb, length}
 use mathlib.Core.List.{Memᴰ as Mem}
-use Rattle.std.proofs.Math.Option.{none, some}
+use Rattle.std.proofs.Math.Option.{Option, none, some}
+use Rattle.bits.specs.Bits.{pick}
+use Rattle.netlist.specs.declared.Bit.{Bit}
+use Rattle.netlist.specs.declared.Bit.TheVariants.{Zero, One, Wire}
+use Rattle.netlist.specs.declared.Control.{Control}
+use Rattle.netlist.specs.declared.Reset.{Reset}
 use Rattle.netlist.specs.declared.Limits.{Limits}
-use Rattle.netlist.specs.Netlist.{Netlist, Cell}
+use Rattle.netlist.specs.Netlist.{Netlist, Cell, FlipFlop}
 use Rattle.netlist.specs.Shape.{Fits}
 use Rattle.recorder.specs.Record.{Expr, Expr.const, Expr.read, Expr.concat, Expr.not, Expr.and, Expr.or, Expr.xor, Expr.mux, Expr.eq, Expr.mul, Stmt, Stmt.assign, Stmt.reg}
-use Rattle.recorder.specs.Writer.{Count, End.ok, exprsOf, stmtsOf}
+use Rattle.recorder.specs.Writer.{Count, End.ok, Writer, exprsOf, stmtsOf}
+use Rattle.recorder.specs.Meaning.{Ends}
 use Rattle.behaviour.specs.WireMap.{slots}
 use Rattle.wires.specs.declared.Constants.{Constants}
 use Rattle.wires.specs.Wires.{WireRef, Wires}
-use Rattle.lowering.specs.Emit.{emitCell}
+use Rattle.wires.specs.Expressions.{vectorBit, bitsExpression}
+use Rattle.lowering.specs.Emit.{nextBit, emitCell}
 use Rattle.lowering.specs.Lower.{reserveNetlist}
 
 abbrev pub no-records : Count
@@ -93,3 +100,37 @@ abbrev pub NothingFromOthers : Type 0
 NothingFromOthers =
     (shared : ℕ) (m : Wires) (z : Constants) (owner : ℕ) (x : Cell) (count : Count)
     → let events = (emitCell shared m z owner x count).events in WorkOn count.exprs (exprsOf events) × Take count.exprs (stmtsOf events)
+
+-- BANKS AND PORTS share nothing: a bank's flip-flop and an output port record a read for each wire that they name
+
+abbrev pub bitReads : Bit → ℕ
+bitReads Zero = 0
+bitReads One = 0
+bitReads (Wire w) = 1
+
+abbrev pub enableReads : Option Control → ℕ
+enableReads none = 0
+-- the bit that is held, and the control's
+enableReads (some c) = 1 + bitReads c.signal
+
+abbrev pub resetReads : Option Reset → ℕ
+resetReads none = 0
+resetReads (some r) = pick (eqb r.asynchronous 1) 0 (bitReads r.signal)
+
+abbrev pub flopReads : FlipFlop → ℕ
+flopReads f = bitReads f.input + (enableReads f.enable + resetReads f.reset)
+
+-- of k bits from place `at` on
+abbrev pub vectorReads : List Bit → ℕ → ℕ → ℕ
+vectorReads bits at zero = 0
+vectorReads bits at (suc k) = bitReads (vectorBit bits (at + k)) + vectorReads bits at k
+
+-- unless it is refused, a writer records so many reads
+abbrev pub Records : {A : Type 0} → Writer A → ℕ → Type 0
+Records w k = (count : Count) → Ends (w count).end (λ a. length (readsIn (exprsOf (w count).events)) ≡ k)
+
+abbrev pub BanksReadAnew : Type 0
+BanksReadAnew = (m : Wires) (f : FlipFlop) → Records (nextBit m f) (flopReads f)
+
+abbrev pub PortsReadAnew : Type 0
+PortsReadAnew = (m : Wires) (bits : List Bit) → Records (bitsExpression m bits) (vectorReads bits 0 (length bits))
