@@ -48,7 +48,6 @@ module _ {A B : Type 0} {w : Writer A} {k : A → Writer B} {P : A → Type 0} {
           → Ends (after (w n).events y (further n (w n).events) k).end (λ b. (length (readsIn (exprsOf (after (w n).events y (further n (w n).events) k).events)) ≡ i + j) × Q b)
       go n (ok a) e = both (k a (further n (w n).events)).end ((g a e.1).anew (further n (w n).events))
         where
-
           sum : (ys : List Event) → length (readsIn (exprsOf ys)) ≡ j → length (readsIn (exprsOf ((w n).events ++ ys))) ≡ i + j
           sum ys q =
               ap (λ (xs : List Expr). length (readsIn xs)) (exprs-append (w n).events ys) ∙ ap length (reads-append (exprsOf (w n).events) (exprsOf ys))

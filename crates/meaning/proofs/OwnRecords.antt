@@ -83,9 +83,13 @@ module _ {f : ℕ} {A B : Type 0} {w : Writer A} {k : A → Writer B} {P : A →
     where
       go : (n : Count) → f ≤ n.exprs → (y : End A) → Owned f (w n).events → Ends y P → Owned f (after (w n).events y (further n (w n).events) k).events × Ends (after (w n).events y (further n (w n).events) k).end Q
       go n q (ok a) u e =
-          let r = (g a e).local (further n (w n).events) (omega (arith, q, counted n (w n).events)) in
-          ((subst (WorkOn f) (sym (exprs-append (w n).events (k a (further n (w n).events)).events)) (work-append f (exprsOf (w n).events) (exprsOf (k a (further n (w n).events)).events) u.0 r.0.0),
-              subst (Take f) (sym (stmts-append (w n).events (k a (further n (w n).events)).events)) (take-append f (stmtsOf (w n).events) (stmtsOf (k a (further n (w n).events)).events) u.1 r.0.1)), r.1)
+          let r = (g a e).local (further n (w n).events) (omega (arith, q, counted n (w n).events)) in (
+            (
+              subst (WorkOn f) (sym (exprs-append (w n).events (k a (further n (w n).events)).events)) (work-append f (exprsOf (w n).events) (exprsOf (k a (further n (w n).events)).events) u.0 r.0.0),
+              subst (Take f) (sym (stmts-append (w n).events (k a (further n (w n).events)).events)) (take-append f (stmtsOf (w n).events) (stmtsOf (k a (further n (w n).events)).events) u.1 r.0.1),
+            ),
+            r.1,
+          )
       go n q (no x y) u e = (u, tt)
 
 module _ {f : ℕ} {A : Type 0} {w : Writer A} {P Q : A → Type 0} where
@@ -95,7 +99,6 @@ module _ {f : ℕ} {A : Type 0} {w : Writer A} {P Q : A → Type 0} where
       so : (y : End A) → Ends y P → Ends y Q
       so (ok a) e = g a e
       so (no x y) e = tt
-
 
 -- READS
 
