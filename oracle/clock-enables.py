@@ -7,13 +7,12 @@
 Netlists are texts of tools/words.py. What is stated here is stated from the request, not taken from a program; where records end in the
 list of expressions is read off the oracle's listing.
 """
-import os, struct, subprocess, sys
+import os, subprocess
+
+import stated
+from stated import ROOMY, w
 
 HERE = os.path.dirname(os.path.abspath(__file__))
-sys.path.insert(0, os.path.join(HERE, "..", "tools"))
-import words as w
-
-ROOMY = [16384] * 3
 
 
 def pick(wires, width):
@@ -45,20 +44,9 @@ def ram(ce=None, ce2=None, second=True, width=1, depth=2, ren=None, ren2=None, b
 # ---- LOWERING
 
 
-class Lower:
-    def __init__(self):
-        self.batch, self.stated = [], []
-
+class Lower(stated.Lower):
     def case(self, text, answer="model", lengths=ROOMY):
-        words = w.assemble(text)
-        self.batch += [len(words), *lengths, *words]
-        self.stated.append(answer)
-
-    def write(self, batch, stated):
-        with open(batch, "wb") as f:
-            f.write(struct.pack(f"<{len(self.batch)}I", *self.batch))
-        with open(stated, "w") as f:
-            f.writelines(line + "\n" for line in self.stated)
+        super().case(text, answer, lengths)
 
 
 def listing(text):
@@ -341,25 +329,5 @@ def tick_cases():
         yield text, "refused 8 200"
 
 
-def ticks(batch, expected):
-    with open(batch, "wb") as b, open(expected, "w") as e:
-        for text, rows in tick_cases():
-            if isinstance(rows, str):
-                lines, rows = [rows], [(RISE, "0", "")]
-            else:
-                lines = [line for _, _, line in rows]
-            data = w.assemble_ticks("\n".join([text] + [f"tick {fired} {bits}" for fired, bits, _ in rows]))
-            b.write(struct.pack("<I", len(data) // 4) + data)
-            e.writelines(line + "\n" for line in lines)
-
-
-def main():
-    which, batch, answers = sys.argv[1:]
-    if which == "ticks":
-        ticks(batch, answers)
-    else:
-        lower_cases().write(batch, answers)
-
-
 if __name__ == "__main__":
-    main()
+    stated.main(lower_cases, tick_cases)

@@ -8,19 +8,11 @@
 Netlists are texts of tools/words.py; a `/` ends a line. What is stated here is stated from the request: the expressions that come behind the two constants
 and the statements that come behind their two, as the listing has them. Signals are those that words.py numbers.
 """
-import os, struct, sys
+import stated
+from stated import ROOMY, netlist, w
 
-HERE = os.path.dirname(os.path.abspath(__file__))
-sys.path.insert(0, os.path.join(HERE, "..", "tools"))
-import words as w
-
-ROOMY = [16384] * 3
 LABELS = "input output lut pfumx l6mux ccu mul ff ram dram io jtagg pll word zero one".split()
 KINDS = "const read concat not and or xor mux eq mul".split()
-
-
-def netlist(text):
-    return w.assemble(text.replace(" / ", "\n"))
 
 
 def many(what, n):
@@ -77,15 +69,7 @@ def taken(numbers):
     return h
 
 
-class Lower:
-    def __init__(self):
-        self.batch, self.stated = [], []
-
-    def case(self, text, answer, lengths=ROOMY):
-        words = netlist(text)
-        self.batch += [len(words), *lengths, *words]
-        self.stated.append(answer)
-
+class Lower(stated.Lower):
     def model(self, text, expressions, statements):
         """The netlist in long lists, in lists exactly full, in lists of which one is a word short; the expressions also end with each record, and a
         word before, where they are few."""
@@ -99,12 +83,6 @@ class Lower:
         ends = m.ends[1] if len(expressions) <= 24 else []
         for room in sorted({end - short for end in ends for short in (0, 1)} - {m.used[1], m.used[1] - 1}):
             self.case(text, "refused 2 1", [m.used[0], room, m.used[2]])
-
-    def write(self, batch, stated):
-        with open(batch, "wb") as f:
-            f.write(struct.pack(f"<{len(self.batch)}I", *self.batch))
-        with open(stated, "w") as f:
-            f.writelines(line + "\n" for line in self.stated)
 
 
 ONE = "input 1 w0 / output 1 w9 / "  # s0, s1; then the cell's output s2
@@ -565,22 +543,5 @@ def tick_cases():
     yield shows(ONE + lut("w200", "w200", 0, 0, 2), ("0", "refused 8 200"))
 
 
-def ticks(batch, expected):
-    with open(batch, "wb") as b, open(expected, "w") as e:
-        for text, rows in tick_cases():
-            ticked = "".join(f"\ntick {fired} {bits}" for fired, bits, _ in rows)
-            data = w.assemble_ticks(text.replace(" / ", "\n") + ticked)
-            b.write(struct.pack("<I", len(data) // 4) + data)
-            e.writelines(line + "\n" for _, _, line in rows)
-
-
-def main():
-    which, batch, answers = sys.argv[1:]
-    if which == "ticks":
-        ticks(batch, answers)
-    else:
-        lower_cases().write(batch, answers)
-
-
 if __name__ == "__main__":
-    main()
+    stated.main(lower_cases, tick_cases)

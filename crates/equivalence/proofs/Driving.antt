@@ -30,8 +30,9 @@ use Rattle.meaning.specs.Runs.{Laid}
 use Rattle.meaning.proofs.Whole.{Does, AllDo, Runs}
 use Rattle.forms.specs.Groups.{Group, slot_of}
 use Rattle.forms.specs.Lowered.{Lowered}
-use Rattle.forms.proofs.Slots.{Placed, Late, of-cell, of-bank, ports-first, slot-late}
-use Rattle.forms.proofs.Counting.{mapping, slot-signals, Located, located, PortSlot, gives, shows, port-slot, wire-at, bank-is, group-some}
+use Rattle.meaning.proofs.Placing.{Placed, Located, located}
+use Rattle.forms.proofs.Slots.{Late, of-cell, of-bank, ports-first, slot-late}
+use Rattle.forms.proofs.Counting.{mapping, slot-signals, PortSlot, gives, shows, port-slot, wire-at, bank-is, group-some}
 use Rattle.equivalence.specs.Registers.{registersOf, registersAll}
 use Rattle.equivalence.proofs.Outputs.{cell-gives}
 

@@ -38,8 +38,9 @@ use Rattle.meaning.proofs.Memories.{Updated, ReadPort, SecondRead, PortValue}
 use Rattle.meaning.proofs.Whole.{Does, Runs, model-runs}
 use Rattle.forms.specs.Acts.{aim, netlistWords}
 use Rattle.forms.specs.Lowered.{loweredModel, Lowered, Roomy}
+use Rattle.meaning.proofs.Placing.{located}
 use Rattle.forms.proofs.Slots.{ports-first, ports-within, bank-slot}
-use Rattle.forms.proofs.Counting.{noSignal, kept, mapping, slot-signals, signals-are, slot-fits, slots-within, located, wire-at, bank-is, leader-first, leader-there}
+use Rattle.forms.proofs.Counting.{noSignal, kept, mapping, slot-signals, signals-are, slot-fits, slots-within, wire-at, bank-is, leader-first, leader-there}
 use Rattle.forms.proofs.Sounds.{lowered-sound, drivers-are}
 use Rattle.equivalence.specs.Settled.{Settling, tickOf}
 use Rattle.equivalence.specs.Registers.{bits_of, read_of, secondRead, registersOf, registersAll}

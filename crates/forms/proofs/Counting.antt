@@ -28,10 +28,9 @@ use Rattle.recorder.specs.Record.{Signal, Stmt, target}
 use Rattle.recorder.specs.Writer.{signalsOf, further, Out}
 use Rattle.recorder.proofs.Events.{signals-append}
 use Rattle.behaviour.specs.Banks.{Member, Bank, outputsOf, collectFlipFlopBanks}
-use Rattle.behaviour.specs.WireMap.{Source, inputs, shown, pins, Slot, WireRef, find, portSlots, pllWires, bankSlot, slots, total, wordSignals, signalCount}
+use Rattle.behaviour.specs.WireMap.{Source, inputs, shown, pins, Slot, find, portSlots, pllWires, bankSlot, slots, total, wordSignals, signalCount}
 use Rattle.behaviour.specs.Behaviour.{absent}
 use Rattle.behaviour.proofs.BankLaws.{IsBank, banks-are, Begins}
-use Rattle.behaviour.proofs.MapLaws.{FoundIs, FoundAt, found-is}
 use Rattle.wires.specs.Wires.{Wires, WireRef as Ref}
 use Rattle.lowering.specs.Lower.{statementsOn, allowed, overdrivenFrom, reserveNetlist, emitNetlist}
 use Rattle.meaning.specs.Mapped.{refOf, LabelFits, SignalFits, SignalsFit, no_slot, Mapping, portSignals, Reserved}
@@ -41,7 +40,8 @@ use Rattle.meaning.proofs.Whole.{lowering-is, stmts-are}
 use Rattle.forms.specs.Groups.{Group, apiece, secondGroup, groups, slot_of}
 use Rattle.forms.specs.Acts.{targets, Done, aim, range, secondAim, aims, clockAims, cellAims, cellWords, allAims, allWords, bankAims, portAims, netlistWords, netlistAims}
 use Rattle.forms.specs.Lowered.{none_yet, loweredModel, Lowered}
-use Rattle.forms.proofs.Slots.{Placed, Late, of-cell, of-bank, ports-first, ports-within, slot-late}
+use Rattle.meaning.proofs.Placing.{Placed, each-mem, Located, located}
+use Rattle.forms.proofs.Slots.{Late, of-cell, of-bank, ports-first, ports-within, slot-late}
 use Rattle.forms.proofs.Aims.{netlist-acts, words_count}
 
 -- HOW OFTEN A NUMBER OCCURS
@@ -399,14 +399,6 @@ module _ {shared : ℕ} {limits : Limits} {n : Netlist} (a : Lowered shared limi
       go (inl e) f = here (ap (λ (y : Bank). aim (m y.leader.flop.output)) e)
       go (inr q) f = there (f q)
 
-  each-mem : (P : Bank → Type 0) (bs : List Bank) → Each P bs → (b : Bank) → Mem b bs → P b
-  each-mem P [] e b h = absurd (not-nil h)
-  each-mem P (x ∷ bs) e b h = go (cases_cons h) (each-mem P bs e.1 b)
-    where
-      go : (b ≡ x) ⊎ Mem b bs → (Mem b bs → P b) → P b
-      go (inl p) f = subst P (sym p) e.0
-      go (inr q) f = f q
-
   pub bank-is : (b : Bank) → Mem b (collectFlipFlopBanks n.cells) → IsBank n.cells b
   bank-is b h = each-mem (IsBank n.cells) (collectFlipFlopBanks n.cells) (banks-are n.cells) b h
 
@@ -414,36 +406,6 @@ module _ {shared : ℕ} {limits : Limits} {n : Netlist} (a : Lowered shared limi
   bank-own b p h =
       let f = (bank-is b h).first in
       occurs-in p.number bankPart (subst (λ (s : ℕ). Mem s bankPart) (ap (λ (w : ℕ). aim (m w)) (sym (leader-first b f)) ∙ aim-is _ (outputsOf b.members) p (leader-there b f)) (bank-aim (collectFlipFlopBanks n.cells) b h))
-
--- where a wire is: the slot, and its bit there
-pub record Located (n : Netlist) (w : ℕ) (r : Ref) : Type 0 where
-  pub inside : r.signal < length (slots n)
-  pub width : r.width ≡ length (get_or (slots n) r.signal no_slot).bits
-  pub within : r.lsb < length (get_or (slots n) r.signal no_slot).bits
-  pub is : get_or (get_or (slots n) r.signal no_slot).bits r.lsb Zero ≡ Wire w
-  pub found : find w (slots n) 0 ≡ some (record { signal = r.signal; lowest = r.lsb; width = r.width; source = (get_or (slots n) r.signal no_slot).source })
-
-located-as : (n : Netlist) (w : ℕ) (q : WireRef) → find w (slots n) 0 ≡ some q → Located n w (record { signal = q.signal; lsb = q.lowest; width = q.width })
-located-as n w q e =
-    let f : FoundAt w (slots n) 0 no_slot q = subst (FoundIs w (slots n) 0 no_slot) e (found-is w (slots n) 0 no_slot) in
-    let z : f.at ≡ q.signal = omega (arith, f.signal) in
-    record {
-      inside = omega (arith, f.inside, z);
-      width = f.holds.width ∙ ap (λ (s : ℕ). length (get_or (slots n) s no_slot).bits) z;
-      within = subst (λ (s : ℕ). q.lowest < length (get_or (slots n) s no_slot).bits) z f.holds.inside;
-      is = ap (λ (s : ℕ). get_or (get_or (slots n) s no_slot).bits q.lowest Zero) (sym z) ∙ f.holds.is;
-      found = e ∙ ap (λ (x : Source). some (record { signal = q.signal; lowest = q.lowest; width = q.width; source = x })) (f.holds.source ∙ ap (λ (s : ℕ). (get_or (slots n) s no_slot).source) z);
-    }
-
-pub located : (n : Netlist) (m : Wires) (ss : List Signal) → Mapping (slots n) ss m → (w : ℕ) (r : Ref) → m w ≡ some r → Located n w r
-located n m ss h w r e = go (find w (slots n) 0) refl
-  where
-    go : (o : Option WireRef) → find w (slots n) 0 ≡ o → Located n w r
-    go none q = absurd (some-ne-none r (sym e ∙ h.finds w ∙ ap refOf q))
-    go (some x) q =
-        let y : some r ≡ some (record { signal = x.signal; lsb = x.lowest; width = x.width }) = sym e ∙ h.finds w ∙ ap refOf q in
-        let z : r ≡ record { signal = x.signal; lsb = x.lowest; width = x.width } = cc in
-        subst (Located n w) (sym z) (located-as n w x q)
 
 -- PORTS
 

@@ -25,22 +25,10 @@ use Rattle.behaviour.specs.Banks.{Bank, collectFlipFlopBanks}
 use Rattle.behaviour.specs.WireMap.{Source, Slot, pins, WireRef, portSlots, find, is_some, single, together, secondSlot, pllWires, reserveFresh, reserve, reserveAll, bankSlot, slots}
 use Rattle.behaviour.specs.Behaviour.{absent}
 use Rattle.meaning.specs.Mapped.{no_slot}
+use Rattle.meaning.proofs.Placing.{Placed, placed, all-keeps}
 use Rattle.forms.specs.Groups.{Group, apiece, secondGroup, groups, slot_of, isPll}
 
 -- FOUND BY NUMBER
-
-pub record Placed (held : List Slot) (x : Slot) : Type 0 where
-  pub number : ℕ
-  pub inside : number < length held
-  pub is : get_or held number no_slot ≡ x
-
-pub placed : (held : List Slot) (x : Slot) → Mem x held → Placed held x
-placed [] x m = absurd (not-nil m)
-placed (y ∷ held) x m = go (cases_cons m) (placed held x)
-  where
-    go : (x ≡ y) ⊎ Mem x held → (Mem x held → Placed held x) → Placed (y ∷ held) x
-    go (inl e) f = record { number = 0; inside = omega arith; is = sym e }
-    go (inr q) f = let r = f q in record { number = suc r.number; inside = omega (arith, r.inside); is = r.is }
 
 pub slot-there : (held : List Slot) (s : ℕ) → s < length held → Mem (get_or held s no_slot) held
 slot-there [] s h = absurd (not-suc-le-zero h)
@@ -93,14 +81,6 @@ map-in c (h ∷ gs) g m = go (cases_cons m) (map-in c gs g)
     go (inl e) f = here (ap (slot_of c) e)
     go (inr q) f = there (f q)
 
-fresh_keeps : (c : ℕ) (ws : List ℕ) (k : ℕ) (held : List Slot) (x : Slot) → Mem x held → Mem x (reserveFresh c ws k held)
-fresh_keeps c [] k held x m = m
-fresh_keeps c (w ∷ ws) k held x m = fresh_keeps c ws (suc k) (pick (is_some (find w held 0)) held (held ++ single c (w ∷ []) k)) x (go (is_some (find w held 0)))
-  where
-    go : (b : Bool) → Mem x (pick b held (held ++ single c (w ∷ []) k))
-    go true = m
-    go false = mem-left (single c (w ∷ []) k) m
-
 pll-split : (x : Cell) → isPll x ≡ true → (p : Rattle.netlist.specs.Netlist.Pll) × (x ≡ pll p)
 pll-split (lut4 i o t) e = absurd (false≢true e)
 pll-split (pfumx t f s o) e = absurd (false≢true e)
@@ -113,17 +93,6 @@ pll-split (distributedRam r) e = absurd (false≢true e)
 pll-split (io p d i t) e = absurd (false≢true e)
 pll-split (jtagg ws) e = absurd (false≢true e)
 pll-split (pll p) e = (p, refl)
-
-reserve-keeps : (c : ℕ) (y : Cell) (held : List Slot) (x : Slot) → Mem x held → Mem x (reserve c y held)
-reserve-keeps c y held x m = go (isPll y) refl
-  where
-    go : (b : Bool) → isPll y ≡ b → Mem x (reserve c y held)
-    go false e = subst (λ (l : List Slot). Mem x l) (sym (plain-adds c y held e)) (mem-left (map (slot_of c) (groups y)) m)
-    go true e = let p = pll-split y e in subst (λ (z : Cell). Mem x (reserve c z held)) (sym p.1) (fresh_keeps c (pllWires p.0) 0 held x m)
-
-all-keeps : (cells : List Cell) (c : ℕ) (held : List Slot) (x : Slot) → Mem x held → Mem x (reserveAll cells c held)
-all-keeps [] c held x m = m
-all-keeps (y ∷ cells) c held x m = all-keeps cells (suc c) (reserve c y held) x (reserve-keeps c y held x m)
 
 -- a slot of a cell, by the cell's place in the list
 pub record OfCell (cells : List Cell) (c : ℕ) (x : Slot) : Type 0 where

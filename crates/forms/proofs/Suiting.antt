@@ -31,8 +31,9 @@ use Rattle.forms.specs.Typed.{None}
 use Rattle.forms.specs.Suits.{From, WideAs, Suits, AllSuit, SecondSuits, CellSuits, BankSuits, PortSuits, PortsSuit}
 use Rattle.forms.specs.Lowered.{Lowered}
 use Rattle.forms.specs.Dependent.{first_word, MayRead, a_word, a-wire}
-use Rattle.forms.proofs.Slots.{Placed, group-slot, bank-slot, ports-first, ports-within}
-use Rattle.forms.proofs.Counting.{slot-signals, mapping, wire-at, bank-is, Located, located, OwnSlot, pll-own, pll-apart, apiece-wire, group-some, leader-first, leader-there}
+use Rattle.meaning.proofs.Placing.{Placed, Located, located}
+use Rattle.forms.proofs.Slots.{group-slot, bank-slot, ports-first, ports-within}
+use Rattle.forms.proofs.Counting.{slot-signals, mapping, wire-at, bank-is, OwnSlot, pll-own, pll-apart, apiece-wire, group-some, leader-first, leader-there}
 
 module _ {shared : ℕ} {limits : Limits} {n : Netlist} (a : Lowered shared limits n) where
   abbrev m : Wires

@@ -92,14 +92,6 @@ module _ {f : ℕ} {A B : Type 0} {w : Writer A} {k : A → Writer B} {P : A →
           )
       go n q (no x y) u e = (u, tt)
 
-module _ {f : ℕ} {A : Type 0} {w : Writer A} {P Q : A → Type 0} where
-  local-so : Local f w P → ((a : A) → P a → Q a) → Local f w Q
-  local-so h g = record { local = λ n q. ((h.local n q).0, so (w n).end (h.local n q).1) }
-    where
-      so : (y : End A) → Ends y P → Ends y Q
-      so (ok a) e = g a e
-      so (no x y) e = tt
-
 -- READS
 
 -- what stands is of the cell

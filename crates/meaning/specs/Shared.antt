@@ -13,15 +13,13 @@ use Rattle.netlist.specs.Shape.{Fits}
 use Rattle.recorder.specs.Record.{Expr, Expr.const, Expr.read, Expr.concat, Expr.not, Expr.and, Expr.or, Expr.xor, Expr.mux, Expr.eq, Expr.mul, Stmt, Stmt.assign, Stmt.reg}
 use Rattle.recorder.specs.Writer.{Count, End.ok, Writer, exprsOf, stmtsOf}
 use Rattle.recorder.specs.Meaning.{Ends}
+use Rattle.recorder.specs.Outcome.{none_yet}
 use Rattle.behaviour.specs.WireMap.{slots}
 use Rattle.wires.specs.declared.Constants.{Constants}
 use Rattle.wires.specs.Wires.{WireRef, Wires}
 use Rattle.wires.specs.Expressions.{vectorBit, bitsExpression}
 use Rattle.lowering.specs.Emit.{nextBit, emitCell}
 use Rattle.lowering.specs.Lower.{reserveNetlist}
-
-abbrev pub no-records : Count
-no-records = record { signals = 0; exprs = 0; stmts = 0 }
 
 -- what a read record says
 pub record Read : Type 0 where
@@ -50,12 +48,12 @@ NoTwo (x ∷ xs) = (Mem x xs → ⊥) × NoTwo xs
 
 -- in the map of a netlist each wire has a place of its own
 abbrev pub WiresApart : Type 0
-WiresApart = (n : Netlist) (m : Wires) → (reserveNetlist n no-records).end ≡ ok m → (v w : ℕ) (q r : WireRef) → m v ≡ some q → m w ≡ some r → q.signal ≡ r.signal → q.lsb ≡ r.lsb → v ≡ w
+WiresApart = (n : Netlist) (m : Wires) → (reserveNetlist n none_yet).end ≡ ok m → (v w : ℕ) (q r : WireRef) → m v ≡ some q → m w ≡ some r → q.signal ≡ r.signal → q.lsb ≡ r.lsb → v ≡ w
 
 -- a cell of a netlist, emitted once the signals of all slots are declared, records no read twice
 abbrev pub ReadOnceEach : Type 0
 ReadOnceEach =
-    (limits : Limits) (n : Netlist) → Fits limits n → (m : Wires) → (reserveNetlist n no-records).end ≡ ok m
+    (limits : Limits) (n : Netlist) → Fits limits n → (m : Wires) → (reserveNetlist n none_yet).end ≡ ok m
     → (shared : ℕ) → limits.wires ≤ shared → (z : Constants) (owner : ℕ) (x : Cell) → Mem x n.cells
     → (count : Count) → length (slots n) ≤ count.signals → NoTwo (readsIn (exprsOf (emitCell shared m z owner x count).events))
 
