@@ -56,15 +56,14 @@ def tick(bits, fired):
 
 def main():
     have = {name: (words, ticks) for name, words, ticks in vectors(sys.argv[1])}
-    banks = "collectFlipFlopBanks, banksFrom, leadersFrom, flipFlopsFrom, bankIn, membersOf"
+    banks = "collect_flip_flop_banks, banks_from, leaders_from, flip_flops_from, bank_in, members_of"
     print(f"""-- Vectors from Yosys' ECP5 cell models, a few of each kind of cell. Written by oracle/yosys/rows.py from oracle/answers/yosys.txt.
-use mathlib.Core.Path.{{_≡_, refl}}
-use mathlib.Core.List.{{List, [], _∷_, map}}
-use Rattle·behaviour·specs.specs.Banks.{{{banks}}}
-use Rattle·behaviour·specs.specs.Checking.{{Row, shownBy, still, fire}}
+use Rattle.std.specs.Prelude.{{◌≡◌, refl, List, [], ◌∷◌, map}}
+use Rattle.behaviour.specs.Banks.{{{banks}}}
+use Rattle.behaviour.specs.Checking.{{Row, shown_by, still, fire}}
 
-abbrev pub yosysRows : List Row
-yosysRows =""")
+abbrev pub yosys_rows : List Row
+yosys_rows =""")
     for line in TAKEN.split("\n"):
         name, count = line.split()
         words, ticks = have[name]
@@ -78,9 +77,9 @@ yosysRows =""")
         print("    } ∷")
     print(f"""    []
 
-pub yosys-holds : map shownBy yosysRows ≡ map (λ (r : Row). r .shown) yosysRows
+pub yosys_holds : map shown_by yosys_rows ≡ map (λ (r : Row). r.shown) yosys_rows
 unfolding {banks.replace(',', '')}
-yosys-holds = refl""")
+yosys_holds = refl""")
 
 
 if __name__ == "__main__":
