@@ -1,26 +1,26 @@
 -- Writers in a row, regrouped.
 use mathlib.Core.Path.{◌≡◌, ap, ◌∙◌, fun_ext}
 use Rattle.recorder.specs.Writer.{Writer, pure, ◌>>=◌}
-use Rattle.recorder.proofs.Events.{bind-pure, bind_assoc}
+use Rattle.recorder.proofs.Events.{bind_pure, bind_assoc}
 
 -- the same first, and then the same
-pub bind-cong : {A B : Type 0} (w : Writer A) {f g : A → Writer B} → ((a : A) → f a ≡ g a) → (w >>= f) ≡ (w >>= g)
-bind-cong w h = ap (λ (k : _ → Writer _). w >>= k) (fun_ext h)
+pub bind_cong : {A B : Type 0} (w : Writer A) {f g : A → Writer B} → ((a : A) → f a ≡ g a) → (w >>= f) ≡ (w >>= g)
+bind_cong w h = ap (λ (k : _ → Writer _). w >>= k) (fun_ext h)
 
 -- one that ends in a value, and then k
-pub bind-one : {A B C : Type 0} (w : Writer A) (f : A → B) (k : B → Writer C) → (w >>= (λ a. pure (f a)) >>= k) ≡ (w >>= λ a. k (f a))
-bind-one w f k = bind_assoc w (λ a. pure (f a)) k ∙ bind-cong w (λ a. bind-pure (f a) k)
+pub bind_one : {A B C : Type 0} (w : Writer A) (f : A → B) (k : B → Writer C) → (w >>= (λ a. pure (f a)) >>= k) ≡ (w >>= λ a. k (f a))
+bind_one w f k = bind_assoc w (λ a. pure (f a)) k ∙ bind_cong w (λ a. bind_pure (f a) k)
 
 -- two
-pub bind-two : {A B C D : Type 0} (w : Writer A) (v : A → Writer B) (f : A → B → C) (k : C → Writer D)
+pub bind_two : {A B C D : Type 0} (w : Writer A) (v : A → Writer B) (f : A → B → C) (k : C → Writer D)
     → ((w >>= λ a. v a >>= λ b. pure (f a b)) >>= k) ≡ (w >>= λ a. v a >>= λ b. k (f a b))
-bind-two w v f k = bind_assoc w (λ a. v a >>= λ b. pure (f a b)) k ∙ bind-cong w (λ a. bind-one (v a) (f a) k)
+bind_two w v f k = bind_assoc w (λ a. v a >>= λ b. pure (f a b)) k ∙ bind_cong w (λ a. bind_one (v a) (f a) k)
 
 -- three, and four
-pub bind-three : {A B C D E : Type 0} (w : Writer A) (v : A → Writer B) (u : A → B → Writer C) (f : A → B → C → D) (k : D → Writer E)
+pub bind_three : {A B C D E : Type 0} (w : Writer A) (v : A → Writer B) (u : A → B → Writer C) (f : A → B → C → D) (k : D → Writer E)
     → ((w >>= λ a. v a >>= λ b. u a b >>= λ c. pure (f a b c)) >>= k) ≡ (w >>= λ a. v a >>= λ b. u a b >>= λ c. k (f a b c))
-bind-three w v u f k = bind_assoc w (λ a. v a >>= λ b. u a b >>= λ c. pure (f a b c)) k ∙ bind-cong w (λ a. bind-two (v a) (u a) (f a) k)
+bind_three w v u f k = bind_assoc w (λ a. v a >>= λ b. u a b >>= λ c. pure (f a b c)) k ∙ bind_cong w (λ a. bind_two (v a) (u a) (f a) k)
 
-pub bind-four : {A B C D E F : Type 0} (w : Writer A) (v : A → Writer B) (u : A → B → Writer C) (x : A → B → C → Writer D) (f : A → B → C → D → E) (k : E → Writer F)
+pub bind_four : {A B C D E F : Type 0} (w : Writer A) (v : A → Writer B) (u : A → B → Writer C) (x : A → B → C → Writer D) (f : A → B → C → D → E) (k : E → Writer F)
     → ((w >>= λ a. v a >>= λ b. u a b >>= λ c. x a b c >>= λ d. pure (f a b c d)) >>= k) ≡ (w >>= λ a. v a >>= λ b. u a b >>= λ c. x a b c >>= λ d. k (f a b c d))
-bind-four w v u x f k = bind_assoc w (λ a. v a >>= λ b. u a b >>= λ c. x a b c >>= λ d. pure (f a b c d)) k ∙ bind-cong w (λ a. bind-three (v a) (u a) (x a) (f a) k)
+bind_four w v u x f k = bind_assoc w (λ a. v a >>= λ b. u a b >>= λ c. x a b c >>= λ d. pure (f a b c d)) k ∙ bind_cong w (λ a. bind_three (v a) (u a) (x a) (f a) k)

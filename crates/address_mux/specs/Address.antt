@@ -5,8 +5,8 @@ use Rattle.recorder.specs.Record.{Expr.const, Expr.eq}
 use Rattle.recorder.specs.Writer.{Writer, refuse, emit, ◌>>=◌}
 
 -- the address's expression and its width, the index
-unfoldable pub matchAddress : ℕ → ℕ → ℕ → Writer ℕ
-matchAddress address aw index = do
+unfoldable pub match_address : ℕ → ℕ → ℕ → Writer ℕ
+match_address address aw index = do
   k ← emit (const aw index)
   emit (eq address k)
 

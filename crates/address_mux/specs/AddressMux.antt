@@ -9,25 +9,25 @@ pub record Node : Type 0 where
   pub value : ℕ
 
 -- one level: neighbours are joined in order after those in `next`, the later one wins; words of this width
-unfoldable pub muxLevel : ℕ → List Node → List Node → Writer (List Node)
-muxLevel width [] next = pure next
-muxLevel width (l ∷ []) next = pure (next ++ (l ∷ []))
-muxLevel width (l ∷ r ∷ ns) next = do
+unfoldable pub mux_level : ℕ → List Node → List Node → Writer (List Node)
+mux_level width [] next = pure next
+mux_level width (l ∷ []) next = pure (next ++ (l ∷ []))
+mux_level width (l ∷ r ∷ ns) next = do
   a ← emit (or l.matched r.matched)
   v ← emit (mux width r.matched r.value l.value)
-  muxLevel width ns (next ++ (record { matched = a; value = v } ∷ []))
+  mux_level width ns (next ++ (record { matched = a; value = v } ∷ []))
 
 -- none is left: zero; one: its word or zero; more: a level, and then k
-abbrev pub topLevel : ℕ → List Node → ℕ → (List Node → Writer ℕ) → Writer ℕ
-topLevel width [] e k = pure e
-topLevel width (root ∷ []) e k = emit (mux width root.matched root.value e)
-topLevel width (l ∷ r ∷ ns) e k = muxLevel width (l ∷ r ∷ ns) [] >>= k
+abbrev pub top_level : ℕ → List Node → ℕ → (List Node → Writer ℕ) → Writer ℕ
+top_level width [] e k = pure e
+top_level width (root ∷ []) e k = emit (mux width root.matched root.value e)
+top_level width (l ∷ r ∷ ns) e k = mux_level width (l ∷ r ∷ ns) [] >>= k
 
 -- levels until one candidate is left, at most as many as the first number
-unfoldable pub muxLevels : ℕ → ℕ → List Node → ℕ → Writer ℕ
-muxLevels zero width level e = topLevel width level e (λ next. pure e)
-muxLevels (suc fuel) width level e = topLevel width level e (λ next. muxLevels fuel width next e)
+unfoldable pub mux_levels : ℕ → ℕ → List Node → ℕ → Writer ℕ
+mux_levels zero width level e = top_level width level e (λ next. pure e)
+mux_levels (suc fuel) width level e = top_level width level e (λ next. mux_levels fuel width next e)
 
 -- words' width, candidates, the expression of zero
-abbrev pub balancedAddressMux : ℕ → List Node → ℕ → Writer ℕ
-balancedAddressMux width level e = muxLevels (length level) width level e
+abbrev pub balanced_address_mux : ℕ → List Node → ℕ → Writer ℕ
+balanced_address_mux width level e = mux_levels (length level) width level e

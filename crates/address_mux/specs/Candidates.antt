@@ -10,23 +10,23 @@ use Rattle.recorder.specs.Lists.{WroteExprs, Answer, Answer.Done, Answer.Failed}
 use Rattle.address_mux.specs.declared.AddressMuxNode.{AddressMuxNode}
 use Rattle.address_mux.specs.declared.Joined.{Joined}
 use Rattle.address_mux.specs.declared.Joined.TheVariants as J
-use Rattle.address_mux.specs.AddressMux.{Node, muxLevel}
+use Rattle.address_mux.specs.AddressMux.{Node, mux_level}
 
 -- the candidate at an index of the two slices
-abbrev pub nodeAt : List ℕ → List ℕ → ℕ → Node
-nodeAt ms vs i = record { matched = get_or ms i 0; value = get_or vs i 0 }
+abbrev pub node_at : List ℕ → List ℕ → ℕ → Node
+node_at ms vs i = record { matched = get_or ms i 0; value = get_or vs i 0 }
 
 -- so many from an index on
-unfoldable pub nodesFrom : List ℕ → List ℕ → ℕ → ℕ → List Node
-nodesFrom ms vs i zero = []
-nodesFrom ms vs i (suc n) = nodeAt ms vs i ∷ nodesFrom ms vs (suc i) n
+unfoldable pub nodes_from : List ℕ → List ℕ → ℕ → ℕ → List Node
+nodes_from ms vs i zero = []
+nodes_from ms vs i (suc n) = node_at ms vs i ∷ nodes_from ms vs (suc i) n
 
 abbrev pub node_of : AddressMuxNode → Node
 node_of d = record { matched = d.matched.0; value = d.value.0 }
 
 -- two neighbours become one, the later one wins
-unfoldable pub joinNodes : ℕ → Node → Node → Writer Node
-joinNodes width l r = do
+unfoldable pub join_nodes : ℕ → Node → Node → Writer Node
+join_nodes width l r = do
   a ← emit (or l.matched r.matched)
   v ← emit (mux width r.matched r.value l.value)
   pure (record { matched = a; value = v })
@@ -37,9 +37,9 @@ joined (J.Refused x) = Failed (number_of x) (place_of x)
 
 -- the code says how it went; the candidates are the first n of the two slices
 abbrev pub noded : ℕ → List ℕ → List ℕ → Stated → Answer (List Node)
-noded n ms vs (S.Done t) = Done (nodesFrom ms vs 0 n) t
+noded n ms vs (S.Done t) = Done (nodes_from ms vs 0 n) t
 noded n ms vs (S.Refused x) = Failed (number_of x) (place_of x)
 
 -- n candidates became the next level's
 abbrev pub WroteLevel : List ℕ → List ℕ → List ℕ → Tapes → ℕ → ℕ → Stated → List ℕ → List ℕ → List ℕ → Type 0
-WroteLevel e ms vs t n width r e' ms' vs' = WroteExprs e t (muxLevel width (nodesFrom ms vs 0 n) []) (noded ((n + 1) / 2) ms' vs' r) e'
+WroteLevel e ms vs t n width r e' ms' vs' = WroteExprs e t (mux_level width (nodes_from ms vs 0 n) []) (noded ((n + 1) / 2) ms' vs' r) e'

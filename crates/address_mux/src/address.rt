@@ -1,12 +1,12 @@
 // The expression of an address, and its match with an index.
 ghost use Rattle.std.specs.Prelude.{◌≡◌, ◌≤◌};
 ghost use Rattle.netlist.specs.Reader.{shift_of};
-ghost use Rattle.behaviour.specs.Behaviour.{shiftIn};
+ghost use Rattle.behaviour.specs.Behaviour.{shift_in};
 ghost use Rattle.recorder.specs.Lists.{WroteExprs, emitted};
-ghost use Rattle.wires.specs.Wires.{wiresOf};
+ghost use Rattle.wires.specs.Wires.{wires_of};
 ghost use Rattle.wires.specs.Once.{OnceAt, OnceExprs, Cleared, Grows};
-ghost use Rattle.wires.specs.Expressions.{vectorBit, vectorOnce};
-ghost use Rattle.address_mux.specs.Address.{at_most, matchAddress};
+ghost use Rattle.wires.specs.Expressions.{vector_bit, vector_once};
+ghost use Rattle.address_mux.specs.Address.{at_most, match_address};
 
 use netlist::Bit;
 use netlist::fields::wide;
@@ -18,7 +18,7 @@ use wires::once::{begun, bit_once, sweep};
 
 // The first bit of an address that counts, by physical width; 0 where that width is not allowed.
 pub fn shift_in(physical: u32) -> u32
-    ensures { result ≡ shiftIn (shift_of physical) }
+    ensures { result ≡ shift_in (shift_of physical) }
 {
     match address_shift(physical) {
         Shift::By(n) => n,
@@ -28,7 +28,7 @@ pub fn shift_in(physical: u32) -> u32
 
 // Bit i of an address; zeros behind it.
 fn address_bit(bits: [Bit; 14], i: usize) -> Bit
-    ensures { result ≡ vectorBit bits i }
+    ensures { result ≡ vector_bit bits i }
 {
     if i < 14 {
         return bits[i];
@@ -49,7 +49,7 @@ fn address_bits(
     width: u32,
 ) -> Emitted
     requires { first ≤ t.exprs.count }
-    ensures wrote { OnceAt exprs.old t first seen.old (λ s. at_most 33 width (vectorOnce (wiresOf wires.now places.now) s bits shift width)) (emitted result) exprs.new seen.new }
+    ensures wrote { OnceAt exprs.old t first seen.old (λ s. at_most 33 width (vector_once (wires_of wires.now places.now) s bits shift width)) (emitted result) exprs.new seen.new }
     ensures grows { Grows t (emitted result) }
 {
     let end = wide(width);
@@ -85,7 +85,7 @@ pub fn address_once(
     shift: u32,
     width: u32,
 ) -> Emitted
-    ensures wrote { OnceExprs exprs.old t first seen.old (λ s. at_most 33 width (vectorOnce (wiresOf wires.now places.now) s bits shift width)) (emitted result) exprs.new seen.new }
+    ensures wrote { OnceExprs exprs.old t first seen.old (λ s. at_most 33 width (vector_once (wires_of wires.now places.now) s bits shift width)) (emitted result) exprs.new seen.new }
     ensures refused { Cleared (emitted result) seen.old seen.new }
     ensures grows { Grows t (emitted result) }
 {
@@ -103,7 +103,7 @@ pub fn match_address(
     width: u32,
     index: u32,
 ) -> Emitted
-    ensures { WroteExprs exprs.old t (matchAddress address.0 width index) (emitted result) exprs.new }
+    ensures { WroteExprs exprs.old t (match_address address.0 width index) (emitted result) exprs.new }
 {
     let r = builder::constant(exprs, t, width, index);
     let Emitted::Done(k, next) = r else {

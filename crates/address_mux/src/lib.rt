@@ -9,8 +9,8 @@ ghost use Rattle.std.specs.Prelude.{◌≡◌, ◌≤◌, length};
 ghost use Rattle.recorder.specs.Lists.{WroteExprs, emitted};
 ghost use Rattle.recorder.specs.Words.{zeroed};
 ghost use Rattle.wires.specs.Expressions.{roomy};
-ghost use Rattle.address_mux.specs.AddressMux.{balancedAddressMux};
-ghost use Rattle.address_mux.specs.Candidates.{node_of, nodesFrom, joinNodes, joined, WroteLevel};
+ghost use Rattle.address_mux.specs.AddressMux.{balanced_address_mux};
+ghost use Rattle.address_mux.specs.Candidates.{node_of, nodes_from, join_nodes, joined, WroteLevel};
 
 use recorder::words::zero_words;
 use recorder::{Emitted, ExprId, Stated, Tapes, builder};
@@ -39,7 +39,7 @@ fn join(
     left: AddressMuxNode,
     right: AddressMuxNode,
 ) -> Joined
-    ensures { WroteExprs exprs.old t (joinNodes width (node_of left) (node_of right)) (joined result) exprs.new }
+    ensures { WroteExprs exprs.old t (join_nodes width (node_of left) (node_of right)) (joined result) exprs.new }
 {
     match builder::or(exprs, t, left.matched, right.matched) {
         Emitted::Done(matched, next) => match builder::mux(
@@ -110,7 +110,7 @@ fn mux_levels(
     width: u32,
     zero: ExprId,
 ) -> Emitted
-    ensures { WroteExprs exprs.old t (roomy n parts.old (roomy n values.old (balancedAddressMux width (nodesFrom parts.old values.old 0 n) zero.0))) (emitted result) exprs.new }
+    ensures { WroteExprs exprs.old t (roomy n parts.old (roomy n values.old (balanced_address_mux width (nodes_from parts.old values.old 0 n) zero.0))) (emitted result) exprs.new }
 {
     if parts.len() < n {
         return Emitted::Refused(Refusal::BufferTooShort(n));
@@ -147,7 +147,7 @@ pub fn balanced_address_mux(
     width: u32,
     zero: ExprId,
 ) -> Emitted
-    ensures { WroteExprs exprs.old t (roomy n parts.old (roomy n values.old (balancedAddressMux width (nodesFrom parts.old values.old 0 n) zero.0))) (emitted result) exprs.new × ((parts.new ≡ zeroed parts.old) × (values.new ≡ zeroed values.old)) }
+    ensures { WroteExprs exprs.old t (roomy n parts.old (roomy n values.old (balanced_address_mux width (nodes_from parts.old values.old 0 n) zero.0))) (emitted result) exprs.new × ((parts.new ≡ zeroed parts.old) × (values.new ≡ zeroed values.old)) }
 {
     let r = mux_levels(exprs, parts, values, t, n, width, zero);
     zero_words(parts);

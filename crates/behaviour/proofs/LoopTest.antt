@@ -9,21 +9,21 @@ use mathlib.Core.List.{List, [], ◌∷◌, Memᴰ as Mem}
 use Rattle.std.proofs.Math.Option.{Option, none, some}
 use Rattle.std.proofs.Common.{eqb-true}
 use Rattle.bits.specs.Bits.{pick}
-use Rattle.settle.specs.Ground.{way-first, grounded-no-loop, ends→grounded}
+use Rattle.settle.specs.Ground.{way_first, grounded_no_loop, ends→grounded}
 use Rattle.settle.specs.Loop.{mark}
 use Rattle.settle.proofs.Loop.{mark→ends, ends→mark}
-use Rattle.settle.specs.Tests.{all_in, all-out}
+use Rattle.settle.specs.Tests.{all_in, all_out}
 use Rattle.netlist.specs.declared.Bit.{Bit}
 use Rattle.netlist.specs.declared.Bit.TheVariants.{Zero, One, Wire}
 use Rattle.netlist.specs.Netlist.{Netlist}
 use Rattle.behaviour.specs.WireMap.{Slot, WireRef, slots, place_of, held_at, find}
-use Rattle.behaviour.specs.Behaviour.{wiresOf, driverIn, driverReads, Depends, NoWireLoop}
-use Rattle.behaviour.proofs.Settled.{walks-end}
-use Rattle.behaviour.specs.LoopTest.{heldWires, reads, loopFree}
+use Rattle.behaviour.specs.Behaviour.{wires_of, driver_in, driver_reads, Depends, NoWireLoop}
+use Rattle.behaviour.proofs.Settled.{walks_end}
+use Rattle.behaviour.specs.LoopTest.{held_wires, reads, loop_free}
 
 abbrev Placed : ℕ → List Bit → Option ℕ → Type 0
 Placed w l none = Unit {0}
-Placed w l (some i) = Mem w (wiresOf l)
+Placed w l (some i) = Mem w (wires_of l)
 
 placed : (w : ℕ) (l : List Bit) (i : ℕ) → Placed w l (place_of w l i)
 placed w [] i = tt
@@ -49,7 +49,7 @@ placed w (Wire x ∷ l) i = go (eqb w x) refl (place_of w l (suc i)) (placed w l
 
 abbrev Found : ℕ → List Slot → Option WireRef → Type 0
 Found w l none = Unit {0}
-Found w l (some r) = Mem w (heldWires l)
+Found w l (some r) = Mem w (held_wires l)
 
 found : (w : ℕ) (l : List Slot) (n : ℕ) → Found w l (find w l n)
 found w [] n = tt
@@ -57,25 +57,25 @@ found w (s ∷ l) n = go (place_of w s.bits 0) (placed w s.bits 0) (find w l (su
   where
     more : (o : Option WireRef) → Found w l o → Found w (s ∷ l) o
     more none h = tt
-    more (some r) h = in_right (wiresOf s.bits) h
+    more (some r) h = in_right (wires_of s.bits) h
 
     go : (p : Option ℕ) → Placed w s.bits p → (o : Option WireRef) → Found w l o → Found w (s ∷ l) (held_at p s n o)
     go none q o h = more o h
-    go (some i) q o h = in_left (heldWires l) q
+    go (some i) q o h = in_left (held_wires l) q
 
 -- a wire that reads another is held
-reader-held : (n : Netlist) (x z : ℕ) → Depends n x z → Mem x (heldWires (slots n))
-reader-held n x z = go (find x (slots n) 0) (found x (slots n) 0)
+reader_held : (n : Netlist) (x z : ℕ) → Depends n x z → Mem x (held_wires (slots n))
+reader_held n x z = go (find x (slots n) 0) (found x (slots n) 0)
   where
-    go : (o : Option WireRef) → Found x (slots n) o → Mem z (driverReads n.cells (driverIn o)) → Mem x (heldWires (slots n))
+    go : (o : Option WireRef) → Found x (slots n) o → Mem z (driver_reads n.cells (driver_in o)) → Mem x (held_wires (slots n))
     go none h m = absurd (not-nil m)
     go (some r) h m = h
 
-pub loopFree→no-loop : (n : Netlist) → loopFree n ≡ true → NoWireLoop n
-loopFree→no-loop n h x w =
-    let r = way-first (Depends n) w in
-    let m = all-out (mark (reads n) (suc (length n.cells))) (heldWires (slots n)) h x (reader-held n x r.0 r.1) in
-    grounded-no-loop (Depends n) (ends→grounded (Depends n) (suc (length n.cells)) x (mark→ends (reads n) (suc (length n.cells)) x m)) w
+pub loop_free→no_loop : (n : Netlist) → loop_free n ≡ true → NoWireLoop n
+loop_free→no_loop n h x w =
+    let r = way_first (Depends n) w in
+    let m = all_out (mark (reads n) (suc (length n.cells))) (held_wires (slots n)) h x (reader_held n x r.0 r.1) in
+    grounded_no_loop (Depends n) (ends→grounded (Depends n) (suc (length n.cells)) x (mark→ends (reads n) (suc (length n.cells)) x m)) w
 
-pub no-loop→loopFree : (n : Netlist) → NoWireLoop n → loopFree n ≡ true
-no-loop→loopFree n h = all_in (mark (reads n) (suc (length n.cells))) (heldWires (slots n)) (λ x m. ends→mark (reads n) (suc (length n.cells)) x (walks-end (slots n) n.cells h x))
+pub no_loop→loop_free : (n : Netlist) → NoWireLoop n → loop_free n ≡ true
+no_loop→loop_free n h = all_in (mark (reads n) (suc (length n.cells))) (held_wires (slots n)) (λ x m. ends→mark (reads n) (suc (length n.cells)) x (walks_end (slots n) n.cells h x))

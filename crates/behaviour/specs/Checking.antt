@@ -2,10 +2,10 @@
 use Rattle.std.specs.Prelude.{List, [], map, Bool, false, ℕ}
 use Rattle.std.proofs.Math.Option.{Option, none, some}
 use Rattle.bits.specs.Bits.{Bits, flat, number}
-use Rattle.netlist.specs.Reader.{Read, netlist, refused, readWords, base}
-use Rattle.behaviour.specs.WireMap.{WireRef, wireMap, signalCount}
+use Rattle.netlist.specs.Reader.{Read, netlist, refused, read_words, base}
+use Rattle.behaviour.specs.WireMap.{WireRef, wire_map, signal_count}
 use Rattle.behaviour.specs.Behaviour.{Tick, shows}
-use Rattle.behaviour.specs.LoopTest.{loopFree}
+use Rattle.behaviour.specs.LoopTest.{loop_free}
 
 -- a tick with no clock, and one that fires a signal's edge
 abbrev pub still : List ℕ → Tick
@@ -23,12 +23,12 @@ pub record Row : Type 0 where
   -- after each tick, all output bits in port order as one number, the lowest bit first
   pub shown : List ℕ
 
-abbrev pub shownRead : Read → List Tick → List ℕ
-shownRead (netlist n) l = map (λ (ports : List Bits). number (flat ports)) (shows n l)
-shownRead (refused k p) l = []
+abbrev pub shown_read : Read → List Tick → List ℕ
+shown_read (netlist n) l = map (λ (ports : List Bits). number (flat ports)) (shows n l)
+shown_read (refused k p) l = []
 
-abbrev pub shownBy : Row → List ℕ
-shownBy r = shownRead (readWords base r.words) r.ticks
+abbrev pub shown_by : Row → List ℕ
+shown_by r = shown_read (read_words base r.words) r.ticks
 
 -- THE WIRE MAP
 
@@ -47,12 +47,12 @@ abbrev pub entry : Option WireRef → Option (ℕ × ℕ × ℕ)
 entry none = none
 entry (some r) = some (r.signal, r.lowest, r.width)
 
-abbrev pub mapRead : Read → List ℕ → Entries
-mapRead (netlist n) ws = record { signals = signalCount n; of = map (λ (w : ℕ). entry (wireMap n w)) ws }
-mapRead (refused k p) ws = record { signals = 0; of = [] }
+abbrev pub map_read : Read → List ℕ → Entries
+map_read (netlist n) ws = record { signals = signal_count n; of = map (λ (w : ℕ). entry (wire_map n w)) ws }
+map_read (refused k p) ws = record { signals = 0; of = [] }
 
-abbrev pub mapOf : MapRow → Entries
-mapOf r = mapRead (readWords base r.words) r.wires
+abbrev pub map_of : MapRow → Entries
+map_of r = map_read (read_words base r.words) r.wires
 
 -- LOOPS
 
@@ -61,9 +61,9 @@ pub record LoopRow : Type 0 where
   -- whether it is without a loop
   pub without : Bool
 
-abbrev pub looplessRead : Read → Bool
-looplessRead (netlist n) = loopFree n
-looplessRead (refused k p) = false
+abbrev pub loopless_read : Read → Bool
+loopless_read (netlist n) = loop_free n
+loopless_read (refused k p) = false
 
 abbrev pub loopless : LoopRow → Bool
-loopless r = looplessRead (readWords base r.words)
+loopless r = loopless_read (read_words base r.words)

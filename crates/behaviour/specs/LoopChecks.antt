@@ -1,10 +1,10 @@
 -- Which netlists are without a loop, as an independent reference says.
 use Rattle.std.specs.Prelude.{true, false, ◌≡◌, refl, List, [], ◌∷◌, map}
-use Rattle.behaviour.specs.Banks.{collectFlipFlopBanks, banksFrom, leadersFrom, flipFlopsFrom, bankIn, members_of}
+use Rattle.behaviour.specs.Banks.{collect_flip_flop_banks, banks_from, leaders_from, flip_flops_from, bank_in, members_of}
 use Rattle.behaviour.specs.Checking.{LoopRow, loopless}
 
-abbrev pub loopRows : List LoopRow
-loopRows =
+abbrev pub loop_rows : List LoopRow
+loop_rows =
     -- a LUT4 that reads itself, though its table does not
     record {
       words =
@@ -102,6 +102,6 @@ loopRows =
     } ∷
     []
 
-pub loops-hold : map loopless loopRows ≡ map (λ (r : LoopRow). r.without) loopRows
-unfolding collectFlipFlopBanks banksFrom leadersFrom flipFlopsFrom bankIn members_of
-loops-hold = refl
+pub loops_hold : map loopless loop_rows ≡ map (λ (r : LoopRow). r.without) loop_rows
+unfolding collect_flip_flop_banks banks_from leaders_from flip_flops_from bank_in members_of
+loops_hold = refl

@@ -5,15 +5,15 @@ use Rattle.settle.specs.Loop.{mark}
 use Rattle.settle.specs.Tests.{all}
 use Rattle.netlist.specs.Netlist.{Netlist}
 use Rattle.behaviour.specs.WireMap.{Slot, slots}
-use Rattle.behaviour.specs.Behaviour.{wiresOf, driver, driverReads}
+use Rattle.behaviour.specs.Behaviour.{wires_of, driver, driver_reads}
 
-abbrev pub heldWires : List Slot → List ℕ
-heldWires [] = []
-heldWires (s ∷ l) = wiresOf s.bits ++ heldWires l
+abbrev pub held_wires : List Slot → List ℕ
+held_wires [] = []
+held_wires (s ∷ l) = wires_of s.bits ++ held_wires l
 
 abbrev pub reads : Netlist → ℕ → List ℕ
-reads n x = driverReads n.cells (driver (slots n) x)
+reads n x = driver_reads n.cells (driver (slots n) x)
 
 -- every driven wire is marked after as many rounds as `settle` sweeps; a round marks the wires whose reads were marked before
-abbrev pub loopFree : Netlist → Bool
-loopFree n = all (mark (reads n) (suc (length n.cells))) (heldWires (slots n))
+abbrev pub loop_free : Netlist → Bool
+loop_free n = all (mark (reads n) (suc (length n.cells))) (held_wires (slots n))

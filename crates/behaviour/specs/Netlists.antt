@@ -8,15 +8,15 @@ and2 =
     0 ∷ 2 ∷ 3 ∷ 0 ∷ 0 ∷ 2 ∷ 8 ∷
     0 ∷ 2 ∷ 7 ∷ 1 ∷ []
 
-abbrev pub lutTable : List ℕ
-lutTable =
+abbrev pub lut_table : List ℕ
+lut_table =
     0 ∷ 4 ∷ 2 ∷ 3 ∷ 4 ∷ 5 ∷
     1 ∷ 1 ∷ 6 ∷
     0 ∷ 2 ∷ 3 ∷ 4 ∷ 5 ∷ 4 ∷ 6709 ∷
     0 ∷ 2 ∷ 9 ∷ 1 ∷ []
 
-abbrev pub lutChain : List ℕ
-lutChain =
+abbrev pub lut_chain : List ℕ
+lut_chain =
     0 ∷ 2 ∷ 2 ∷ 3 ∷
     1 ∷ 1 ∷ 6 ∷
     0 ∷ 5 ∷ 3 ∷ 0 ∷ 0 ∷ 4 ∷ 6 ∷
@@ -24,29 +24,29 @@ lutChain =
     0 ∷ 2 ∷ 3 ∷ 0 ∷ 0 ∷ 2 ∷ 8 ∷
     0 ∷ 2 ∷ 7 ∷ 3 ∷ []
 
-abbrev pub pfumxRow : List ℕ
-pfumxRow =
+abbrev pub pfumx_row : List ℕ
+pfumx_row =
     0 ∷ 3 ∷ 2 ∷ 3 ∷ 4 ∷
     1 ∷ 1 ∷ 5 ∷
     1 ∷ 2 ∷ 3 ∷ 4 ∷ 3 ∷
     0 ∷ 2 ∷ 8 ∷ 1 ∷ []
 
-abbrev pub l6muxRow : List ℕ
-l6muxRow =
+abbrev pub l6mux_row : List ℕ
+l6mux_row =
     0 ∷ 3 ∷ 2 ∷ 3 ∷ 4 ∷
     1 ∷ 1 ∷ 5 ∷
     2 ∷ 2 ∷ 3 ∷ 4 ∷ 3 ∷
     0 ∷ 2 ∷ 8 ∷ 1 ∷ []
 
-abbrev pub ccuAdd : List ℕ
-ccuAdd =
+abbrev pub ccu_add : List ℕ
+ccu_add =
     0 ∷ 9 ∷ 2 ∷ 3 ∷ 4 ∷ 5 ∷ 6 ∷ 7 ∷ 8 ∷ 9 ∷ 10 ∷
     1 ∷ 3 ∷ 11 ∷ 12 ∷ 13 ∷
     3 ∷ 2 ∷ 3 ∷ 4 ∷ 5 ∷ 6 ∷ 7 ∷ 8 ∷ 9 ∷ 10 ∷ 9 ∷ 10 ∷ 11 ∷ 38570 ∷ 38570 ∷ 0 ∷ 0 ∷
     0 ∷ 2 ∷ 16 ∷ 1 ∷ []
 
-abbrev pub ccuInject : List ℕ
-ccuInject =
+abbrev pub ccu_inject : List ℕ
+ccu_inject =
     0 ∷ 9 ∷ 2 ∷ 3 ∷ 4 ∷ 5 ∷ 6 ∷ 7 ∷ 8 ∷ 9 ∷ 10 ∷
     1 ∷ 3 ∷ 11 ∷ 12 ∷ 13 ∷
     3 ∷ 2 ∷ 3 ∷ 4 ∷ 5 ∷ 6 ∷ 7 ∷ 8 ∷ 9 ∷ 10 ∷ 9 ∷ 10 ∷ 11 ∷ 27196 ∷ 7062 ∷ 1 ∷ 0 ∷
@@ -59,24 +59,24 @@ product =
     4 ∷ 2 ∷ 3 ∷ 4 ∷ 5 ∷ 6 ∷ 7 ∷ 8 ∷ 9 ∷ 10 ∷ 11 ∷ 12 ∷ 13 ∷ 14 ∷ 15 ∷ 16 ∷ 17 ∷ 18 ∷ 19 ∷ 20 ∷ 21 ∷ 22 ∷ 23 ∷ 24 ∷ 25 ∷ 26 ∷ 27 ∷ 28 ∷ 29 ∷ 30 ∷ 31 ∷ 32 ∷ 33 ∷ 34 ∷ 35 ∷ 36 ∷ 37 ∷ 36 ∷ 37 ∷ 38 ∷ 39 ∷ 40 ∷ 41 ∷ 42 ∷ 43 ∷ 44 ∷ 45 ∷ 46 ∷ 47 ∷ 48 ∷ 49 ∷ 50 ∷ 51 ∷ 52 ∷ 53 ∷ 54 ∷ 55 ∷ 56 ∷ 57 ∷ 58 ∷ 59 ∷ 60 ∷ 61 ∷ 62 ∷ 63 ∷ 64 ∷ 65 ∷ 66 ∷ 67 ∷ 68 ∷ 69 ∷ 70 ∷ 71 ∷
     0 ∷ 2 ∷ 76 ∷ 1 ∷ []
 
-abbrev pub ffPlain : List ℕ
-ffPlain =
+abbrev pub ff_plain : List ℕ
+ff_plain =
     0 ∷ 1 ∷ 2 ∷
     0 ∷ 1 ∷ 3 ∷
     1 ∷ 1 ∷ 4 ∷
     5 ∷ 3 ∷ 2 ∷ 2 ∷ 0 ∷ 0 ∷ 0 ∷ 0 ∷ 0 ∷ 0 ∷ 0 ∷ 0 ∷ 0 ∷
     0 ∷ 3 ∷ 9 ∷ 1 ∷ []
 
-abbrev pub ffFalling : List ℕ
-ffFalling =
+abbrev pub ff_falling : List ℕ
+ff_falling =
     0 ∷ 1 ∷ 2 ∷
     0 ∷ 1 ∷ 3 ∷
     1 ∷ 1 ∷ 4 ∷
     5 ∷ 3 ∷ 2 ∷ 2 ∷ 1 ∷ 0 ∷ 0 ∷ 0 ∷ 0 ∷ 0 ∷ 0 ∷ 0 ∷ 0 ∷
     0 ∷ 3 ∷ 9 ∷ 1 ∷ []
 
-abbrev pub ffEnable : List ℕ
-ffEnable =
+abbrev pub ff_enable : List ℕ
+ff_enable =
     0 ∷ 1 ∷ 2 ∷
     0 ∷ 1 ∷ 3 ∷
     0 ∷ 1 ∷ 4 ∷
@@ -84,16 +84,16 @@ ffEnable =
     5 ∷ 3 ∷ 3 ∷ 2 ∷ 0 ∷ 1 ∷ 4 ∷ 0 ∷ 0 ∷ 0 ∷ 0 ∷ 0 ∷ 0 ∷
     0 ∷ 4 ∷ 12 ∷ 1 ∷ []
 
-abbrev pub ffSync : List ℕ
-ffSync =
+abbrev pub ff_sync : List ℕ
+ff_sync =
     0 ∷ 4 ∷ 2 ∷ 3 ∷ 4 ∷ 6 ∷
     0 ∷ 1 ∷ 7 ∷
     1 ∷ 1 ∷ 8 ∷
     5 ∷ 3 ∷ 6 ∷ 7 ∷ 0 ∷ 1 ∷ 4 ∷ 1 ∷ 1 ∷ 2 ∷ 1 ∷ 0 ∷ 1 ∷
     0 ∷ 3 ∷ 12 ∷ 1 ∷ []
 
-abbrev pub ffAsync : List ℕ
-ffAsync =
+abbrev pub ff_async : List ℕ
+ff_async =
     0 ∷ 1 ∷ 2 ∷
     0 ∷ 1 ∷ 3 ∷
     0 ∷ 1 ∷ 4 ∷
@@ -101,8 +101,8 @@ ffAsync =
     5 ∷ 3 ∷ 3 ∷ 2 ∷ 0 ∷ 0 ∷ 0 ∷ 0 ∷ 1 ∷ 4 ∷ 0 ∷ 1 ∷ 1 ∷
     0 ∷ 4 ∷ 12 ∷ 1 ∷ []
 
-abbrev pub ffSwap : List ℕ
-ffSwap =
+abbrev pub ff_swap : List ℕ
+ff_swap =
     0 ∷ 1 ∷ 2 ∷
     1 ∷ 2 ∷ 3 ∷ 4 ∷
     5 ∷ 4 ∷ 1 ∷ 2 ∷ 0 ∷ 0 ∷ 0 ∷ 0 ∷ 0 ∷ 0 ∷ 0 ∷ 0 ∷ 0 ∷
@@ -110,15 +110,15 @@ ffSwap =
     0 ∷ 3 ∷ 0 ∷ 0 ∷ 0 ∷ 3 ∷ 1 ∷
     0 ∷ 2 ∷ 7 ∷ 3 ∷ []
 
-abbrev pub ffConstantClock : List ℕ
-ffConstantClock =
+abbrev pub ff_constant_clock : List ℕ
+ff_constant_clock =
     0 ∷ 1 ∷ 2 ∷
     1 ∷ 1 ∷ 3 ∷
     5 ∷ 2 ∷ 1 ∷ 0 ∷ 0 ∷ 0 ∷ 0 ∷ 0 ∷ 0 ∷ 0 ∷ 0 ∷ 0 ∷ 0 ∷
     0 ∷ 2 ∷ 6 ∷ 1 ∷ []
 
-abbrev pub ffDivider : List ℕ
-ffDivider =
+abbrev pub ff_divider : List ℕ
+ff_divider =
     0 ∷ 1 ∷ 2 ∷
     1 ∷ 1 ∷ 3 ∷
     1 ∷ 1 ∷ 4 ∷
@@ -127,8 +127,8 @@ ffDivider =
     0 ∷ 3 ∷ 0 ∷ 0 ∷ 0 ∷ 3 ∷ 1 ∷
     0 ∷ 3 ∷ 9 ∷ 3 ∷ []
 
-abbrev pub ramDepth3 : List ℕ
-ramDepth3 =
+abbrev pub ram_depth3 : List ℕ
+ram_depth3 =
     0 ∷ 1 ∷ 2 ∷
     0 ∷ 1 ∷ 3 ∷
     0 ∷ 2 ∷ 4 ∷ 5 ∷
@@ -140,8 +140,8 @@ ramDepth3 =
     6 ∷ 3 ∷ 2 ∷ 1 ∷ 4 ∷ 5 ∷ 0 ∷ 0 ∷ 0 ∷ 0 ∷ 0 ∷ 0 ∷ 0 ∷ 0 ∷ 0 ∷ 0 ∷ 0 ∷ 0 ∷ 3 ∷ 1 ∷ 6 ∷ 7 ∷ 0 ∷ 0 ∷ 0 ∷ 0 ∷ 0 ∷ 0 ∷ 0 ∷ 0 ∷ 0 ∷ 0 ∷ 0 ∷ 0 ∷ 0 ∷ 0 ∷ 0 ∷ 0 ∷ 0 ∷ 0 ∷ 2 ∷ 0 ∷ 0 ∷ 8 ∷ 9 ∷ 10 ∷ 11 ∷
     0 ∷ 8 ∷ 28 ∷ 1 ∷ []
 
-abbrev pub ramPhysical18 : List ℕ
-ramPhysical18 =
+abbrev pub ram_physical18 : List ℕ
+ram_physical18 =
     0 ∷ 1 ∷ 2 ∷
     0 ∷ 1 ∷ 3 ∷
     0 ∷ 2 ∷ 4 ∷ 5 ∷
@@ -153,8 +153,8 @@ ramPhysical18 =
     6 ∷ 3 ∷ 2 ∷ 18 ∷ 0 ∷ 0 ∷ 0 ∷ 0 ∷ 4 ∷ 5 ∷ 0 ∷ 0 ∷ 0 ∷ 0 ∷ 0 ∷ 0 ∷ 0 ∷ 0 ∷ 3 ∷ 1 ∷ 0 ∷ 0 ∷ 0 ∷ 0 ∷ 6 ∷ 7 ∷ 0 ∷ 0 ∷ 0 ∷ 0 ∷ 0 ∷ 0 ∷ 0 ∷ 0 ∷ 0 ∷ 0 ∷ 0 ∷ 0 ∷ 0 ∷ 0 ∷ 2 ∷ 0 ∷ 0 ∷ 8 ∷ 9 ∷ 10 ∷ 11 ∷
     0 ∷ 8 ∷ 28 ∷ 1 ∷ []
 
-abbrev pub ramReadEnable : List ℕ
-ramReadEnable =
+abbrev pub ram_read_enable : List ℕ
+ram_read_enable =
     0 ∷ 1 ∷ 2 ∷
     0 ∷ 1 ∷ 3 ∷
     0 ∷ 2 ∷ 4 ∷ 5 ∷
@@ -166,8 +166,8 @@ ramReadEnable =
     6 ∷ 3 ∷ 2 ∷ 2 ∷ 0 ∷ 4 ∷ 5 ∷ 0 ∷ 0 ∷ 0 ∷ 0 ∷ 0 ∷ 0 ∷ 0 ∷ 0 ∷ 0 ∷ 0 ∷ 0 ∷ 3 ∷ 1 ∷ 0 ∷ 6 ∷ 7 ∷ 0 ∷ 0 ∷ 0 ∷ 0 ∷ 0 ∷ 0 ∷ 0 ∷ 0 ∷ 0 ∷ 0 ∷ 0 ∷ 1 ∷ 10 ∷ 1 ∷ 0 ∷ 0 ∷ 0 ∷ 2 ∷ 0 ∷ 0 ∷ 8 ∷ 9 ∷ 10 ∷ 11 ∷
     0 ∷ 8 ∷ 28 ∷ 1 ∷ []
 
-abbrev pub ramClockEnable : List ℕ
-ramClockEnable =
+abbrev pub ram_clock_enable : List ℕ
+ram_clock_enable =
     0 ∷ 1 ∷ 2 ∷
     0 ∷ 1 ∷ 3 ∷
     0 ∷ 2 ∷ 4 ∷ 5 ∷
@@ -179,8 +179,8 @@ ramClockEnable =
     6 ∷ 3 ∷ 2 ∷ 2 ∷ 0 ∷ 4 ∷ 5 ∷ 0 ∷ 0 ∷ 0 ∷ 0 ∷ 0 ∷ 0 ∷ 0 ∷ 0 ∷ 0 ∷ 0 ∷ 0 ∷ 3 ∷ 1 ∷ 0 ∷ 6 ∷ 7 ∷ 0 ∷ 0 ∷ 0 ∷ 0 ∷ 0 ∷ 0 ∷ 0 ∷ 0 ∷ 0 ∷ 0 ∷ 0 ∷ 0 ∷ 0 ∷ 0 ∷ 1 ∷ 11 ∷ 1 ∷ 2 ∷ 0 ∷ 0 ∷ 8 ∷ 9 ∷ 10 ∷ 11 ∷
     0 ∷ 8 ∷ 28 ∷ 1 ∷ []
 
-abbrev pub ramBothWrite : List ℕ
-ramBothWrite =
+abbrev pub ram_both_write : List ℕ
+ram_both_write =
     0 ∷ 1 ∷ 2 ∷
     0 ∷ 3 ∷ 3 ∷ 4 ∷ 5 ∷
     0 ∷ 3 ∷ 6 ∷ 7 ∷ 8 ∷
@@ -191,20 +191,20 @@ ramBothWrite =
 
 -- two words of one bit; A's read enable and both clock enables as they stand in the words. Ports: the clock; write, address, data of A; those of B;
 -- two wires for clock enables (11 and 12)
-abbrev pub ramGated : List ℕ → List ℕ → List ℕ → List ℕ
-ramGated read_a enableA enableB =
+abbrev pub ram_gated : List ℕ → List ℕ → List ℕ → List ℕ
+ram_gated read_a enable_a enable_b =
     0 ∷ 1 ∷ 2 ∷
     0 ∷ 3 ∷ 3 ∷ 4 ∷ 5 ∷
     0 ∷ 3 ∷ 6 ∷ 7 ∷ 8 ∷
     0 ∷ 2 ∷ 11 ∷ 12 ∷
     1 ∷ 1 ∷ 9 ∷
     1 ∷ 1 ∷ 10 ∷
-    6 ∷ 2 ∷ 1 ∷ 1 ∷ 4 ∷ 0 ∷ 0 ∷ 0 ∷ 0 ∷ 0 ∷ 0 ∷ 0 ∷ 0 ∷ 0 ∷ 0 ∷ 0 ∷ 0 ∷ 0 ∷ 3 ∷ 1 ∷ 4 ∷ 0 ∷ 0 ∷ 0 ∷ 0 ∷ 0 ∷ 0 ∷ 0 ∷ 0 ∷ 0 ∷ 0 ∷ 0 ∷ 0 ∷ 0 ∷ (read_a ++ (enableA ++ (2 ∷ 0 ∷ 1 ∷ 5 ∷ 7 ∷
-    7 ∷ 0 ∷ 0 ∷ 0 ∷ 0 ∷ 0 ∷ 0 ∷ 0 ∷ 0 ∷ 0 ∷ 0 ∷ 0 ∷ 0 ∷ 0 ∷ 6 ∷ 1 ∷ 0 ∷ 0 ∷ 0 ∷ (enableB ++ (2 ∷ 0 ∷ 8 ∷ 8 ∷
+    6 ∷ 2 ∷ 1 ∷ 1 ∷ 4 ∷ 0 ∷ 0 ∷ 0 ∷ 0 ∷ 0 ∷ 0 ∷ 0 ∷ 0 ∷ 0 ∷ 0 ∷ 0 ∷ 0 ∷ 0 ∷ 3 ∷ 1 ∷ 4 ∷ 0 ∷ 0 ∷ 0 ∷ 0 ∷ 0 ∷ 0 ∷ 0 ∷ 0 ∷ 0 ∷ 0 ∷ 0 ∷ 0 ∷ 0 ∷ (read_a ++ (enable_a ++ (2 ∷ 0 ∷ 1 ∷ 5 ∷ 7 ∷
+    7 ∷ 0 ∷ 0 ∷ 0 ∷ 0 ∷ 0 ∷ 0 ∷ 0 ∷ 0 ∷ 0 ∷ 0 ∷ 0 ∷ 0 ∷ 0 ∷ 6 ∷ 1 ∷ 0 ∷ 0 ∷ 0 ∷ (enable_b ++ (2 ∷ 0 ∷ 8 ∷ 8 ∷
     0 ∷ 6 ∷ 23 ∷ 1 ∷ [])))))
 
-abbrev pub dramRows : List ℕ
-dramRows =
+abbrev pub dram_rows : List ℕ
+dram_rows =
     0 ∷ 1 ∷ 2 ∷
     0 ∷ 5 ∷ 3 ∷ 4 ∷ 5 ∷ 6 ∷ 7 ∷
     0 ∷ 4 ∷ 8 ∷ 9 ∷ 10 ∷ 11 ∷
@@ -213,22 +213,22 @@ dramRows =
     7 ∷ 4 ∷ 5 ∷ 6 ∷ 7 ∷ 8 ∷ 9 ∷ 10 ∷ 11 ∷ 3 ∷ 1 ∷ 12 ∷ 13 ∷ 14 ∷ 15 ∷ 14 ∷ 15 ∷ 16 ∷ 17 ∷ 2 ∷ 0 ∷ 0 ∷
     0 ∷ 5 ∷ 28 ∷ 1 ∷ []
 
-abbrev pub ioRow : List ℕ
-ioRow =
+abbrev pub io_row : List ℕ
+io_row =
     2 ∷ 1 ∷ 2 ∷
     0 ∷ 2 ∷ 3 ∷ 4 ∷
     1 ∷ 1 ∷ 5 ∷
     8 ∷ 0 ∷ 3 ∷ 3 ∷ 4 ∷
     0 ∷ 3 ∷ 10 ∷ 1 ∷ []
 
-abbrev pub jtaggRow : List ℕ
-jtaggRow =
+abbrev pub jtagg_row : List ℕ
+jtagg_row =
     1 ∷ 9 ∷ 2 ∷ 3 ∷ 4 ∷ 5 ∷ 6 ∷ 7 ∷ 8 ∷ 9 ∷ 10 ∷
     9 ∷ 0 ∷ 1 ∷ 2 ∷ 3 ∷ 4 ∷ 5 ∷ 6 ∷ 7 ∷ 8 ∷
     0 ∷ 1 ∷ 11 ∷ 1 ∷ []
 
-abbrev pub pllRow : List ℕ
-pllRow =
+abbrev pub pll_row : List ℕ
+pll_row =
     0 ∷ 1 ∷ 2 ∷
     1 ∷ 3 ∷ 3 ∷ 4 ∷ 5 ∷
     1 ∷ 1 ∷ 6 ∷
@@ -236,21 +236,21 @@ pllRow =
     5 ∷ 1 ∷ 4 ∷ 3 ∷ 0 ∷ 0 ∷ 0 ∷ 0 ∷ 0 ∷ 0 ∷ 0 ∷ 0 ∷ 0 ∷
     0 ∷ 3 ∷ 11 ∷ 2 ∷ []
 
-abbrev pub pllOwnLocked : List ℕ
-pllOwnLocked =
+abbrev pub pll_own_locked : List ℕ
+pll_own_locked =
     1 ∷ 2 ∷ 2 ∷ 3 ∷
     10 ∷ 4 ∷ 0 ∷ 1 ∷ 2 ∷ 0 ∷
     0 ∷ 1 ∷ 4 ∷ 1 ∷ []
 
-abbrev pub constantsShown : List ℕ
-constantsShown =
+abbrev pub constants_shown : List ℕ
+constants_shown =
     0 ∷ 3 ∷ 2 ∷ 0 ∷ 3 ∷
     2 ∷ 1 ∷ 4 ∷
     1 ∷ 4 ∷ 1 ∷ 4 ∷ 0 ∷ 3 ∷
     0 ∷ 3 ∷ 14 ∷ 0 ∷ []
 
-abbrev pub refusedTicks : List ℕ
-refusedTicks =
+abbrev pub refused_ticks : List ℕ
+refused_ticks =
     0 ∷ 1 ∷ 2 ∷
     0 ∷ 1 ∷ 3 ∷
     1 ∷ 1 ∷ 4 ∷
@@ -258,8 +258,8 @@ refusedTicks =
     5 ∷ 3 ∷ 2 ∷ 2 ∷ 0 ∷ 0 ∷ 0 ∷ 0 ∷ 0 ∷ 0 ∷ 0 ∷ 0 ∷ 0 ∷
     0 ∷ 4 ∷ 12 ∷ 1 ∷ []
 
-abbrev pub banksRow : List ℕ
-banksRow =
+abbrev pub banks_row : List ℕ
+banks_row =
     0 ∷ 1 ∷ 2 ∷
     0 ∷ 1 ∷ 3 ∷
     0 ∷ 1 ∷ 4 ∷
@@ -270,8 +270,8 @@ banksRow =
     5 ∷ 3 ∷ 6 ∷ 2 ∷ 0 ∷ 0 ∷ 0 ∷ 0 ∷ 1 ∷ 4 ∷ 1 ∷ 0 ∷ 1 ∷
     0 ∷ 4 ∷ 15 ∷ 4 ∷ []
 
-abbrev pub ffFiredOutput : List ℕ
-ffFiredOutput =
+abbrev pub ff_fired_output : List ℕ
+ff_fired_output =
     0 ∷ 1 ∷ 2 ∷
     0 ∷ 1 ∷ 3 ∷
     1 ∷ 1 ∷ 2 ∷
@@ -279,22 +279,22 @@ ffFiredOutput =
     5 ∷ 3 ∷ 2 ∷ 2 ∷ 0 ∷ 0 ∷ 0 ∷ 0 ∷ 0 ∷ 0 ∷ 0 ∷ 0 ∷ 0 ∷
     0 ∷ 4 ∷ 12 ∷ 1 ∷ []
 
-abbrev pub pllShared : List ℕ
-pllShared =
+abbrev pub pll_shared : List ℕ
+pll_shared =
     0 ∷ 1 ∷ 2 ∷
     1 ∷ 4 ∷ 3 ∷ 4 ∷ 5 ∷ 6 ∷
     10 ∷ 2 ∷ 1 ∷ 2 ∷ 3 ∷ 3 ∷ 1 ∷ 2 ∷ 4 ∷
     0 ∷ 2 ∷ 9 ∷ 1 ∷ []
 
-abbrev pub ffResetsItself : List ℕ
-ffResetsItself =
+abbrev pub ff_resets_itself : List ℕ
+ff_resets_itself =
     0 ∷ 1 ∷ 2 ∷
     1 ∷ 1 ∷ 3 ∷
     5 ∷ 1 ∷ 1 ∷ 2 ∷ 0 ∷ 0 ∷ 0 ∷ 0 ∷ 1 ∷ 3 ∷ 1 ∷ 1 ∷ 0 ∷
     0 ∷ 2 ∷ 6 ∷ 1 ∷ []
 
-abbrev pub ffClockMoves : List ℕ
-ffClockMoves =
+abbrev pub ff_clock_moves : List ℕ
+ff_clock_moves =
     0 ∷ 1 ∷ 2 ∷
     1 ∷ 1 ∷ 3 ∷
     5 ∷ 1 ∷ 1 ∷ 2 ∷ 0 ∷ 0 ∷ 0 ∷ 0 ∷ 0 ∷ 0 ∷ 0 ∷ 0 ∷ 0 ∷

@@ -6,9 +6,9 @@ use Rattle.bits.specs.Bits.{pick}
 use Rattle.netlist.specs.declared.Bit.{Bit}
 use Rattle.netlist.specs.declared.Bit.TheVariants.{Zero, One, Wire}
 use Rattle.netlist.specs.Netlist.{SecondPort, Pll, Cell, Port, Netlist}
-use Rattle.netlist.specs.Netlist.{lut4, pfumx, l6mux21, ccu2c, multiplier, flipFlop, blockRam, distributedRam, io, jtagg, pll}
-use Rattle.netlist.specs.Reader.{sameBit}
-use Rattle.behaviour.specs.Banks.{Bank, collectFlipFlopBanks, cells_of, outputsOf}
+use Rattle.netlist.specs.Netlist.{lut4, pfumx, l6mux21, ccu2c, multiplier, flip_flop, block_ram, distributed_ram, io, jtagg, pll}
+use Rattle.netlist.specs.Reader.{same_bit}
+use Rattle.behaviour.specs.Banks.{Bank, collect_flip_flop_banks, cells_of, outputs_of}
 
 -- SIGNALS
 
@@ -31,24 +31,24 @@ pub record Slot : Type 0 where
 -- PORTS: a signal each, in order
 
 -- an input or inout port holds its bits, of which constants are no wires; an output port holds none
-abbrev pub portSlots : List Port → ℕ → List Slot
-portSlots [] k = []
-portSlots (p ∷ l) k =
+abbrev pub port_slots : List Port → ℕ → List Slot
+port_slots [] k = []
+port_slots (p ∷ l) k =
     pick (eqb p.direction 1)
-    (record { source = shown; bits = [] } ∷ portSlots l k)
-    (record { source = inputs k; bits = p.bits } ∷ portSlots l (k + length p.bits))
+    (record { source = shown; bits = [] } ∷ port_slots l k)
+    (record { source = inputs k; bits = p.bits } ∷ port_slots l (k + length p.bits))
 
 -- the number of tick bits: those of input and inout ports, constants too
-abbrev pub tickBits : List Port → ℕ
-tickBits [] = 0
-tickBits (p ∷ l) = pick (eqb p.direction 1) (tickBits l) (length p.bits + tickBits l)
+abbrev pub tick_bits : List Port → ℕ
+tick_bits [] = 0
+tick_bits (p ∷ l) = pick (eqb p.direction 1) (tick_bits l) (length p.bits + tick_bits l)
 
 -- WHERE A WIRE IS HELD
 
 -- the place of a wire in a list of bits, counted from i
 abbrev pub place_of : ℕ → List Bit → ℕ → Option ℕ
 place_of w [] i = none
-place_of w (b ∷ l) i = pick (sameBit (Wire w) b) (some i) (place_of w l (suc i))
+place_of w (b ∷ l) i = pick (same_bit (Wire w) b) (some i) (place_of w l (suc i))
 
 -- an entry of the wire map
 pub record WireRef : Type 0 where
@@ -81,18 +81,18 @@ single c (w ∷ l) k = record { source = pins c k; bits = Wire w ∷ [] } ∷ si
 abbrev pub together : ℕ → List ℕ → ℕ → List Slot
 together c ws k = record { source = pins c k; bits = map Wire ws } ∷ []
 
-abbrev pub secondSlot : ℕ → ℕ → Option SecondPort → List Slot
-secondSlot c k none = []
-secondSlot c k (some p) = together c p.output k
+abbrev pub second_slot : ℕ → ℕ → Option SecondPort → List Slot
+second_slot c k none = []
+second_slot c k (some p) = together c p.output k
 
 -- the pins of a PLL, in the order in which they get signals
-abbrev pub pllWires : Pll → List ℕ
-pllWires p = p.feedback ∷ p.output ∷ p.locked ∷ p.more
+abbrev pub pll_wires : Pll → List ℕ
+pll_wires p = p.feedback ∷ p.output ∷ p.locked ∷ p.more
 
 -- a pin of a PLL whose wire is held already adds no signal: the wire keeps its driver
-abbrev pub reserveFresh : ℕ → List ℕ → ℕ → List Slot → List Slot
-reserveFresh c [] k held = held
-reserveFresh c (w ∷ l) k held = reserveFresh c l (suc k) (pick (is_some (find w held 0)) held (held ++ single c (w ∷ []) k))
+abbrev pub reserve_fresh : ℕ → List ℕ → ℕ → List Slot → List Slot
+reserve_fresh c [] k held = held
+reserve_fresh c (w ∷ l) k held = reserve_fresh c l (suc k) (pick (is_some (find w held 0)) held (held ++ single c (w ∷ []) k))
 
 -- cell c after the slots that are held already; flip-flops come later, in banks
 abbrev pub reserve : ℕ → Cell → List Slot → List Slot
@@ -101,59 +101,59 @@ reserve c (pfumx a b s o) held = held ++ single c (o ∷ []) 0
 reserve c (l6mux21 a b s o) held = held ++ single c (o ∷ []) 0
 reserve c (ccu2c u) held = held ++ single c (u.sum0 ∷ u.sum1 ∷ u.carry ∷ []) 0
 reserve c (multiplier a b o) held = held ++ together c o 0
-reserve c (flipFlop f) held = held
-reserve c (blockRam r) held = held ++ (together c r.output 0 ++ secondSlot c r.width r.second)
-reserve c (distributedRam r) held = held ++ together c r.output 0
+reserve c (flip_flop f) held = held
+reserve c (block_ram r) held = held ++ (together c r.output 0 ++ second_slot c r.width r.second)
+reserve c (distributed_ram r) held = held ++ together c r.output 0
 reserve c (io p a o t) held = held ++ single c (o ∷ []) 0
 reserve c (jtagg o) held = held ++ single c o 0
-reserve c (pll p) held = reserveFresh c (pllWires p) 0 held
+reserve c (pll p) held = reserve_fresh c (pll_wires p) 0 held
 
-abbrev pub reserveAll : List Cell → ℕ → List Slot → List Slot
-reserveAll [] c held = held
-reserveAll (x ∷ l) c held = reserveAll l (suc c) (reserve c x held)
+abbrev pub reserve_all : List Cell → ℕ → List Slot → List Slot
+reserve_all [] c held = held
+reserve_all (x ∷ l) c held = reserve_all l (suc c) (reserve c x held)
 
 -- BANKS: a signal each, after the cells
 
-abbrev pub bankSlot : Bank → Slot
-bankSlot b = record { source = bank (cells_of b.members); bits = map Wire (outputsOf b.members) }
+abbrev pub bank_slot : Bank → Slot
+bank_slot b = record { source = bank (cells_of b.members); bits = map Wire (outputs_of b.members) }
 
 -- THE MAP
 
 -- the signals before zero and one, by their numbers
 abbrev pub slots : Netlist → List Slot
-slots n = reserveAll n.cells 0 (portSlots n.ports 0) ++ map bankSlot (collectFlipFlopBanks n.cells)
+slots n = reserve_all n.cells 0 (port_slots n.ports 0) ++ map bank_slot (collect_flip_flop_banks n.cells)
 
-abbrev pub wireMap : Netlist → ℕ → Option WireRef
-wireMap n w = find w (slots n) 0
+abbrev pub wire_map : Netlist → ℕ → Option WireRef
+wire_map n w = find w (slots n) 0
 
-abbrev pub signalIn : Option WireRef → Option ℕ
-signalIn none = none
-signalIn (some r) = some r.signal
+abbrev pub signal_in : Option WireRef → Option ℕ
+signal_in none = none
+signal_in (some r) = some r.signal
 
 -- the signal that the map holds for a clock: zero and one come right after the slots. (A wire that is missing has none: 8.)
-abbrev pub clockSignal : List Slot → Bit → Option ℕ
-clockSignal held Zero = some (length held)
-clockSignal held One = some (suc (length held))
-clockSignal held (Wire w) = signalIn (find w held 0)
+abbrev pub clock_signal : List Slot → Bit → Option ℕ
+clock_signal held Zero = some (length held)
+clock_signal held One = some (suc (length held))
+clock_signal held (Wire w) = signal_in (find w held 0)
 
 -- a RAM has one signal more for each of its words
-abbrev pub wordSignals : Cell → ℕ
-wordSignals (lut4 is o t) = 0
-wordSignals (pfumx a b s o) = 0
-wordSignals (l6mux21 a b s o) = 0
-wordSignals (ccu2c u) = 0
-wordSignals (multiplier a b o) = 0
-wordSignals (flipFlop f) = 0
-wordSignals (blockRam r) = r.depth
-wordSignals (distributedRam r) = 16
-wordSignals (io p a o t) = 0
-wordSignals (jtagg o) = 0
-wordSignals (pll p) = 0
+abbrev pub word_signals : Cell → ℕ
+word_signals (lut4 is o t) = 0
+word_signals (pfumx a b s o) = 0
+word_signals (l6mux21 a b s o) = 0
+word_signals (ccu2c u) = 0
+word_signals (multiplier a b o) = 0
+word_signals (flip_flop f) = 0
+word_signals (block_ram r) = r.depth
+word_signals (distributed_ram r) = 16
+word_signals (io p a o t) = 0
+word_signals (jtagg o) = 0
+word_signals (pll p) = 0
 
 abbrev pub total : List ℕ → ℕ
 total [] = 0
 total (x ∷ l) = x + total l
 
 -- the signals of the model
-abbrev pub signalCount : Netlist → ℕ
-signalCount n = length (slots n) + 2 + total (map wordSignals n.cells)
+abbrev pub signal_count : Netlist → ℕ
+signal_count n = length (slots n) + 2 + total (map word_signals n.cells)

@@ -1,10 +1,10 @@
 -- Vectors from Yosys' ECP5 cell models, a few of each kind of cell. Written by oracle/yosys/rows.py from oracle/answers/yosys.txt.
 use Rattle.std.specs.Prelude.{◌≡◌, refl, List, [], ◌∷◌, map}
-use Rattle.behaviour.specs.Banks.{collectFlipFlopBanks, banksFrom, leadersFrom, flipFlopsFrom, bankIn, members_of}
-use Rattle.behaviour.specs.Checking.{Row, shownBy, still, fire}
+use Rattle.behaviour.specs.Banks.{collect_flip_flop_banks, banks_from, leaders_from, flip_flops_from, bank_in, members_of}
+use Rattle.behaviour.specs.Checking.{Row, shown_by, still, fire}
 
-abbrev pub yosysRows : List Row
-yosysRows =
+abbrev pub yosys_rows : List Row
+yosys_rows =
     -- lut4-1a35
     record {
       words = 0 ∷ 4 ∷ 2 ∷ 3 ∷ 4 ∷ 5 ∷ 1 ∷ 1 ∷ 6 ∷ 0 ∷ 2 ∷ 3 ∷ 4 ∷ 5 ∷ 4 ∷ 6709 ∷ 0 ∷ 2 ∷ 9 ∷ 1 ∷ [];
@@ -151,6 +151,6 @@ yosysRows =
     } ∷
     []
 
-pub yosys-holds : map shownBy yosysRows ≡ map (λ (r : Row). r.shown) yosysRows
-unfolding collectFlipFlopBanks banksFrom leadersFrom flipFlopsFrom bankIn members_of
-yosys-holds = refl
+pub yosys_holds : map shown_by yosys_rows ≡ map (λ (r : Row). r.shown) yosys_rows
+unfolding collect_flip_flop_banks banks_from leaders_from flip_flops_from bank_in members_of
+yosys_holds = refl

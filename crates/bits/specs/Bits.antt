@@ -29,8 +29,8 @@ binary zero n = []
 binary (suc w) n = eqb (n % 2) 1 ∷ binary w (n / 2)
 
 -- bit i of a number, as of a truth table
-abbrev pub tableBit : ℕ → ℕ → Bool
-tableBit t i = eqb (t / 2 ^ i % 2) 1
+abbrev pub table_bit : ℕ → ℕ → Bool
+table_bit t i = eqb (t / 2 ^ i % 2) 1
 
 -- the one bit of a value of one bit
 abbrev pub lowest : Bits → Bool
@@ -49,8 +49,8 @@ abbrev pub same : Bool → Bool → Bool
 same true b = b
 same false b = not b
 
-abbrev pub sameBits : Bits → Bits → Bool
-sameBits [] [] = true
-sameBits [] (c ∷ cs) = false
-sameBits (b ∷ bs) [] = false
-sameBits (b ∷ bs) (c ∷ cs) = same b c && sameBits bs cs
+abbrev pub same_bits : Bits → Bits → Bool
+same_bits [] [] = true
+same_bits [] (c ∷ cs) = false
+same_bits (b ∷ bs) [] = false
+same_bits (b ∷ bs) (c ∷ cs) = same b c && same_bits bs cs

@@ -2,10 +2,10 @@
 ghost use Rattle.std.specs.Prelude.{◌≡◌, ltb, set, ◌+◌};
 ghost use Rattle.std.proofs.Math.Option.{some};
 ghost use Rattle.bits.specs.Bits.{pick};
-ghost use Rattle.simulation.specs.Run.{answer_of as ranOf, firedOf};
+ghost use Rattle.simulation.specs.Run.{answer_of as ran_of, fired_of};
 ghost use Rattle.converter.specs.Entry.{answer_of};
-ghost use Rattle.runner.specs.Calls.{firedBy};
-ghost use Rattle.capi.specs.Answer.{refusalNumbers, numbersOf, Hands, orNoRoom, orNoRoomRan};
+ghost use Rattle.runner.specs.Calls.{fired_by};
+ghost use Rattle.capi.specs.Answer.{refusal_numbers, numbers_of, Hands, or_no_room, or_no_room_ran};
 
 use converter::Lowered;
 use recorder::SignalId;
@@ -46,7 +46,7 @@ pub fn words_for(room: usize, n: usize) -> usize
 
 // What fires: where the call is refused for want of room, an edge that there is not.
 pub fn fired_for(room: usize, fired: Fired) -> Fired
-    ensures { firedOf result ≡ pick (ltb room 8) (some (0, 2)) (firedOf fired) }
+    ensures { fired_of result ≡ pick (ltb room 8) (some (0, 2)) (fired_of fired) }
 {
     if room < ROOM {
         return Fired::Edge(SignalId(0), 2);
@@ -56,7 +56,7 @@ pub fn fired_for(room: usize, fired: Fired) -> Fired
 
 // Refused for want of room, unless a work is short.
 fn lowered_short(r: Lowered) -> Lowered
-    ensures { answer_of result ≡ orNoRoom (answer_of r) }
+    ensures { answer_of result ≡ or_no_room (answer_of r) }
 {
     match r {
         Lowered::Accepted(_) => Lowered::Refused(Refusal::BufferTooShort(ROOM)),
@@ -70,7 +70,7 @@ fn lowered_short(r: Lowered) -> Lowered
 }
 
 pub fn lowered_for(room: usize, r: Lowered) -> Lowered
-    ensures { answer_of result ≡ pick (ltb room 8) (orNoRoom (answer_of r)) (answer_of r) }
+    ensures { answer_of result ≡ pick (ltb room 8) (or_no_room (answer_of r)) (answer_of r) }
 {
     if room < ROOM {
         return lowered_short(r);
@@ -80,7 +80,7 @@ pub fn lowered_for(room: usize, r: Lowered) -> Lowered
 
 // Refused for want of room, unless the model is malformed or another buffer is short.
 fn ran_short(r: Ran) -> Ran
-    ensures { ranOf result ≡ orNoRoomRan (ranOf r) }
+    ensures { ran_of result ≡ or_no_room_ran (ran_of r) }
 {
     match r {
         Ran::Done => Ran::Refused(Refusal::BufferTooShort(ROOM)),
@@ -94,7 +94,7 @@ fn ran_short(r: Ran) -> Ran
 }
 
 pub fn ran_for(room: usize, r: Ran) -> Ran
-    ensures { ranOf result ≡ pick (ltb room 8) (orNoRoomRan (ranOf r)) (ranOf r) }
+    ensures { ran_of result ≡ pick (ltb room 8) (or_no_room_ran (ran_of r)) (ran_of r) }
 {
     if room < ROOM {
         return ran_short(r);
@@ -103,7 +103,7 @@ pub fn ran_for(room: usize, r: Ran) -> Ran
 }
 
 pub fn hand_lowered(buffer: &mut [u64], r: Lowered) -> usize
-    ensures { Hands (numbersOf (answer_of r)) buffer.old result buffer.new }
+    ensures { Hands (numbers_of (answer_of r)) buffer.old result buffer.new }
 {
     zero_longs(buffer);
     match r {
@@ -125,7 +125,7 @@ pub fn hand_lowered(buffer: &mut [u64], r: Lowered) -> usize
 }
 
 pub fn hand_ran(buffer: &mut [u64], r: Ran) -> usize
-    ensures { Hands (refusalNumbers (ranOf r)) buffer.old result buffer.new }
+    ensures { Hands (refusal_numbers (ran_of r)) buffer.old result buffer.new }
 {
     zero_longs(buffer);
     match r {
@@ -141,7 +141,7 @@ pub fn hand_ran(buffer: &mut [u64], r: Ran) -> usize
 }
 
 pub fn fired_by(fires: u32, signal: u32) -> Fired
-    ensures { firedOf result ≡ firedBy fires signal }
+    ensures { fired_of result ≡ fired_by fires signal }
 {
     if fires == 0 {
         Fired::Nothing

@@ -9,7 +9,7 @@ mod hand; // hand.rt: answers as numbers
 ghost use Rattle.std.specs.Prelude.{[], ◌∷◌};
 ghost use Rattle.recorder.specs.Lists.{lists};
 ghost use Rattle.simulation.specs.Fault.{call_of};
-ghost use Rattle.runner.specs.Calls.{firedBy};
+ghost use Rattle.runner.specs.Calls.{fired_by};
 ghost use Rattle.simulator.specs.Entry.{simulation, Zeroed};
 ghost use Rattle.capi.specs.Answer.{HandsLowered, HandsRan, HandsSimulated};
 
@@ -65,7 +65,7 @@ pub extern "C" fn reamerpoppy_run(
     work_signals: &mut [u8],
     answer: &mut [u64],
 ) -> usize
-    ensures { HandsRan (call_of (lists signals.now exprs.now stmts.now) bytes.old ticks.now (firedBy fires signal) work_bits.old work_exprs.old work_signals.old) answer.old result bytes.new work_bits.new work_exprs.new work_signals.new answer.new }
+    ensures { HandsRan (call_of (lists signals.now exprs.now stmts.now) bytes.old ticks.now (fired_by fires signal) work_bits.old work_exprs.old work_signals.old) answer.old result bytes.new work_bits.new work_exprs.new work_signals.new answer.new }
 {
     let room = answer.len();
     let fired = fired_for(room, fired_by(fires, signal));

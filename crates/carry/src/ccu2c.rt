@@ -1,10 +1,10 @@
 ghost use Rattle.std.specs.Prelude.{◌≡◌, eqb};
 ghost use Rattle.bits.specs.Bits.{pick};
 ghost use Rattle.recorder.specs.Lists.{emitted, stated};
-ghost use Rattle.wires.specs.Wires.{wiresOf};
+ghost use Rattle.wires.specs.Wires.{wires_of};
 ghost use Rattle.wires.specs.Once.{OnceBoth, Cleared, Grows};
-ghost use Rattle.cells.specs.Cells.{ccuRow, emitCcu2c};
-ghost use Rattle.cells.specs.Answers.{changed, nought, ccuOf};
+ghost use Rattle.cells.specs.Cells.{ccu_row, emit_ccu2c};
+ghost use Rattle.cells.specs.Answers.{changed, nought, ccu_of};
 
 use cells::Read4;
 use cells::answers::{stopped, stopped_read};
@@ -47,7 +47,7 @@ fn emit_slice(
     sum: u32,
     carry: ExprId,
 ) -> Emitted
-    ensures wrote { OnceBoth exprs.old stmts.old t first seen.old (λ s. ccuRow (wiresOf wires.now places.now) s inputs init inject sum carry.0) (emitted result) exprs.new stmts.new seen.new }
+    ensures wrote { OnceBoth exprs.old stmts.old t first seen.old (λ s. ccu_row (wires_of wires.now places.now) s inputs init inject sum carry.0) (emitted result) exprs.new stmts.new seen.new }
     ensures grows { Grows t (emitted result) }
 {
     let gated = gated_carry(inject, carry);
@@ -90,7 +90,7 @@ pub fn emit_ccu2c(
     init: [u16; 2],
     inject: [u32; 2],
 ) -> Stated
-    ensures wrote { OnceBoth exprs.old stmts.old t t.exprs.count seen.old (λ s. emitCcu2c (wiresOf wires.now places.now) s (ccuOf inputs carry_in sums carry_out init inject)) (stated result) exprs.new stmts.new seen.new }
+    ensures wrote { OnceBoth exprs.old stmts.old t t.exprs.count seen.old (λ s. emit_ccu2c (wires_of wires.now places.now) s (ccu_of inputs carry_in sums carry_out init inject)) (stated result) exprs.new stmts.new seen.new }
     ensures refused { Cleared (stated result) seen.old seen.new }
 {
     let row0 = inputs[0];

@@ -2,7 +2,7 @@
 use Rattle.std.specs.Prelude.{List, [], ◌∷◌, ℕ, ◌+◌, get_or}
 use Rattle.netlist.specs.declared.Bit.{Bit}
 use Rattle.netlist.specs.Netlist.{Ccu2c, Pll}
-use Rattle.netlist.specs.Fields.{word_at, bit_at, wiresAt}
+use Rattle.netlist.specs.Fields.{word_at, bit_at, wires_at}
 use Rattle.refusal.specs.Refusal.{number_of, place_of}
 use Rattle.recorder.specs.Lists.{Answer, Answer.Done, Answer.Failed}
 use Rattle.cells.specs.declared.Read4.{Read4}
@@ -33,11 +33,11 @@ fourfold e = e ∷ e ∷ e ∷ e ∷ []
 -- THE FIELDS OF A CELL, as a function is handed them
 
 -- two rows of four inputs, the carry, and two of each other field
-abbrev pub ccuOf : List (List Bit) → Bit → List ℕ → ℕ → List ℕ → List ℕ → Ccu2c
-ccuOf inputs carryIn sums carry init inject = record {
+abbrev pub ccu_of : List (List Bit) → Bit → List ℕ → ℕ → List ℕ → List ℕ → Ccu2c
+ccu_of inputs carry_in sums carry init inject = record {
   row0 = get_or inputs 0 [];
   row1 = get_or inputs 1 [];
-  carryIn = carryIn;
+  carry_in = carry_in;
   sum0 = get_or sums 0 0;
   sum1 = get_or sums 1 0;
   carry = carry;
@@ -48,11 +48,11 @@ ccuOf inputs carryIn sums carry init inject = record {
 }
 
 -- the PLL at an index
-abbrev pub pllOf : List ℕ → ℕ → Pll
-pllOf words i = record {
+abbrev pub pll_of : List ℕ → ℕ → Pll
+pll_of words i = record {
   reference = bit_at words (i + 1);
   feedback = word_at words (i + 2);
   output = word_at words (i + 3);
   locked = word_at words (i + 4);
-  more = wiresAt words (i + 6) (word_at words (i + 5));
+  more = wires_at words (i + 6) (word_at words (i + 5));
 }

@@ -1,12 +1,12 @@
 // The arms of emit_cell that stand in it, in its order.
 ghost use Rattle.std.specs.Prelude.{◌≡◌, [], ◌+◌};
-ghost use Rattle.netlist.specs.Fields.{bits_at, wiresAt};
+ghost use Rattle.netlist.specs.Fields.{bits_at, wires_at};
 ghost use Rattle.recorder.specs.Lists.{WroteExprs, emitted, stated};
-ghost use Rattle.optimize.specs.Lut.{numbers, lutCofactor};
-ghost use Rattle.wires.specs.Wires.{wiresOf};
+ghost use Rattle.optimize.specs.Lut.{numbers, lut_cofactor};
+ghost use Rattle.wires.specs.Wires.{wires_of};
 ghost use Rattle.wires.specs.Once.{OnceExprs, OnceBoth, Cleared, Grows};
-ghost use Rattle.wires.specs.Expressions.{readBits};
-ghost use Rattle.cells.specs.Cells.{emitMultiplier, emitLut4, emitPfumx, emitL6mux21, emitIo};
+ghost use Rattle.wires.specs.Expressions.{read_bits};
+ghost use Rattle.cells.specs.Cells.{emit_multiplier, emit_lut4, emit_pfumx, emit_l6mux21, emit_io};
 ghost use Rattle.cells.specs.Answers.{read_of, changed, fourfold};
 
 use crate::Read4;
@@ -41,7 +41,7 @@ pub fn read4(
     first: u32,
     inputs: [Bit; 4],
 ) -> Read4
-    ensures wrote { OnceExprs exprs.old t first seen.old (λ s. readBits (wiresOf wires.now places.now) s inputs []) (read_of result) exprs.new seen.new }
+    ensures wrote { OnceExprs exprs.old t first seen.old (λ s. read_bits (wires_of wires.now places.now) s inputs []) (read_of result) exprs.new seen.new }
     ensures refused { Cleared (read_of result) seen.old seen.new }
     ensures grows { Grows t (read_of result) }
 {
@@ -76,7 +76,7 @@ pub fn emit_multiplier(
     words: &[u32],
     at: usize,
 ) -> Stated
-    ensures wrote { OnceBoth exprs.old stmts.old t t.exprs.count seen.old (λ s. emitMultiplier (wiresOf wires.now places.now) s (bits_at words.now (at + 1) 18) (bits_at words.now (at + 19) 18) (wiresAt words.now (at + 37) 36)) (stated result) exprs.new stmts.new seen.new }
+    ensures wrote { OnceBoth exprs.old stmts.old t t.exprs.count seen.old (λ s. emit_multiplier (wires_of wires.now places.now) s (bits_at words.now (at + 1) 18) (bits_at words.now (at + 19) 18) (wires_at words.now (at + 37) 36)) (stated result) exprs.new stmts.new seen.new }
     ensures refused { Cleared (stated result) seen.old seen.new }
 {
     let first = t.exprs.count;
@@ -108,7 +108,7 @@ pub fn emit_multiplier(
 
 // A truth table of four inputs, by the optimizer.
 pub fn lut_expression(exprs: &mut [u32], t: Tapes, inputs: [ExprId; 4], init: u16) -> Emitted
-    ensures { WroteExprs exprs.old t (lutCofactor (numbers inputs) init) (emitted result) exprs.new }
+    ensures { WroteExprs exprs.old t (lut_cofactor (numbers inputs) init) (emitted result) exprs.new }
 {
     lut(exprs, t, inputs, init)
 }
@@ -124,7 +124,7 @@ pub fn emit_lut4(
     output: u32,
     init: u16,
 ) -> Stated
-    ensures wrote { OnceBoth exprs.old stmts.old t t.exprs.count seen.old (λ s. emitLut4 (wiresOf wires.now places.now) s inputs output init) (stated result) exprs.new stmts.new seen.new }
+    ensures wrote { OnceBoth exprs.old stmts.old t t.exprs.count seen.old (λ s. emit_lut4 (wires_of wires.now places.now) s inputs output init) (stated result) exprs.new stmts.new seen.new }
     ensures refused { Cleared (stated result) seen.old seen.new }
 {
     let first = t.exprs.count;
@@ -155,7 +155,7 @@ pub fn emit_pfumx(
     select: Bit,
     output: u32,
 ) -> Stated
-    ensures wrote { OnceBoth exprs.old stmts.old t t.exprs.count seen.old (λ s. emitPfumx (wiresOf wires.now places.now) s lut_true lut_false select output) (stated result) exprs.new stmts.new seen.new }
+    ensures wrote { OnceBoth exprs.old stmts.old t t.exprs.count seen.old (λ s. emit_pfumx (wires_of wires.now places.now) s lut_true lut_false select output) (stated result) exprs.new stmts.new seen.new }
     ensures refused { Cleared (stated result) seen.old seen.new }
 {
     let first = t.exprs.count;
@@ -193,7 +193,7 @@ pub fn emit_l6mux21(
     select: Bit,
     output: u32,
 ) -> Stated
-    ensures wrote { OnceBoth exprs.old stmts.old t t.exprs.count seen.old (λ s. emitL6mux21 (wiresOf wires.now places.now) s data_zero data_one select output) (stated result) exprs.new stmts.new seen.new }
+    ensures wrote { OnceBoth exprs.old stmts.old t t.exprs.count seen.old (λ s. emit_l6mux21 (wires_of wires.now places.now) s data_zero data_one select output) (stated result) exprs.new stmts.new seen.new }
     ensures refused { Cleared (stated result) seen.old seen.new }
 {
     let first = t.exprs.count;
@@ -231,7 +231,7 @@ pub fn emit_io(
     fabric_input: u32,
     tristate: Bit,
 ) -> Stated
-    ensures wrote { OnceBoth exprs.old stmts.old t t.exprs.count seen.old (λ s. emitIo (wiresOf wires.now places.now) s pad fabric_output fabric_input tristate) (stated result) exprs.new stmts.new seen.new }
+    ensures wrote { OnceBoth exprs.old stmts.old t t.exprs.count seen.old (λ s. emit_io (wires_of wires.now places.now) s pad fabric_output fabric_input tristate) (stated result) exprs.new stmts.new seen.new }
     ensures refused { Cleared (stated result) seen.old seen.new }
 {
     let first = t.exprs.count;

@@ -1,8 +1,8 @@
 ghost use Rattle.std.specs.Prelude.{◌+◌};
-ghost use Rattle.netlist.specs.Fields.{wiresAt};
+ghost use Rattle.netlist.specs.Fields.{wires_at};
 ghost use Rattle.recorder.specs.Lists.{WroteStmts, stated};
-ghost use Rattle.wires.specs.Wires.{wiresOf};
-ghost use Rattle.cells.specs.Cells.{assignAll, emitIdleJtagg};
+ghost use Rattle.wires.specs.Wires.{wires_of};
+ghost use Rattle.cells.specs.Cells.{assign_all, emit_idle_jtagg};
 
 use netlist::fields::{ahead, field};
 use recorder::{ExprId, Stated, Tapes};
@@ -20,7 +20,7 @@ fn assign_all(
     n: usize,
     value: ExprId,
 ) -> Stated
-    ensures { WroteStmts stmts.old t (assignAll (wiresOf wires.now places.now) (wiresAt words.now (at + offset) n) value.0) (stated result) stmts.new }
+    ensures { WroteStmts stmts.old t (assign_all (wires_of wires.now places.now) (wires_at words.now (at + offset) n) value.0) (stated result) stmts.new }
 {
     let from = ahead(words, at, offset);
     let mut now = t;
@@ -46,7 +46,7 @@ pub fn emit_idle_jtagg(
     words: &[u32],
     at: usize,
 ) -> Stated
-    ensures { WroteStmts stmts.old t (emitIdleJtagg (wiresOf wires.now places.now) (wiresAt words.now (at + 1) 9)) (stated result) stmts.new }
+    ensures { WroteStmts stmts.old t (emit_idle_jtagg (wires_of wires.now places.now) (wires_at words.now (at + 1) 9)) (stated result) stmts.new }
 {
     let r = assign_all(stmts, wires, places, t, words, at, 1, 6, ExprId::ZERO);
     let Stated::Done(after) = r else {

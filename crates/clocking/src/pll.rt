@@ -1,12 +1,12 @@
 ghost use Rattle.std.specs.Prelude.{◌||◌, ◌+◌, eqb};
 ghost use Rattle.bits.specs.Bits.{pick};
-ghost use Rattle.netlist.specs.Fields.{word_at, wiresAt};
+ghost use Rattle.netlist.specs.Fields.{word_at, wires_at};
 ghost use Rattle.recorder.specs.Writer.{pure};
 ghost use Rattle.recorder.specs.Lists.{WroteStmts, stated, WroteBoth};
-ghost use Rattle.wires.specs.Wires.{wiresOf};
-ghost use Rattle.wires.specs.Expressions.{assignWire};
-ghost use Rattle.cells.specs.Cells.{pllClocks, emitCyclePll};
-ghost use Rattle.cells.specs.Answers.{pllOf};
+ghost use Rattle.wires.specs.Wires.{wires_of};
+ghost use Rattle.wires.specs.Expressions.{assign_wire};
+ghost use Rattle.cells.specs.Cells.{pll_clocks, emit_cycle_pll};
+ghost use Rattle.cells.specs.Answers.{pll_of};
 
 use cells::answers::stopped;
 use netlist::fields::{ahead, bit_at, field, wide};
@@ -23,7 +23,7 @@ fn assign_unless(
     wire: u32,
     value: ExprId,
 ) -> Stated
-    ensures { WroteStmts stmts.old t (pick (eqb wire other) (pure tt) (assignWire (wiresOf wires.now places.now) wire value.0)) (stated result) stmts.new }
+    ensures { WroteStmts stmts.old t (pick (eqb wire other) (pure tt) (assign_wire (wires_of wires.now places.now) wire value.0)) (stated result) stmts.new }
 {
     if wire == other {
         return Stated::Done(t);
@@ -42,7 +42,7 @@ fn assign_clock(
     wire: u32,
     value: ExprId,
 ) -> Stated
-    ensures { WroteStmts stmts.old t (pick (eqb wire feedback || eqb wire output) (pure tt) (assignWire (wiresOf wires.now places.now) wire value.0)) (stated result) stmts.new }
+    ensures { WroteStmts stmts.old t (pick (eqb wire feedback || eqb wire output) (pure tt) (assign_wire (wires_of wires.now places.now) wire value.0)) (stated result) stmts.new }
 {
     if wire == feedback {
         return Stated::Done(t);
@@ -63,7 +63,7 @@ fn assign_clocks(
     n: usize,
     value: ExprId,
 ) -> Stated
-    ensures { WroteStmts stmts.old t (pllClocks (wiresOf wires.now places.now) feedback output (wiresAt words.now (at + 6) n) value.0) (stated result) stmts.new }
+    ensures { WroteStmts stmts.old t (pll_clocks (wires_of wires.now places.now) feedback output (wires_at words.now (at + 6) n) value.0) (stated result) stmts.new }
 {
     let from = ahead(words, at, 6);
     let mut now = t;
@@ -90,7 +90,7 @@ pub fn emit_cycle_pll(
     words: &[u32],
     at: usize,
 ) -> Stated
-    ensures { WroteBoth exprs.old stmts.old t (emitCyclePll (wiresOf wires.now places.now) (pllOf words.now at)) (stated result) exprs.new stmts.new }
+    ensures { WroteBoth exprs.old stmts.old t (emit_cycle_pll (wires_of wires.now places.now) (pll_of words.now at)) (stated result) exprs.new stmts.new }
 {
     let feedback = field(words, at, 2);
     let output = field(words, at, 3);

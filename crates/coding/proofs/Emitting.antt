@@ -9,34 +9,34 @@ use native.Mathlib.Decide.{ℕ_discrete}
 use lib.Dec.{leb}
 use lib.ListN.{length, get_or, take, drop, set, length-set}
 use lib.Seq.{get_or-set_same, get_or-set_other, take-set-le, take-take, take-length, length-take-le, get_or-take, get_or-drop}
-use Rattle.settle.specs.Tests.{all-out}
+use Rattle.settle.specs.Tests.{all_out}
 use Rattle.recorder.specs.Record.{Model}
-use Rattle.recorder.specs.Read.{modelOf}
+use Rattle.recorder.specs.Read.{model_of}
 use Rattle.simulation.specs.Run.{zeroed}
-use Rattle.simulation.specs.Index.{recordsIn, widthsIn, offset, start_of}
-use Rattle.simulation.proofs.Tally.{getD-zeros}
-use Rattle.simulation.proofs.Offsets.{offset-next}
+use Rattle.simulation.specs.Index.{records_in, widths_in, offset, start_of}
+use Rattle.simulation.proofs.Tally.{get_d_zeros}
+use Rattle.simulation.proofs.Offsets.{offset_next}
 use Rattle.ordering.specs.Order.{needs}
 use Rattle.ordering.specs.Marks.{marked, ready}
-use Rattle.ordering.specs.Words.{modelIn as exprsModel}
-use Rattle.evaluation.specs.Ready.{modelIn}
-use Rattle.evaluation.specs.Loads.{stmtIn, Stated, Names}
-use Rattle.evaluation.proofs.Committing.{names-word}
+use Rattle.ordering.specs.Words.{model_in as exprs_model}
+use Rattle.evaluation.specs.Ready.{model_in}
+use Rattle.evaluation.specs.Loads.{stmt_in, Stated, Names}
+use Rattle.evaluation.proofs.Committing.{names_word}
 use Rattle.evaluation.specs.Ticks.{Ordered}
 use Rattle.fusing.specs.Form.{Formed}
 use Rattle.evaluation.specs.Late.{Among}
-use Rattle.coding.specs.Coded.{bitsIn, Within, Known, Computable, Coded}
-use Rattle.coding.proofs.Frame.{word_kept, among-kept, formed-kept, computable-kept}
+use Rattle.coding.specs.Coded.{bits_in, Within, Known, Computable, Coded}
+use Rattle.coding.proofs.Frame.{word_kept, among_kept, formed_kept, computable_kept}
 use Rattle.coding.specs.Emitting.{Unplaced, Placed, Places, Emitting, Emits, EmitsAll}
 
 -- POSITIONS
 
-pub unplaced-zeroed : {values : List ℕ} (l : List ℕ) → values ≡ zeroed l → Unplaced values
-unplaced-zeroed l z = record { none-placed = λ p h. absurd (omega (arith, sym h ∙ ap (λ (v : List ℕ). get_or v p 0) z ∙ getD-zeros (length l) p)) }
+pub unplaced_zeroed : {values : List ℕ} (l : List ℕ) → values ≡ zeroed l → Unplaced values
+unplaced_zeroed l z = record { none_placed = λ p h. absurd (omega (arith, sym h ∙ ap (λ (v : List ℕ). get_or v p 0) z ∙ get_d_zeros (length l) p)) }
 
 -- a byte that is set to another number
-pub unplaced-set : {values : List ℕ} (i : ℕ) {b : ℕ} → (b ≡ 1 → ⊥) → Unplaced values → Unplaced (set values i b)
-unplaced-set {values} i {b} n u = record { none-placed = λ p h. go p h (ℕ_discrete p i) }
+pub unplaced_set : {values : List ℕ} (i : ℕ) {b : ℕ} → (b ≡ 1 → ⊥) → Unplaced values → Unplaced (set values i b)
+unplaced_set {values} i {b} n u = record { none_placed = λ p h. go p h (ℕ_discrete p i) }
   where
     at_own : (l : List ℕ) (j : ℕ) → (get_or (set l j b) j 0 ≡ b) ⊎ (get_or (set l j b) j 0 ≡ get_or l j 0)
     at_own [] zero = inr refl
@@ -45,7 +45,7 @@ unplaced-set {values} i {b} n u = record { none-placed = λ p h. go p h (ℕ_dis
     at_own (a ∷ l) (suc j) = at_own l j
 
     go : (p : ℕ) → get_or (set values i b) p 0 ≡ 1 → Dec (p ≡ i) → ⊥
-    go p h (no z) = u.none-placed p (sym (get_or-set_other values i p b 0 z) ∙ h)
+    go p h (no z) = u.none_placed p (sym (get_or-set_other values i p b 0 z) ∙ h)
     go p h (yes z) = own (at_own values i)
       where
         here : get_or (set values i b) i 0 ≡ 1
@@ -53,13 +53,13 @@ unplaced-set {values} i {b} n u = record { none-placed = λ p h. go p h (ℕ_dis
 
         own : (get_or (set values i b) i 0 ≡ b) ⊎ (get_or (set values i b) i 0 ≡ get_or values i 0) → ⊥
         own (inl y) = n (sym y ∙ here)
-        own (inr y) = u.none-placed i (sym y ∙ here)
+        own (inr y) = u.none_placed i (sym y ∙ here)
 
-pub places-none : (from : ℕ) (values : List ℕ) → Places from from values values
-places-none from values = record { places = λ p h. inr h }
+pub places_none : (from : ℕ) (values : List ℕ) → Places from from values values
+places_none from values = record { places = λ p h. inr h }
 
-pub places-more : {from end : ℕ} {values₀ values : List ℕ} → Places from end values₀ values → from ≤ end → Places from (end + 1) values₀ (set values end 1)
-places-more {from} {end} {values₀} {values} g l = record { places = λ p h. go p h (ℕ_discrete p end) }
+pub places_more : {from end : ℕ} {values₀ values : List ℕ} → Places from end values₀ values → from ≤ end → Places from (end + 1) values₀ (set values end 1)
+places_more {from} {end} {values₀} {values} g l = record { places = λ p h. go p h (ℕ_discrete p end) }
   where
     wider : (p : ℕ) → ((from ≤ p) × (p < end)) ⊎ (get_or values₀ p 0 ≡ 1) → ((from ≤ p) × (p < end + 1)) ⊎ (get_or values₀ p 0 ≡ 1)
     wider p (inl h) = inl (h.0, omega (arith, h.1))
@@ -74,14 +74,14 @@ places-more {from} {end} {values₀} {values} g l = record { places = λ p h. go
 module _ {signals exprs stmts : List ℕ} where
   module _ {n from k : ℕ} {order values marks : List ℕ} (g : Emitting signals exprs stmts n from k order values marks) where
     -- a position that is placed is known
-    placed-known : {base top p : ℕ} → base ≡ bitsIn exprs → top ≡ bitsIn exprs + bitsIn signals → Placed values base top p → Known signals exprs (Among order from k) p
-    placed-known {base} {top} {p} hb ht w = go w.placed
+    placed_known : {base top p : ℕ} → base ≡ bits_in exprs → top ≡ bits_in exprs + bits_in signals → Placed values base top p → Known signals exprs (Among order from k) p
+    placed_known {base} {top} {p} hb ht w = go w.placed
       where
         go : ((base ≤ p) × (p < top)) ⊎ ((p < base) × (get_or values p 0 ≡ 1)) → Known signals exprs (Among order from k) p
         go (inl h) = inl (omega (arith, hb, h.0), omega (arith, ht, h.1))
-        go (inr h) = inr (g.in-values p (omega (arith, hb, h.0)) h.1)
+        go (inr h) = inr (g.in_values p (omega (arith, hb, h.0)) h.1)
 
-    module _ {e at : ℕ} (he : e < length (recordsIn exprs)) (ha : at ≡ n + 6 * e) where
+    module _ {e at : ℕ} (he : e < length (records_in exprs)) (ha : at ≡ n + 6 * e) where
       word : (i : ℕ) → get_or order (at + i) 0 ≡ get_or (drop n order) (6 * e + i) 0
       word i =
           let z : at + i ≡ n + (6 * e + i) = omega arith in
@@ -90,37 +90,37 @@ module _ {signals exprs stmts : List ℕ} where
       table_is : get_or order at 0 ≡ get_or (drop n order) (6 * e) 0
       table_is = ap (λ (j : ℕ). get_or order j 0) ha ∙ sym (get_or-drop n order (6 * e) 0)
 
-      pub computable-needs : {r : Bool} → 65536 ≤ get_or order at 0 → r ≡ ready (exprsModel exprs stmts) marks e → r ≡ true → Computable signals exprs stmts (Among order from k) (drop n order) e
-      unfolding modelOf
-      computable-needs h z t = record {
+      pub computable_needs : {r : Bool} → 65536 ≤ get_or order at 0 → r ≡ ready (exprs_model exprs stmts) marks e → r ≡ true → Computable signals exprs stmts (Among order from k) (drop n order) e
+      unfolding model_of
+      computable_needs h z t = record {
         there = he;
         by_form = λ l. absurd (omega (arith, table_is, h, l));
-        by-needs = λ l d i. g.in-marks d (all-out (marked marks) (needs (modelIn signals exprs stmts) e) (sym z ∙ t) d i);
+        by_needs = λ l d i. g.in_marks d (all_out (marked marks) (needs (model_in signals exprs stmts) e) (sym z ∙ t) d i);
       }
 
-      pub computable-form : {base top : ℕ} → base ≡ bitsIn exprs → top ≡ bitsIn exprs + bitsIn signals → get_or order at 0 < 65536 → Placed values base top (get_or order (at + 2) 0) → Placed values base top (get_or order (at + 3) 0) → Placed values base top (get_or order (at + 4) 0) → Placed values base top (get_or order (at + 5) 0) → Computable signals exprs stmts (Among order from k) (drop n order) e
-      computable-form hb ht h a b c d = record {
+      pub computable_form : {base top : ℕ} → base ≡ bits_in exprs → top ≡ bits_in exprs + bits_in signals → get_or order at 0 < 65536 → Placed values base top (get_or order (at + 2) 0) → Placed values base top (get_or order (at + 3) 0) → Placed values base top (get_or order (at + 4) 0) → Placed values base top (get_or order (at + 5) 0) → Computable signals exprs stmts (Among order from k) (drop n order) e
+      computable_form hb ht h a b c d = record {
         there = he;
-        by_form = λ l. (subst (Known signals exprs (Among order from k)) (word 2) (placed-known hb ht a), subst (Known signals exprs (Among order from k)) (word 3) (placed-known hb ht b), subst (Known signals exprs (Among order from k)) (word 4) (placed-known hb ht c), subst (Known signals exprs (Among order from k)) (word 5) (placed-known hb ht d));
-        by-needs = λ l. absurd (omega (arith, table_is, h, l));
+        by_form = λ l. (subst (Known signals exprs (Among order from k)) (word 2) (placed_known hb ht a), subst (Known signals exprs (Among order from k)) (word 3) (placed_known hb ht b), subst (Known signals exprs (Among order from k)) (word 4) (placed_known hb ht c), subst (Known signals exprs (Among order from k)) (word 5) (placed_known hb ht d));
+        by_needs = λ l. absurd (omega (arith, table_is, h, l));
       }
 
     -- e is the next
-    module _ {e : ℕ} (hn : n ≡ length (recordsIn exprs)) (hk : k < n) (c : Computable signals exprs stmts (Among order from k) (drop n order) e) where
+    module _ {e : ℕ} (hn : n ≡ length (records_in exprs)) (hk : k < n) (c : Computable signals exprs stmts (Among order from k) (drop n order) e) where
       order' : List ℕ
       order' = set order (from + k) e
 
-      pub order-kept : take from (set order (from + k) e) ≡ take from order
-      order-kept = take-set-le from order (from + k) e (omega arith)
+      pub order_kept : take from (set order (from + k) e) ≡ take from order
+      order_kept = take-set-le from order (from + k) e (omega arith)
 
-      code-kept : take (from + k) (set order (from + k) e) ≡ take (from + k) order
-      code-kept = take-set-le (from + k) order (from + k) e (omega arith)
+      code_kept : take (from + k) (set order (from + k) e) ≡ take (from + k) order
+      code_kept = take-set-le (from + k) order (from + k) e (omega arith)
 
       still : (j : ℕ) → j ≤ k → (x : ℕ) → Among order from j x → Among (set order (from + k) e) from j x
-      still j h x i = among-kept (from + k) order (set order (from + k) e) code-kept (omega arith) i
+      still j h x i = among_kept (from + k) order (set order (from + k) e) code_kept (omega arith) i
 
-      computable-still : (j : ℕ) → j ≤ k → {x : ℕ} → Computable signals exprs stmts (Among order from j) (drop n order) x → Computable signals exprs stmts (Among (set order (from + k) e) from j) (drop n (set order (from + k) e)) x
-      computable-still j h d = computable-kept from order (set order (from + k) e) order-kept g.forms-before hn (still j h) d
+      computable_still : (j : ℕ) → j ≤ k → {x : ℕ} → Computable signals exprs stmts (Among order from j) (drop n order) x → Computable signals exprs stmts (Among (set order (from + k) e) from j) (drop n (set order (from + k) e)) x
+      computable_still j h d = computable_kept from order (set order (from + k) e) order_kept g.forms_before hn (still j h) d
 
       inside : from + k < length order
       inside = omega (arith, g.room)
@@ -131,85 +131,85 @@ module _ {signals exprs stmts : List ℕ} where
       up : (x : ℕ) → Among order from k x → Among (set order (from + k) e) from (k + 1) x
       up x i = let s = still k (omega arith) x i in record { place = s.place; before = omega (arith, s.before); stands = s.stands }
 
-      pub emitted : {values' : List ℕ} → Places (offset (widthsIn exprs) e) (offset (widthsIn exprs) (e + 1)) values values' → Emitting signals exprs stmts n from (k + 1) (set order (from + k) e) values' (set marks e 1)
+      pub emitted : {values' : List ℕ} → Places (offset (widths_in exprs) e) (offset (widths_in exprs) (e + 1)) values values' → Emitting signals exprs stmts n from (k + 1) (set order (from + k) e) values' (set marks e 1)
       emitted {values'} w = record {
-        forms-before = g.forms-before;
+        forms_before = g.forms_before;
         room = omega (arith, g.room, length-set order (from + k) e);
         few = omega arith;
-        formed = formed-kept from order (set order (from + k) e) order-kept g.forms-before g.formed;
+        formed = formed_kept from order (set order (from + k) e) order_kept g.forms_before g.formed;
         each = λ j h. word_at j h (ℕ_discrete j k);
-        in-marks = λ x h. mark-at x h (ℕ_discrete x e);
-        in-values = λ p h b. value-at p h (w.places p b);
+        in_marks = λ x h. mark_at x h (ℕ_discrete x e);
+        in_values = λ p h b. value_at p h (w.places p b);
       }
         where
           word_at : (j : ℕ) → j < k + 1 → Dec (j ≡ k) → Computable signals exprs stmts (Among (set order (from + k) e) from j) (drop n (set order (from + k) e)) (get_or (set order (from + k) e) (from + j) 0)
           word_at j h (yes z) =
               subst (λ (i : ℕ). Computable signals exprs stmts (Among (set order (from + k) e) from i) (drop n (set order (from + k) e)) (get_or (set order (from + k) e) (from + i) 0)) (sym z)
               (subst (Computable signals exprs stmts (Among (set order (from + k) e) from k) (drop n (set order (from + k) e))) (sym (get_or-set_same order (from + k) e 0 inside))
-              (computable-still k (omega arith) c))
+              (computable_still k (omega arith) c))
           word_at j h (no z) =
-              subst (Computable signals exprs stmts (Among (set order (from + k) e) from j) (drop n (set order (from + k) e))) (sym (word_kept (from + k) order (set order (from + k) e) code-kept (from + j) (omega (arith, z))))
-              (computable-still j (omega arith) (g.each j (omega (arith, z))))
+              subst (Computable signals exprs stmts (Among (set order (from + k) e) from j) (drop n (set order (from + k) e))) (sym (word_kept (from + k) order (set order (from + k) e) code_kept (from + j) (omega (arith, z))))
+              (computable_still j (omega arith) (g.each j (omega (arith, z))))
 
-          mark-at : (x : ℕ) → marked (set marks e 1) x ≡ true → Dec (x ≡ e) → Among (set order (from + k) e) from (k + 1) x
-          mark-at x h (yes z) = subst (Among (set order (from + k) e) from (k + 1)) (sym z) own
-          mark-at x h (no z) = up x (g.in-marks x (ap (λ (i : ℕ). leb 1 i) (sym (get_or-set_other marks e x 1 0 z)) ∙ h))
+          mark_at : (x : ℕ) → marked (set marks e 1) x ≡ true → Dec (x ≡ e) → Among (set order (from + k) e) from (k + 1) x
+          mark_at x h (yes z) = subst (Among (set order (from + k) e) from (k + 1)) (sym z) own
+          mark_at x h (no z) = up x (g.in_marks x (ap (λ (i : ℕ). leb 1 i) (sym (get_or-set_other marks e x 1 0 z)) ∙ h))
 
-          value-at : (p : ℕ) → p < bitsIn exprs → ((offset (widthsIn exprs) e ≤ p) × (p < offset (widthsIn exprs) (e + 1))) ⊎ (get_or values p 0 ≡ 1) → (d : ℕ) × Among (set order (from + k) e) from (k + 1) d × Within exprs d p
-          value-at p h (inl y) = (e, own, (c.there, y.0, omega (arith, y.1, offset-next (widthsIn exprs) e)))
-          value-at p h (inr y) = let t = g.in-values p h y in (t.0, up t.0 t.1, t.2)
+          value_at : (p : ℕ) → p < bits_in exprs → ((offset (widths_in exprs) e ≤ p) × (p < offset (widths_in exprs) (e + 1))) ⊎ (get_or values p 0 ≡ 1) → (d : ℕ) × Among (set order (from + k) e) from (k + 1) d × Within exprs d p
+          value_at p h (inl y) = (e, own, (c.there, y.0, omega (arith, y.1, offset_next (widths_in exprs) e)))
+          value_at p h (inr y) = let t = g.in_values p h y in (t.0, up t.0 t.1, t.2)
 
       -- the same by what the code reads
-      pub put-emitted : {x begin end : ℕ} {values' : List ℕ} → x ≡ e → begin ≡ offset (widthsIn exprs) x → end ≡ offset (widthsIn exprs) (x + 1) → Places begin end values values' → Emitting signals exprs stmts n from (k + 1) (set order (from + k) e) values' (set marks x 1)
-      put-emitted {x} {begin} {end} {values'} hx hf he w =
+      pub put_emitted : {x begin end : ℕ} {values' : List ℕ} → x ≡ e → begin ≡ offset (widths_in exprs) x → end ≡ offset (widths_in exprs) (x + 1) → Places begin end values values' → Emitting signals exprs stmts n from (k + 1) (set order (from + k) e) values' (set marks x 1)
+      put_emitted {x} {begin} {end} {values'} hx hf he w =
           subst (λ (i : ℕ). Emitting signals exprs stmts n from (k + 1) (set order (from + k) e) values' (set marks i 1)) (sym hx)
-          (emitted (subst (λ (i : ℕ). Places i (offset (widthsIn exprs) (e + 1)) values values') (hf ∙ ap (offset (widthsIn exprs)) hx) (subst (λ (i : ℕ). Places begin i values values') (he ∙ ap (λ (i : ℕ). offset (widthsIn exprs) (i + 1)) hx) w)))
+          (emitted (subst (λ (i : ℕ). Places i (offset (widths_in exprs) (e + 1)) values values') (hf ∙ ap (offset (widths_in exprs)) hx) (subst (λ (i : ℕ). Places begin i values values') (he ∙ ap (λ (i : ℕ). offset (widths_in exprs) (i + 1)) hx) w)))
 
-    pub emitted-coded : Coded signals exprs stmts n from k order
-    emitted-coded = record { forms-before = g.forms-before; room = omega (arith, g.room, g.few); formed = g.formed; each = g.each }
+    pub emitted_coded : Coded signals exprs stmts n from k order
+    emitted_coded = record { forms_before = g.forms_before; room = omega (arith, g.room, g.few); formed = g.formed; each = g.each }
 
   -- before the first
-  pub emitting-start : {n from : ℕ} {order values marks : List ℕ} (l : List ℕ) → 7 * n ≤ from → from + n ≤ length order → Formed signals exprs stmts (drop n order) n → Unplaced values → marks ≡ zeroed l → Emitting signals exprs stmts n from 0 order values marks
-  emitting-start l b r f u z = record {
-    forms-before = b;
+  pub emitting_start : {n from : ℕ} {order values marks : List ℕ} (l : List ℕ) → 7 * n ≤ from → from + n ≤ length order → Formed signals exprs stmts (drop n order) n → Unplaced values → marks ≡ zeroed l → Emitting signals exprs stmts n from 0 order values marks
+  emitting_start l b r f u z = record {
+    forms_before = b;
     room = r;
     few = omega arith;
     formed = f;
     each = λ j h. absurd (omega arith);
-    in-marks = λ e h. absurd (false≢true (subst (λ (i : ℕ). leb 1 i ≡ true) (ap (λ (m : List ℕ). get_or m e 0) z ∙ getD-zeros (length l) e) h));
-    in-values = λ p h b. absurd (u.none-placed p b);
+    in_marks = λ e h. absurd (false≢true (subst (λ (i : ℕ). leb 1 i ≡ true) (ap (λ (m : List ℕ). get_or m e 0) z ∙ get_d_zeros (length l) e) h));
+    in_values = λ p h b. absurd (u.none_placed p b);
   }
 
 -- WHAT STATEMENTS NAME
 
-pub is-marked : (marks : List ℕ) {r : Bool} {e x : ℕ} → r ≡ marked marks e → e ≡ x → r ≡ true → marked marks x ≡ true
-is-marked marks {r} {e} {x} h z t = ap (marked marks) (sym z) ∙ sym h ∙ t
+pub is_marked : (marks : List ℕ) {r : Bool} {e x : ℕ} → r ≡ marked marks e → e ≡ x → r ≡ true → marked marks x ≡ true
+is_marked marks {r} {e} {x} h z t = ap (marked marks) (sym z) ∙ sym h ∙ t
 
 pub indeed : {b : Bool} → not b ≡ false → b ≡ true
 indeed {b} h = sym (not-not b) ∙ ap not h
 
 -- the words that name: the fourth, and a register's tenth if it has a reset
 module _ {signals stmts : List ℕ} (s : Stated signals stmts) (marks : List ℕ) {word : ℕ} where
-  module _ (a : marked marks (get_or stmts (word + 3) 0) ≡ true) {k : ℕ} (q : k < length (recordsIn stmts)) (b : word ≡ start_of stmts k) (x : ℕ) (h : Names (stmtIn stmts k) x) where
+  module _ (a : marked marks (get_or stmts (word + 3) 0) ≡ true) {k : ℕ} (q : k < length (records_in stmts)) (b : word ≡ start_of stmts k) (x : ℕ) (h : Names (stmt_in stmts k) x) where
     first : get_or stmts (word + 3) 0 ≡ x → marked marks x ≡ true
     first z = subst (λ (i : ℕ). marked marks i ≡ true) z a
 
     pub named_other : (get_or stmts (word + 1) 0 ≡ 1 → ⊥) → marked marks x ≡ true
-    named_other n = go (names-word s q b x h)
+    named_other n = go (names_word s q b x h)
       where
         go : (get_or stmts (word + 3) 0 ≡ x) ⊎ ((get_or stmts (word + 1) 0 ≡ 1) × (get_or stmts (word + 6) 0 ≡ 0 → ⊥) × (get_or stmts (word + 9) 0 ≡ x)) → marked marks x ≡ true
         go (inl z) = first z
         go (inr z) = absurd (n z.0)
 
-    pub named-plain : get_or stmts (word + 6) 0 ≡ 0 → marked marks x ≡ true
-    named-plain n = go (names-word s q b x h)
+    pub named_plain : get_or stmts (word + 6) 0 ≡ 0 → marked marks x ≡ true
+    named_plain n = go (names_word s q b x h)
       where
         go : (get_or stmts (word + 3) 0 ≡ x) ⊎ ((get_or stmts (word + 1) 0 ≡ 1) × (get_or stmts (word + 6) 0 ≡ 0 → ⊥) × (get_or stmts (word + 9) 0 ≡ x)) → marked marks x ≡ true
         go (inl z) = first z
         go (inr z) = absurd (z.1 n)
 
-    pub named-reset : marked marks (get_or stmts (word + 9) 0) ≡ true → marked marks x ≡ true
-    named-reset n = go (names-word s q b x h)
+    pub named_reset : marked marks (get_or stmts (word + 9) 0) ≡ true → marked marks x ≡ true
+    named_reset n = go (names_word s q b x h)
       where
         go : (get_or stmts (word + 3) 0 ≡ x) ⊎ ((get_or stmts (word + 1) 0 ≡ 1) × (get_or stmts (word + 6) 0 ≡ 0 → ⊥) × (get_or stmts (word + 9) 0 ≡ x)) → marked marks x ≡ true
         go (inl z) = first z
@@ -218,8 +218,8 @@ module _ {signals stmts : List ℕ} (s : Stated signals stmts) (marks : List ℕ
 -- THE WHOLE
 
 -- the order is still one
-pub ordered-kept : {m : Model} {n ordered : ℕ} (order : List ℕ) {order' : List ℕ} → ordered ≡ n → take n order' ≡ take n order → Ordered m n (take ordered order) → length order' ≡ length order → n ≤ length order → Ordered m n order'
-ordered-kept {m} {n} {ordered} order {order'} z k o l h = record {
+pub ordered_kept : {m : Model} {n ordered : ℕ} (order : List ℕ) {order' : List ℕ} → ordered ≡ n → take n order' ≡ take n order → Ordered m n (take ordered order) → length order' ≡ length order → n ≤ length order → Ordered m n order'
+ordered_kept {m} {n} {ordered} order {order'} z k o l h = record {
   all = λ p e q. subst (Mem e) (take-take n n order (omega arith) ∙ sym k) (was.all long e q);
   behind = λ p j q d i. subst (Mem d) (take-take j n order (omega arith) ∙ sym (firsts j q)) (was.behind long j q d (subst (λ (x : ℕ). Mem d (needs m x)) (word_at j q) i));
 }
@@ -244,14 +244,14 @@ module _ {signals exprs stmts : List ℕ} where
   emits_none g = record { kept = refl; fine = λ h. g; one_more = λ h. omega arith }
 
   -- the code can't be made
-  pub emits-stuck : {n from k : ℕ} (order values marks : List ℕ) → Emits signals exprs stmts n from k (n + 1) order order values marks
-  emits-stuck order values marks = record { kept = refl; fine = λ h. absurd (omega arith); one_more = λ h. absurd (omega arith) }
+  pub emits_stuck : {n from k : ℕ} (order values marks : List ℕ) → Emits signals exprs stmts n from k (n + 1) order order values marks
+  emits_stuck order values marks = record { kept = refl; fine = λ h. absurd (omega arith); one_more = λ h. absurd (omega arith) }
 
   pub emits_one : {n from k : ℕ} {order order' values' marks' : List ℕ} → Emitting signals exprs stmts n from (k + 1) order' values' marks' → take from order' ≡ take from order → Emits signals exprs stmts n from k (k + 1) order order' values' marks'
   emits_one g z = record { kept = z; fine = λ h. g; one_more = λ h. omega arith }
 
-  pub emits-computable : {S : ℕ → Type 0} {forms : List ℕ} {e x : ℕ} → e ≡ x → Computable signals exprs stmts S forms e → Computable signals exprs stmts S forms x
-  emits-computable {S} {forms} z c = subst (Computable signals exprs stmts S forms) z c
+  pub emits_computable : {S : ℕ → Type 0} {forms : List ℕ} {e x : ℕ} → e ≡ x → Computable signals exprs stmts S forms e → Computable signals exprs stmts S forms x
+  emits_computable {S} {forms} z c = subst (Computable signals exprs stmts S forms) z c
 
 -- number i is next
 pub record EmittingAll (signals exprs stmts : List ℕ) (n from : ℕ) (order₀ values₀ marks₀ order values marks : List ℕ) (k i : ℕ) : Type 0 where
@@ -259,25 +259,25 @@ pub record EmittingAll (signals exprs stmts : List ℕ) (n from : ℕ) (order₀
   pub behind : k ≤ i
   pub within : i ≤ n
   pub kept : take from order ≡ take from order₀
-  pub order-long : length order ≡ length order₀
-  pub values-long : length values ≡ length values₀
-  pub marks-long : length marks ≡ length marks₀
+  pub order_long : length order ≡ length order₀
+  pub values_long : length values ≡ length values₀
+  pub marks_long : length marks ≡ length marks₀
 
 module _ {signals exprs stmts : List ℕ} {n from : ℕ} where
   pub all_start : {order values marks : List ℕ} → Emitting signals exprs stmts n from 0 order values marks → EmittingAll signals exprs stmts n from order values marks order values marks 0 0
-  all_start g = record { so_far = g; behind = omega arith; within = omega arith; kept = refl; order-long = refl; values-long = refl; marks-long = refl }
+  all_start g = record { so_far = g; behind = omega arith; within = omega arith; kept = refl; order_long = refl; values_long = refl; marks_long = refl }
 
   module _ {order₀ values₀ marks₀ order values marks : List ℕ} {k i : ℕ} (g : EmittingAll signals exprs stmts n from order₀ values₀ marks₀ order values marks k i) where
     module _ {order' values' marks' : List ℕ} {r : ℕ} (e : Emits signals exprs stmts n from k r order order' values' marks') where
-      pub all-next : i < n → r ≤ n → length order' ≡ length order → length values' ≡ length values → length marks' ≡ length marks → EmittingAll signals exprs stmts n from order₀ values₀ marks₀ order' values' marks' r (i + 1)
-      all-next hi h o v m = record { so_far = e.fine h; behind = omega (arith, g.behind, e.one_more h); within = omega arith; kept = e.kept ∙ g.kept; order-long = o ∙ g.order-long; values-long = v ∙ g.values-long; marks-long = m ∙ g.marks-long }
+      pub all_next : i < n → r ≤ n → length order' ≡ length order → length values' ≡ length values → length marks' ≡ length marks → EmittingAll signals exprs stmts n from order₀ values₀ marks₀ order' values' marks' r (i + 1)
+      all_next hi h o v m = record { so_far = e.fine h; behind = omega (arith, g.behind, e.one_more h); within = omega arith; kept = e.kept ∙ g.kept; order_long = o ∙ g.order_long; values_long = v ∙ g.values_long; marks_long = m ∙ g.marks_long }
 
-      pub all-stuck : n < r → EmitsAll signals exprs stmts n from r order₀ order' values' marks'
-      all-stuck h = record { kept = e.kept ∙ g.kept; fine = λ l. absurd (omega arith) }
+      pub all_stuck : n < r → EmitsAll signals exprs stmts n from r order₀ order' values' marks'
+      all_stuck h = record { kept = e.kept ∙ g.kept; fine = λ l. absurd (omega arith) }
 
     pub all_end : EmitsAll signals exprs stmts n from k order₀ order values marks
     all_end = record { kept = g.kept; fine = λ h. g.so_far }
 
 -- a table that is lent whole
-pub ordered-whole : {n : ℕ} (order' : List ℕ) {m : Model} {used ordered : ℕ} (order : List ℕ) → used ≡ length order' → ordered ≡ n → take n order' ≡ take n order → Ordered m n (take ordered order) → length order' ≡ length order → ordered ≤ length order → Ordered m n (take used order')
-ordered-whole {n} order' {m} {used} order z e k o l h = subst (Ordered m n) (sym (ap (λ (i : ℕ). take i order') z ∙ take-length order')) (ordered-kept order e k o l (omega arith))
+pub ordered_whole : {n : ℕ} (order' : List ℕ) {m : Model} {used ordered : ℕ} (order : List ℕ) → used ≡ length order' → ordered ≡ n → take n order' ≡ take n order → Ordered m n (take ordered order) → length order' ≡ length order → ordered ≤ length order → Ordered m n (take used order')
+ordered_whole {n} order' {m} {used} order z e k o l h = subst (Ordered m n) (sym (ap (λ (i : ℕ). take i order') z ∙ take-length order')) (ordered_kept order e k o l (omega arith))

@@ -17,25 +17,25 @@ use Rattle.recorder.specs.declared.Cut.TheVariants.{Record, End, Broken}
 use Rattle.recorder.specs.Read as read
 use Rattle.recorder.specs.Read.{split}
 use Rattle.recorder.specs.Standing.{cut_at, size_of, size_at, fields_at}
-use Rattle.recorder.proofs.Reading.{split-as, record-within, field_at}
-use Rattle.conflict.specs.Counting.{more, raised, tally, exceeds, lowestFrom, restored}
+use Rattle.recorder.proofs.Reading.{split_as, record_within, field_at}
+use Rattle.conflict.specs.Counting.{more, raised, tally, exceeds, lowest_from, restored}
 
 -- ONE STATEMENT MORE
 
-pub raised-out : (s : List ℕ) (at : ℕ) → length s ≤ at → s ≡ raised s at
-raised-out s at h = sym (set_out s at (more (get_or s at 0)) h)
+pub raised_out : (s : List ℕ) (at : ℕ) → length s ≤ at → s ≡ raised s at
+raised_out s at h = sym (set_out s at (more (get_or s at 0)) h)
 
-pub raised-four : (s : List ℕ) (at n : ℕ) → n ≡ get_or s at 0 → n ≡ 4 → set s at 5 ≡ raised s at
-raised-four s at n e q = ap (λ (k : ℕ). set s at (more k)) (sym q ∙ e)
+pub raised_four : (s : List ℕ) (at n : ℕ) → n ≡ get_or s at 0 → n ≡ 4 → set s at 5 ≡ raised s at
+raised_four s at n e q = ap (λ (k : ℕ). set s at (more k)) (sym q ∙ e)
 
-pub raised-five : (s : List ℕ) (at n : ℕ) → n ≡ get_or s at 0 → n ≡ 5 → set s at 6 ≡ raised s at
-raised-five s at n e q = ap (λ (k : ℕ). set s at (more k)) (sym q ∙ e)
+pub raised_five : (s : List ℕ) (at n : ℕ) → n ≡ get_or s at 0 → n ≡ 5 → set s at 6 ≡ raised s at
+raised_five s at n e q = ap (λ (k : ℕ). set s at (more k)) (sym q ∙ e)
 
 more_same : (n : ℕ) → (n ≡ 4 → ⊥) → (n ≡ 5 → ⊥) → more n ≡ n
 more_same n p q = rw (ne_eqb n 4 p, ne_eqb n 5 q)
 
-pub raised-same : (s : List ℕ) (at n : ℕ) → n ≡ get_or s at 0 → (n ≡ 4 → ⊥) → (n ≡ 5 → ⊥) → s ≡ raised s at
-raised-same s at n e p q = sym (ap (λ (k : ℕ). set s at (more k)) (sym e) ∙ ap (λ (k : ℕ). set s at k) (more_same n p q ∙ e) ∙ set-get_or s at 0)
+pub raised_same : (s : List ℕ) (at n : ℕ) → n ≡ get_or s at 0 → (n ≡ 4 → ⊥) → (n ≡ 5 → ⊥) → s ≡ raised s at
+raised_same s at n e p q = sym (ap (λ (k : ℕ). set s at (more k)) (sym e) ∙ ap (λ (k : ℕ). set s at k) (more_same n p q ∙ e) ∙ set-get_or s at 0)
 
 -- THE STATEMENTS
 
@@ -45,59 +45,59 @@ target_none m at n h = sym (get_or-eq_default (take (n - 1) (drop (at + 1) m)) 0
 pub target_past : (m : List ℕ) (at n : ℕ) → length m ≤ at → 0 ≡ get_or (fields_at m at n) 1 0
 target_past m at n h = sym (get_or-eq_default (take (n - 1) (drop (at + 1) m)) 0 (omega (arith, length-take (n - 1) (drop (at + 1) m), length-drop (at + 1) m)))
 
-pub target-there : (m : List ℕ) (at n r : ℕ) → 3 ≤ n → r ≡ get_or m (at + 2) 0 → r ≡ get_or (fields_at m at n) 1 0
-target-there m at n r h e =
+pub target_there : (m : List ℕ) (at n r : ℕ) → 3 ≤ n → r ≡ get_or m (at + 2) 0 → r ≡ get_or (fields_at m at n) 1 0
+target_there m at n r h e =
     let k : at + 2 ≡ at + 1 + 1 = omega arith in
     e ∙ ap (λ (i : ℕ). get_or m i 0) k ∙ sym (field_at m at (n - 1) 1 (omega arith))
 
-abbrev pub leftFrom : List ℕ → ℕ → List (List ℕ)
-leftFrom l at = (split (drop at l)).records
+abbrev pub left_from : List ℕ → ℕ → List (List ℕ)
+left_from l at = (split (drop at l)).records
 
 module _ (l : List ℕ) (at size : ℕ) (e : size ≡ size_at l at) where
-  is-record : (c : Cut) → (size ≡ 0 → ⊥) → size ≡ size_of c → cut_at l at ≡ c → cut_at l at ≡ Record (size - 1)
-  is-record (Record n) d q p = let z : n ≡ size - 1 = omega arith in p ∙ ap Record z
-  is-record End d q p = absurd (d q)
-  is-record Broken d q p = absurd (d q)
+  is_record : (c : Cut) → (size ≡ 0 → ⊥) → size ≡ size_of c → cut_at l at ≡ c → cut_at l at ≡ Record (size - 1)
+  is_record (Record n) d q p = let z : n ≡ size - 1 = omega arith in p ∙ ap Record z
+  is_record End d q p = absurd (d q)
+  is_record Broken d q p = absurd (d q)
 
   here : (size ≡ 0 → ⊥) → cut_at l at ≡ Record (size - 1)
-  here d = is-record (cut_at l at) d e refl
+  here d = is_record (cut_at l at) d e refl
 
   pub within : (size ≡ 0 → ⊥) → at + size ≤ length l
-  within d = let h = record-within l at (sym (here d)) in omega arith
+  within d = let h = record_within l at (sym (here d)) in omega arith
 
-  left-next : (size ≡ 0 → ⊥) → leftFrom l at ≡ fields_at l at size ∷ leftFrom l (at + size)
-  left-next d =
+  left_next : (size ≡ 0 → ⊥) → left_from l at ≡ fields_at l at size ∷ left_from l (at + size)
+  left_next d =
       let z : at + 1 + (size - 1) ≡ at + size = omega arith in
-      ap (λ (t : read.Cut). t.records) (split-as l at (sym (here d)) ∙ ap (λ (j : ℕ). read.before (fields_at l at size) (split (drop j l))) z)
+      ap (λ (t : read.Cut). t.records) (split_as l at (sym (here d)) ∙ ap (λ (j : ℕ). read.before (fields_at l at size) (split (drop j l))) z)
 
-  none_left : (c : Cut) → size ≡ 0 → size ≡ size_of c → cut_at l at ≡ c → leftFrom l at ≡ []
+  none_left : (c : Cut) → size ≡ 0 → size ≡ size_of c → cut_at l at ≡ c → left_from l at ≡ []
   none_left (Record n) z q p = absurd (omega arith)
-  none_left End z q p = ap (λ (t : read.Cut). t.records) (split-as l at (sym p))
-  none_left Broken z q p = ap (λ (t : read.Cut). t.records) (split-as l at (sym p))
+  none_left End z q p = ap (λ (t : read.Cut). t.records) (split_as l at (sym p))
+  none_left Broken z q p = ap (λ (t : read.Cut). t.records) (split_as l at (sym p))
 
   -- a loop over the statements: what is left to count
-  pub tally-next : (s s' : List ℕ) (i t : ℕ) → (size ≡ 0 → ⊥) → s' ≡ raised s i → i ≡ 4 * t → t ≡ get_or (fields_at l at size) 1 0 → tally s' (leftFrom l (at + size)) ≡ tally s (leftFrom l at)
+  pub tally_next : (s s' : List ℕ) (i t : ℕ) → (size ≡ 0 → ⊥) → s' ≡ raised s i → i ≡ 4 * t → t ≡ get_or (fields_at l at size) 1 0 → tally s' (left_from l (at + size)) ≡ tally s (left_from l at)
   unfolding tally
-  tally-next s s' i t d p q r =
-      ap (λ (x : List ℕ). tally x (leftFrom l (at + size))) (p ∙ ap (raised s) (q ∙ ap (λ (k : ℕ). 4 * k) r))
-      ∙ sym (ap (tally s) (left-next d))
+  tally_next s s' i t d p q r =
+      ap (λ (x : List ℕ). tally x (left_from l (at + size))) (p ∙ ap (raised s) (q ∙ ap (λ (k : ℕ). 4 * k) r))
+      ∙ sym (ap (tally s) (left_next d))
 
-  pub tally-stop : (s : List ℕ) → size ≡ 0 → tally s (leftFrom l at) ≡ s
+  pub tally_stop : (s : List ℕ) → size ≡ 0 → tally s (left_from l at) ≡ s
   unfolding tally
-  tally-stop s z = ap (tally s) (none_left (cut_at l at) z e refl)
+  tally_stop s z = ap (tally s) (none_left (cut_at l at) z e refl)
 
-split-none : (split []).records ≡ []
+split_none : (split []).records ≡ []
 unfolding split
-split-none = refl
+split_none = refl
 
-pub tally-end : (s m : List ℕ) (at : ℕ) → length m ≤ at → tally s (leftFrom m at) ≡ s
+pub tally_end : (s m : List ℕ) (at : ℕ) → length m ≤ at → tally s (left_from m at) ≡ s
 unfolding tally
-tally-end s m at h = ap (tally s) (ap (λ (x : List ℕ). (split x).records) (drop_of_length-le m h) ∙ split-none)
+tally_end s m at h = ap (tally s) (ap (λ (x : List ℕ). (split x).records) (drop_of_length-le m h) ∙ split_none)
 
 -- FOUR WORDS
 
-four-at : (s : List ℕ) (at : ℕ) → at + 4 ≤ length s → drop at s ≡ get_or s at 0 ∷ get_or s (at + 1) 0 ∷ get_or s (at + 2) 0 ∷ get_or s (at + 3) 0 ∷ drop (at + 4) s
-four-at s at h =
+four_at : (s : List ℕ) (at : ℕ) → at + 4 ≤ length s → drop at s ≡ get_or s at 0 ∷ get_or s (at + 1) 0 ∷ get_or s (at + 2) 0 ∷ get_or s (at + 3) 0 ∷ drop (at + 4) s
+four_at s at h =
     let a : suc at ≡ at + 1 = omega arith in
     let b : suc (at + 1) ≡ at + 2 = omega arith in
     let c : suc (at + 2) ≡ at + 3 = omega arith in
@@ -110,51 +110,51 @@ four-at s at h =
 
 -- THE LOWEST
 
-few-none : (i : ℕ) (l : List ℕ) → length l < 4 → lowestFrom i l ≡ none
-unfolding lowestFrom
-few-none i [] h = refl
-few-none i (a ∷ []) h = refl
-few-none i (a ∷ b ∷ []) h = refl
-few-none i (a ∷ b ∷ c ∷ []) h = refl
-few-none i (a ∷ b ∷ c ∷ d ∷ l) h = absurd (omega arith)
+few_none : (i : ℕ) (l : List ℕ) → length l < 4 → lowest_from i l ≡ none
+unfolding lowest_from
+few_none i [] h = refl
+few_none i (a ∷ []) h = refl
+few_none i (a ∷ b ∷ []) h = refl
+few_none i (a ∷ b ∷ c ∷ []) h = refl
+few_none i (a ∷ b ∷ c ∷ d ∷ l) h = absurd (omega arith)
 
-pub lowest-end : (s : List ℕ) (i at : ℕ) → length s < at + 4 → none ≡ lowestFrom i (drop at s)
-lowest-end s i at h = sym (few-none i (drop at s) (omega (arith, length-drop at s)))
+pub lowest_end : (s : List ℕ) (i at : ℕ) → length s < at + 4 → none ≡ lowest_from i (drop at s)
+lowest_end s i at h = sym (few_none i (drop at s) (omega (arith, length-drop at s)))
 
 module _ (s : List ℕ) (i at n : ℕ) (h : at + 4 ≤ length s) (e : n ≡ get_or s at 0) where
-  lowest-at : lowestFrom i (drop at s) ≡ pick (ltb n 4) none (pick (exceeds n (get_or s (at + 1) 0)) (some i) (lowestFrom (i + 1) (drop (at + 4) s)))
-  unfolding lowestFrom
-  lowest-at =
-      ap (lowestFrom i) (four-at s at h)
-      ∙ ap₂ (λ (k j : ℕ). pick (ltb k 4) none (pick (exceeds k (get_or s (at + 1) 0)) (some i) (lowestFrom j (drop (at + 4) s)))) (sym e) (sym (add-one i))
+  lowest_at : lowest_from i (drop at s) ≡ pick (ltb n 4) none (pick (exceeds n (get_or s (at + 1) 0)) (some i) (lowest_from (i + 1) (drop (at + 4) s)))
+  unfolding lowest_from
+  lowest_at =
+      ap (lowest_from i) (four_at s at h)
+      ∙ ap₂ (λ (k j : ℕ). pick (ltb k 4) none (pick (exceeds k (get_or s (at + 1) 0)) (some i) (lowest_from j (drop (at + 4) s)))) (sym e) (sym (add-one i))
 
-  pub lowest-few : n < 4 → none ≡ lowestFrom i (drop at s)
-  lowest-few q = sym (lowest-at ∙ ap (λ (b : Bool). pick b none (pick (exceeds n (get_or s (at + 1) 0)) (some i) (lowestFrom (i + 1) (drop (at + 4) s)))) (lt-ltb n 4 q))
+  pub lowest_few : n < 4 → none ≡ lowest_from i (drop at s)
+  lowest_few q = sym (lowest_at ∙ ap (λ (b : Bool). pick b none (pick (exceeds n (get_or s (at + 1) 0)) (some i) (lowest_from (i + 1) (drop (at + 4) s)))) (lt-ltb n 4 q))
 
-  past : 4 ≤ n → lowestFrom i (drop at s) ≡ pick (exceeds n (get_or s (at + 1) 0)) (some i) (lowestFrom (i + 1) (drop (at + 4) s))
-  past q = lowest-at ∙ ap (λ (b : Bool). pick b none (pick (exceeds n (get_or s (at + 1) 0)) (some i) (lowestFrom (i + 1) (drop (at + 4) s)))) (le-ltb n 4 q)
+  past : 4 ≤ n → lowest_from i (drop at s) ≡ pick (exceeds n (get_or s (at + 1) 0)) (some i) (lowest_from (i + 1) (drop (at + 4) s))
+  past q = lowest_at ∙ ap (λ (b : Bool). pick b none (pick (exceeds n (get_or s (at + 1) 0)) (some i) (lowest_from (i + 1) (drop (at + 4) s)))) (le-ltb n 4 q)
 
-  pub lowest-here : 4 ≤ n → exceeds n (get_or s (at + 1) 0) ≡ true → some i ≡ lowestFrom i (drop at s)
-  lowest-here q t = sym (past q ∙ ap (λ (b : Bool). pick b (some i) (lowestFrom (i + 1) (drop (at + 4) s))) t)
+  pub lowest_here : 4 ≤ n → exceeds n (get_or s (at + 1) 0) ≡ true → some i ≡ lowest_from i (drop at s)
+  lowest_here q t = sym (past q ∙ ap (λ (b : Bool). pick b (some i) (lowest_from (i + 1) (drop (at + 4) s))) t)
 
-  pub lowest-next : 4 ≤ n → exceeds n (get_or s (at + 1) 0) ≡ false → lowestFrom (i + 1) (drop (at + 4) s) ≡ lowestFrom i (drop at s)
-  lowest-next q t = sym (past q ∙ ap (λ (b : Bool). pick b (some i) (lowestFrom (i + 1) (drop (at + 4) s))) t)
+  pub lowest_next : 4 ≤ n → exceeds n (get_or s (at + 1) 0) ≡ false → lowest_from (i + 1) (drop (at + 4) s) ≡ lowest_from i (drop at s)
+  lowest_next q t = sym (past q ∙ ap (λ (b : Bool). pick b (some i) (lowest_from (i + 1) (drop (at + 4) s))) t)
 
 -- BACK TO 4: what stands before an index, and the rest restored
 
 abbrev pub restoring : List ℕ → ℕ → List ℕ
 restoring s at = take at s ++ restored (drop at s)
 
-few-same : (l : List ℕ) → length l < 4 → restored l ≡ l
+few_same : (l : List ℕ) → length l < 4 → restored l ≡ l
 unfolding restored
-few-same [] h = refl
-few-same (a ∷ []) h = refl
-few-same (a ∷ b ∷ []) h = refl
-few-same (a ∷ b ∷ c ∷ []) h = refl
-few-same (a ∷ b ∷ c ∷ d ∷ l) h = absurd (omega arith)
+few_same [] h = refl
+few_same (a ∷ []) h = refl
+few_same (a ∷ b ∷ []) h = refl
+few_same (a ∷ b ∷ c ∷ []) h = refl
+few_same (a ∷ b ∷ c ∷ d ∷ l) h = absurd (omega arith)
 
-pub restore-end : (s : List ℕ) (at : ℕ) → length s < at + 4 → restoring s at ≡ s
-restore-end s at h = ap (λ (l : List ℕ). take at s ++ l) (few-same (drop at s) (omega (arith, length-drop at s))) ∙ take-append-drop at s
+pub restore_end : (s : List ℕ) (at : ℕ) → length s < at + 4 → restoring s at ≡ s
+restore_end s at h = ap (λ (l : List ℕ). take at s ++ l) (few_same (drop at s) (omega (arith, length-drop at s))) ∙ take-append-drop at s
 
 module _ (s : List ℕ) (at : ℕ) (h : at + 4 ≤ length s) where
   abbrev three : List ℕ → List ℕ
@@ -162,22 +162,22 @@ module _ (s : List ℕ) (at : ℕ) (h : at + 4 ≤ length s) where
 
   restored_at : restored (drop at s) ≡ pick (ltb (get_or s at 0) 4) (get_or s at 0 ∷ three (drop (at + 4) s)) (4 ∷ three (restored (drop (at + 4) s)))
   unfolding restored
-  restored_at = ap restored (four-at s at h)
+  restored_at = ap restored (four_at s at h)
 
-  pub restore-stop : get_or s at 0 < 4 → restoring s at ≡ s
-  restore-stop q =
+  pub restore_stop : get_or s at 0 < 4 → restoring s at ≡ s
+  restore_stop q =
       ap (λ (l : List ℕ). take at s ++ l)
-      (restored_at ∙ ap (λ (b : Bool). pick b (get_or s at 0 ∷ three (drop (at + 4) s)) (4 ∷ three (restored (drop (at + 4) s)))) (lt-ltb (get_or s at 0) 4 q) ∙ sym (four-at s at h))
+      (restored_at ∙ ap (λ (b : Bool). pick b (get_or s at 0 ∷ three (drop (at + 4) s)) (4 ∷ three (restored (drop (at + 4) s)))) (lt-ltb (get_or s at 0) 4 q) ∙ sym (four_at s at h))
       ∙ take-append-drop at s
 
   took : take (at + 4) (set s at 4) ≡ take at s ++ (4 ∷ three [])
   took =
       take-add at 4 (set s at 4)
       ∙ ap₂ (λ (a b : List ℕ). a ++ take 4 b) (take-set-le at s at 4 (omega arith))
-      (ap (λ (k : ℕ). drop at (set s k 4)) (sym (add-zero at)) ∙ drop-set-add at s 0 4 ∙ ap (λ (l : List ℕ). set l 0 4) (four-at s at h))
+      (ap (λ (k : ℕ). drop at (set s k 4)) (sym (add-zero at)) ∙ drop-set-add at s 0 4 ∙ ap (λ (l : List ℕ). set l 0 4) (four_at s at h))
 
-  pub restore-step : 4 ≤ get_or s at 0 → restoring (set s at 4) (at + 4) ≡ restoring s at
-  restore-step q =
+  pub restore_step : 4 ≤ get_or s at 0 → restoring (set s at 4) (at + 4) ≡ restoring s at
+  restore_step q =
       ap₂ (λ (a b : List ℕ). a ++ restored b) took (drop-set-lt (at + 4) s at 4 (omega arith))
       ∙ append_assoc (take at s) (4 ∷ three []) (restored (drop (at + 4) s))
       ∙ ap (λ (l : List ℕ). take at s ++ l) (sym (restored_at ∙ ap (λ (b : Bool). pick b (get_or s at 0 ∷ three (drop (at + 4) s)) (4 ∷ three (restored (drop (at + 4) s)))) (le-ltb (get_or s at 0) 4 q)))

@@ -25,12 +25,12 @@ abbrev pub exceeds : ℕ → ℕ → Bool
 exceeds count label = ltb (pick (eqb label 0) 4 5) count
 
 -- the lowest with too many, the records being numbered from i on
-unfoldable pub lowestFrom : ℕ → List ℕ → Option ℕ
-lowestFrom i [] = none
-lowestFrom i (n ∷ []) = none
-lowestFrom i (n ∷ l ∷ []) = none
-lowestFrom i (n ∷ l ∷ w ∷ []) = none
-lowestFrom i (n ∷ l ∷ w ∷ o ∷ ws) = pick (ltb n 4) none (pick (exceeds n l) (some i) (lowestFrom (suc i) ws))
+unfoldable pub lowest_from : ℕ → List ℕ → Option ℕ
+lowest_from i [] = none
+lowest_from i (n ∷ []) = none
+lowest_from i (n ∷ l ∷ []) = none
+lowest_from i (n ∷ l ∷ w ∷ []) = none
+lowest_from i (n ∷ l ∷ w ∷ o ∷ ws) = pick (ltb n 4) none (pick (exceeds n l) (some i) (lowest_from (suc i) ws))
 
 unfoldable pub restored : List ℕ → List ℕ
 restored [] = []

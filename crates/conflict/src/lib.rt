@@ -7,8 +7,8 @@
 
 ghost use Rattle.std.specs.Prelude.{◌≡◌, get_or};
 ghost use Rattle.recorder.specs.Standing.{size_at, fields_at};
-ghost use Rattle.conflict.specs.Conflicts.{foundOf};
-ghost use Rattle.conflict.specs.Counting.{raised, counted, lowestFrom, restored, exceeds};
+ghost use Rattle.conflict.specs.Conflicts.{found_of};
+ghost use Rattle.conflict.specs.Counting.{raised, counted, lowest_from, restored, exceeds};
 
 use netlist::fields::wide;
 use recorder::Cut;
@@ -87,7 +87,7 @@ fn exceeding(count: u32, label: u32) -> bool
 }
 
 fn lowest(signals: &[u32]) -> Conflict
-    ensures { foundOf result ≡ lowestFrom 0 signals.now }
+    ensures { found_of result ≡ lowest_from 0 signals.now }
 {
     let mut i = 0;
     let mut at = 0;
@@ -120,7 +120,7 @@ fn restore(signals: &mut [u32])
 
 // The lowest overdriven signal: where lists hold a model, its own (proofs/Marked). The signals are then left as they were.
 pub fn overdriven(signals: &mut [u32], stmts: &[u32]) -> Conflict
-    ensures found { foundOf result ≡ lowestFrom 0 (counted signals.old stmts.now) }
+    ensures found { found_of result ≡ lowest_from 0 (counted signals.old stmts.now) }
     ensures left { signals.new ≡ restored (counted signals.old stmts.now) }
 {
     count_statements(signals, stmts);

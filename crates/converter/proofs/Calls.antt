@@ -12,10 +12,10 @@ use Rattle.netlist.specs.declared.Limits.{Limits}
 use Rattle.netlist.specs.Reader.{base}
 use Rattle.recorder.specs.Lists.{Lists, lists}
 use Rattle.recorder.specs.Words.{zeroed, blank}
-use Rattle.lowering.specs.Lower.{Refused, lowerWords}
+use Rattle.lowering.specs.Lower.{Refused, lower_words}
 use Rattle.converter.specs.Steps.{Within}
 use Rattle.converter.specs.declared.Lowered as c
-use Rattle.converter.specs.Entry.{answer_of, short, anyShort, call_of, Lowers, LowersWithin, LowersLists, kept, blankOf, Keeps, Ready, Attempts, ZerosTwo, ZerosThree, ZerosFive}
+use Rattle.converter.specs.Entry.{answer_of, short, any_short, call_of, Lowers, LowersWithin, LowersLists, kept, blank_of, Keeps, Ready, Attempts, ZerosTwo, ZerosThree, ZerosFive}
 
 -- SHORT OR LONG
 
@@ -29,70 +29,70 @@ long : (n : ℕ) → short n ≡ false → 16384 ≤ n
 unfolding short
 long n q = ltb-false n 16384 q
 
-long-here : (n : ℕ) (ns : List ℕ) → anyShort (n ∷ ns) ≡ false → (16384 ≤ n) × (anyShort ns ≡ false)
-unfolding anyShort
-long-here n ns q = go (short n) refl q
+long_here : (n : ℕ) (ns : List ℕ) → any_short (n ∷ ns) ≡ false → (16384 ≤ n) × (any_short ns ≡ false)
+unfolding any_short
+long_here n ns q = go (short n) refl q
   where
-    go : (b : Bool) → short n ≡ b → pick b true (anyShort ns) ≡ false → (16384 ≤ n) × (anyShort ns ≡ false)
+    go : (b : Bool) → short n ≡ b → pick b true (any_short ns) ≡ false → (16384 ≤ n) × (any_short ns ≡ false)
     go true p h = let z : ◌≡◌ {A = ℕ} 0 1 = cc in absurd (omega arith)
     go false p h = (long n p, h)
 
-same-zeros : (l l' : List ℕ) → l' ≡ zeroed l → length l' ≡ length l
-same-zeros l l' p = ap length p ∙ length-replicate {A = ℕ} (length l) 0
+same_zeros : (l l' : List ℕ) → l' ≡ zeroed l → length l' ≡ length l
+same_zeros l l' p = ap length p ∙ length-replicate {A = ℕ} (length l) 0
 
-ready : {a b d e f a' b' : List ℕ} → ZerosTwo a b a' b' → anyShort (lengths a b d e f) ≡ false → Ready a' b' d e f
+ready : {a b d e f a' b' : List ℕ} → ZerosTwo a b a' b' → any_short (lengths a b d e f) ≡ false → Ready a' b' d e f
 ready {a} {b} {d} {e} {f} {a'} {b'} z q =
-    let p₀ = long-here (length a) _ q in
-    let p₁ = long-here (length b) _ p₀.1 in
-    let p₂ = long-here (length d) _ p₁.1 in
-    let p₃ = long-here (length e) _ p₂.1 in
-    let p₄ = long-here (length f) _ p₃.1 in
-    let la = same-zeros a a' z.first in
-    let lb = same-zeros b b' z.second in
+    let p₀ = long_here (length a) _ q in
+    let p₁ = long_here (length b) _ p₀.1 in
+    let p₂ = long_here (length d) _ p₁.1 in
+    let p₃ = long_here (length e) _ p₂.1 in
+    let p₄ = long_here (length f) _ p₃.1 in
+    let la = same_zeros a a' z.first in
+    let lb = same_zeros b b' z.second in
     record {
-      no-signals = z.first ∙ ap (λ (n : ℕ). replicate n 0) (sym la);
-      no-places = z.second ∙ ap (λ (n : ℕ). replicate n 0) (sym lb);
-      wires-long = omega (arith, p₀.0);
-      places-long = omega (arith, p₁.0);
-      parts-long = p₂.0;
-      values-long = p₃.0;
-      banks-long = p₄.0;
+      no_signals = z.first ∙ ap (λ (n : ℕ). replicate n 0) (sym la);
+      no_places = z.second ∙ ap (λ (n : ℕ). replicate n 0) (sym lb);
+      wires_long = omega (arith, p₀.0);
+      places_long = omega (arith, p₁.0);
+      parts_long = p₂.0;
+      values_long = p₃.0;
+      banks_long = p₄.0;
     }
 
 -- THE LISTS
 
 module _ (limits : Limits) (words s e t : List ℕ) (a b d f g : List ℕ) where
-  zeroed-lists : {s₁ e₁ t₁ : List ℕ} → ZerosThree s e t s₁ e₁ t₁ → lists s₁ e₁ t₁ ≡ blank (length s) (length e) (length t)
-  zeroed-lists z = λ i. lists (z.first i) (z.second i) (z.third i)
+  zeroed_lists : {s₁ e₁ t₁ : List ℕ} → ZerosThree s e t s₁ e₁ t₁ → lists s₁ e₁ t₁ ≡ blank (length s) (length e) (length t)
+  zeroed_lists z = λ i. lists (z.first i) (z.second i) (z.third i)
 
-  by-short : (v : Bool) → anyShort (lengths a b d f g) ≡ v → call_of limits words (lists s e t) (five a b d f g) ≡ pick v (record { answer = Refused 1 16384; lists = blank (length s) (length e) (length t) }) (lowerWords limits words (length s) (length e) (length t))
-  by-short v q = ap (λ (y : Bool). pick y (record { answer = Refused 1 16384; lists = blank (length s) (length e) (length t) }) (lowerWords limits words (length s) (length e) (length t))) q
+  by_short : (v : Bool) → any_short (lengths a b d f g) ≡ v → call_of limits words (lists s e t) (five a b d f g) ≡ pick v (record { answer = Refused 1 16384; lists = blank (length s) (length e) (length t) }) (lower_words limits words (length s) (length e) (length t))
+  by_short v q = ap (λ (y : Bool). pick y (record { answer = Refused 1 16384; lists = blank (length s) (length e) (length t) }) (lower_words limits words (length s) (length e) (length t))) q
 
-  pub works-short : {s₁ e₁ t₁ : List ℕ} {v : Bool} → ZerosThree s e t s₁ e₁ t₁ → v ≡ anyShort (lengths a b d f g) → v ≡ true
+  pub works_short : {s₁ e₁ t₁ : List ℕ} {v : Bool} → ZerosThree s e t s₁ e₁ t₁ → v ≡ any_short (lengths a b d f g) → v ≡ true
       → LowersLists limits words (lists s e t) (five a b d f g) (c.TheVariants.Refused (BufferTooShort 16384)) (lists s₁ e₁ t₁)
-  works-short z q p = record { so = λ w. ap (λ (y : Lists). record { answer = Refused 1 16384; lists = y }) (zeroed-lists z) ∙ sym (by-short true (sym q ∙ p)) }
+  works_short z q p = record { so = λ w. ap (λ (y : Lists). record { answer = Refused 1 16384; lists = y }) (zeroed_lists z) ∙ sym (by_short true (sym q ∙ p)) }
 
-  pub works-done : {s₁ e₁ t₁ : List ℕ} {v : Bool} {a₁ b₁ : List ℕ} → ZerosThree s e t s₁ e₁ t₁ → v ≡ anyShort (lengths a b d f g) → v ≡ false → ZerosTwo a b a₁ b₁
+  pub works_done : {s₁ e₁ t₁ : List ℕ} {v : Bool} {a₁ b₁ : List ℕ} → ZerosThree s e t s₁ e₁ t₁ → v ≡ any_short (lengths a b d f g) → v ≡ false → ZerosTwo a b a₁ b₁
       → {r : c.Lowered} (s₂ e₂ t₂ : List ℕ) → Attempts limits words (lists s₁ e₁ t₁) a₁ b₁ d f g r (lists s₂ e₂ t₂) → length s₂ ≡ length s₁ → length e₂ ≡ length e₁ → length t₂ ≡ length t₁
       → {l₃ : Lists} → Keeps r (lists s₂ e₂ t₂) l₃ → LowersLists limits words (lists s e t) (five a b d f g) r l₃
-  works-done {s₁} {e₁} {t₁} z q p y {r} s₂ e₂ t₂ tried ls le lt {l₃} keeps =
-      let ms : length s₂ ≡ length s = ls ∙ same-zeros s s₁ z.first in
-      let me : length e₂ ≡ length e = le ∙ same-zeros e e₁ z.second in
-      let mt : length t₂ ≡ length t = lt ∙ same-zeros t t₁ z.third in
-      let again : blankOf (lists s₂ e₂ t₂) ≡ blank (length s) (length e) (length t) = λ i. blank (ms i) (me i) (mt i) in
+  works_done {s₁} {e₁} {t₁} z q p y {r} s₂ e₂ t₂ tried ls le lt {l₃} keeps =
+      let ms : length s₂ ≡ length s = ls ∙ same_zeros s s₁ z.first in
+      let me : length e₂ ≡ length e = le ∙ same_zeros e e₁ z.second in
+      let mt : length t₂ ≡ length t = lt ∙ same_zeros t t₁ z.third in
+      let again : blank_of (lists s₂ e₂ t₂) ≡ blank (length s) (length e) (length t) = λ i. blank (ms i) (me i) (mt i) in
       record {
         so = λ w.
             ap (λ (k : Lists). record { answer = answer_of r; lists = k }) (keeps ∙ ap (λ (k : Lists). kept (answer_of r) (lists s₂ e₂ t₂) k) again)
-            ∙ tried.value w (ready y (sym q ∙ p)) (length s) (length e) (length t) (zeroed-lists z)
-            ∙ sym (by-short false (sym q ∙ p));
+            ∙ tried.value w (ready y (sym q ∙ p)) (length s) (length e) (length t) (zeroed_lists z)
+            ∙ sym (by_short false (sym q ∙ p));
       }
 
 -- THE WORKS
 
-pub within-done : {limits : Limits} {words : List ℕ} {l : Lists} {a b d f g : List ℕ} {r : c.Lowered} {l' : Lists} (a₁ b₁ d₁ f₁ g₁ : List ℕ) {a₂ b₂ d₂ f₂ g₂ : List ℕ}
+pub within_done : {limits : Limits} {words : List ℕ} {l : Lists} {a b d f g : List ℕ} {r : c.Lowered} {l' : Lists} (a₁ b₁ d₁ f₁ g₁ : List ℕ) {a₂ b₂ d₂ f₂ g₂ : List ℕ}
     → LowersLists limits words l (five a b d f g) r l' → length a₁ ≡ length a → length b₁ ≡ length b → length d₁ ≡ length d → length f₁ ≡ length f → length g₁ ≡ length g
     → ZerosFive a₁ b₁ d₁ f₁ g₁ a₂ b₂ d₂ f₂ g₂ → LowersWithin limits words l (five a b d f g) r l' (five a₂ b₂ d₂ f₂ g₂)
-within-done a₁ b₁ d₁ f₁ g₁ h la lb ld lf lg z = record {
+within_done a₁ b₁ d₁ f₁ g₁ h la lb ld lf lg z = record {
   so = λ w. record {
     value = h.so w;
     zeros = λ i. five ((z.two.first ∙ ap (λ (n : ℕ). replicate n 0) la) i) ((z.two.second ∙ ap (λ (n : ℕ). replicate n 0) lb) i) ((z.three.first ∙ ap (λ (n : ℕ). replicate n 0) ld) i) ((z.three.second ∙ ap (λ (n : ℕ). replicate n 0) lf) i) ((z.three.third ∙ ap (λ (n : ℕ). replicate n 0) lg) i);
@@ -101,8 +101,8 @@ within-done a₁ b₁ d₁ f₁ g₁ h la lb ld lf lg z = record {
 
 -- THE BASE LIMITS
 
-within-base : Within base
-within-base = record { wires = omega arith; width = omega arith; cells = omega arith }
+within_base : Within base
+within_base = record { wires = omega arith; width = omega arith; cells = omega arith }
 
 pub base_done : {limits : Limits} {words : List ℕ} {l : Lists} {works : List (List ℕ)} {r : c.Lowered} {l' : Lists} {works' : List (List ℕ)} → limits ≡ base → LowersWithin limits words l works r l' works' → Lowers base words l works r l' works'
-base_done {words = words} {l = l} {works = works} {r = r} {l' = l'} {works' = works'} e h = subst (λ (k : Limits). Lowers k words l works r l' works') e (h.so (subst Within (sym e) within-base))
+base_done {words = words} {l = l} {works = works} {r = r} {l' = l'} {works' = works'} e h = subst (λ (k : Limits). Lowers k words l works r l' works') e (h.so (subst Within (sym e) within_base))

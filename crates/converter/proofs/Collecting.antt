@@ -15,74 +15,74 @@ use borrow.Author.Tests.{ltb-true, ltb-false}
 use Rattle.bits.specs.Bits.{pick}
 use Rattle.netlist.specs.declared.Limits.{Limits}
 use Rattle.netlist.specs.Netlist.{FlipFlop, Cell}
-use Rattle.netlist.specs.Fields.{recordsAt, end_at, cell_at, cellEnd, cellsAt}
+use Rattle.netlist.specs.Fields.{records_at, end_at, cell_at, cell_end, cells_at}
 use Rattle.netlist.specs.Shape.{FitsCell}
-use Rattle.netlist.proofs.RecordLaws.{records-length}
-use Rattle.netlist.proofs.WordLaws.{records-more}
-use Rattle.behaviour.specs.Banks.{Member, flipFlopOf, also, flipFlopsFrom, bankIn, joined, leadersFrom, leadersOf}
-use Rattle.behaviour.proofs.BankLaws.{bank-here}
+use Rattle.netlist.proofs.RecordLaws.{records_length}
+use Rattle.netlist.proofs.WordLaws.{records_more}
+use Rattle.behaviour.specs.Banks.{Member, flip_flop_of, also, flip_flops_from, bank_in, joined, leaders_from, leaders_of}
+use Rattle.behaviour.proofs.BankLaws.{bank_here}
 use Rattle.converter.specs.Reserves.{Fitting}
-use Rattle.converter.proofs.Reserving.{place-start, place-step}
-use Rattle.converter.specs.Banked.{larger, Keyed, number_of, number_in, withCell, JoinedBank, Joins, Collected, Work}
+use Rattle.converter.proofs.Reserving.{place_start, place_step}
+use Rattle.converter.specs.Banked.{larger, Keyed, number_of, number_in, with_cell, JoinedBank, Joins, Collected, Work}
 
-also-append : (o : Option FlipFlop) (c : ℕ) (xs ys : List Member) → also o c (xs ++ ys) ≡ also o c xs ++ ys
-also-append none c xs ys = refl
-also-append (some f) c xs ys = refl
+also_append : (o : Option FlipFlop) (c : ℕ) (xs ys : List Member) → also o c (xs ++ ys) ≡ also o c xs ++ ys
+also_append none c xs ys = refl
+also_append (some f) c xs ys = refl
 
-flops-append : (xs ys : List Cell) (c : ℕ) → flipFlopsFrom (xs ++ ys) c ≡ flipFlopsFrom xs c ++ flipFlopsFrom ys (c + length xs)
-unfolding flipFlopsFrom
-flops-append [] ys c = ap (flipFlopsFrom ys) (sym (add-zero c))
-flops-append (x ∷ xs) ys c =
-    ap (also (flipFlopOf x) c) (flops-append xs ys (suc c) ∙ ap (λ (k : ℕ). flipFlopsFrom xs (suc c) ++ flipFlopsFrom ys k) (suc-add c (length xs) ∙ sym (add-suc c (length xs))))
-    ∙ also-append (flipFlopOf x) c (flipFlopsFrom xs (suc c)) (flipFlopsFrom ys (c + suc (length xs)))
+flops_append : (xs ys : List Cell) (c : ℕ) → flip_flops_from (xs ++ ys) c ≡ flip_flops_from xs c ++ flip_flops_from ys (c + length xs)
+unfolding flip_flops_from
+flops_append [] ys c = ap (flip_flops_from ys) (sym (add-zero c))
+flops_append (x ∷ xs) ys c =
+    ap (also (flip_flop_of x) c) (flops_append xs ys (suc c) ∙ ap (λ (k : ℕ). flip_flops_from xs (suc c) ++ flip_flops_from ys k) (suc-add c (length xs) ∙ sym (add-suc c (length xs))))
+    ∙ also_append (flip_flop_of x) c (flip_flops_from xs (suc c)) (flip_flops_from ys (c + suc (length xs)))
 
-leaders-append : (ms ns ls : List Member) → leadersFrom ls (ms ++ ns) ≡ leadersFrom (leadersFrom ls ms) ns
-unfolding leadersFrom
-leaders-append [] ns ls = refl
-leaders-append (m ∷ ms) ns ls = leaders-append ms ns (joined ls m)
+leaders_append : (ms ns ls : List Member) → leaders_from ls (ms ++ ns) ≡ leaders_from (leaders_from ls ms) ns
+unfolding leaders_from
+leaders_append [] ns ls = refl
+leaders_append (m ∷ ms) ns ls = leaders_append ms ns (joined ls m)
 
 -- one cell more
-leaders-more : (words : List ℕ) (at i : ℕ) → leadersOf (cellsAt words at (i + 1)) ≡ withCell (leadersOf (cellsAt words at i)) i (cell_at words (end_at (cellEnd words) i at))
-unfolding flipFlopsFrom
-leaders-more words at i =
-    let x = cell_at words (end_at (cellEnd words) i at) in
-    let n : 0 + length (cellsAt words at i) ≡ i = omega (arith, records-length (cell_at words) (cellEnd words) i at) in
-    ap leadersOf (ap (λ (k : ℕ). cellsAt words at k) (add-one i) ∙ records-more (cell_at words) (cellEnd words) i at)
-    ∙ ap (leadersFrom []) (flops-append (cellsAt words at i) (x ∷ []) 0 ∙ ap (λ (k : ℕ). flipFlopsFrom (cellsAt words at i) 0 ++ also (flipFlopOf x) k []) n)
-    ∙ leaders-append (flipFlopsFrom (cellsAt words at i) 0) (also (flipFlopOf x) i []) []
+leaders_more : (words : List ℕ) (at i : ℕ) → leaders_of (cells_at words at (i + 1)) ≡ with_cell (leaders_of (cells_at words at i)) i (cell_at words (end_at (cell_end words) i at))
+unfolding flip_flops_from
+leaders_more words at i =
+    let x = cell_at words (end_at (cell_end words) i at) in
+    let n : 0 + length (cells_at words at i) ≡ i = omega (arith, records_length (cell_at words) (cell_end words) i at) in
+    ap leaders_of (ap (λ (k : ℕ). cells_at words at k) (add-one i) ∙ records_more (cell_at words) (cell_end words) i at)
+    ∙ ap (leaders_from []) (flops_append (cells_at words at i) (x ∷ []) 0 ∙ ap (λ (k : ℕ). flip_flops_from (cells_at words at i) 0 ++ also (flip_flop_of x) k []) n)
+    ∙ leaders_append (flip_flops_from (cells_at words at i) 0) (also (flip_flop_of x) i []) []
 
 -- a bank that was found stays
-joined-stays : (ls : List Member) (m : Member) (f : FlipFlop) → bankIn ls f < length ls → bankIn (joined ls m) f ≡ bankIn ls f
-joined-stays ls m f h = go (ltb (bankIn ls m.flop) (length ls))
+joined_stays : (ls : List Member) (m : Member) (f : FlipFlop) → bank_in ls f < length ls → bank_in (joined ls m) f ≡ bank_in ls f
+joined_stays ls m f h = go (ltb (bank_in ls m.flop) (length ls))
   where
-    go : (b : Bool) → bankIn (pick b ls (ls ++ (m ∷ []))) f ≡ bankIn ls f
+    go : (b : Bool) → bank_in (pick b ls (ls ++ (m ∷ []))) f ≡ bank_in ls f
     go true = refl
-    go false = bank-here ls (m ∷ []) f h
+    go false = bank_here ls (m ∷ []) f h
 
-number-stays : (ls : List Member) (c : ℕ) (x : Cell) (o : Option FlipFlop) → number_of ls o ≤ length ls → number_of (withCell ls c x) o ≡ number_of ls o
-unfolding leadersFrom
-number-stays ls c x none h = refl
-number-stays ls c x (some f) h = ap suc (go (flipFlopOf x))
+number_stays : (ls : List Member) (c : ℕ) (x : Cell) (o : Option FlipFlop) → number_of ls o ≤ length ls → number_of (with_cell ls c x) o ≡ number_of ls o
+unfolding leaders_from
+number_stays ls c x none h = refl
+number_stays ls c x (some f) h = ap suc (go (flip_flop_of x))
   where
-    go : (y : Option FlipFlop) → bankIn (leadersFrom ls (also y c [])) f ≡ bankIn ls f
+    go : (y : Option FlipFlop) → bank_in (leaders_from ls (also y c [])) f ≡ bank_in ls f
     go none = refl
-    go (some g) = joined-stays ls (record { cell = c; flop = g }) f (omega arith)
+    go (some g) = joined_stays ls (record { cell = c; flop = g }) f (omega arith)
 
 -- at most one bank more
-with-long : (ls : List Member) (c : ℕ) (x : Cell) → length (withCell ls c x) ≤ length ls + 1
-unfolding leadersFrom
-with-long ls c x = go (flipFlopOf x)
+with_long : (ls : List Member) (c : ℕ) (x : Cell) → length (with_cell ls c x) ≤ length ls + 1
+unfolding leaders_from
+with_long ls c x = go (flip_flop_of x)
   where
     most : (m : Member) (b : Bool) → length (pick b ls (ls ++ (m ∷ []))) ≤ length ls + 1
     most m true = omega arith
     most m false = omega (arith, length-append ls (m ∷ []))
 
-    go : (y : Option FlipFlop) → length (leadersFrom ls (also y c [])) ≤ length ls + 1
+    go : (y : Option FlipFlop) → length (leaders_from ls (also y c [])) ≤ length ls + 1
     go none = omega arith
-    go (some g) = most (record { cell = c; flop = g }) (ltb (bankIn ls g) (length ls))
+    go (some g) = most (record { cell = c; flop = g }) (ltb (bank_in ls g) (length ls))
 
-larger-both : (a b : ℕ) → (a ≤ larger a b) × (b ≤ larger a b)
-larger-both a b = go (ltb a b) refl
+larger_both : (a b : ℕ) → (a ≤ larger a b) × (b ≤ larger a b)
+larger_both a b = go (ltb a b) refl
   where
     go : (t : Bool) → ltb a b ≡ t → (a ≤ pick t b a) × (b ≤ pick t b a)
     go true e = (omega (arith, ltb-true a b e), omega arith)
@@ -90,14 +90,14 @@ larger-both a b = go (ltb a b) refl
 
 -- so far
 pub record Collecting (limits : Limits) (words : List ℕ) (at i count : ℕ) (banks parts values : List ℕ) : Type 0 where
-  pub keyed : Keyed limits (leadersOf (cellsAt words at i)) parts values count
-  pub numbers : (k : ℕ) → k < i → get_or banks k 0 ≡ number_in (leadersOf (cellsAt words at i)) (cell_at words (end_at (cellEnd words) k at))
+  pub keyed : Keyed limits (leaders_of (cells_at words at i)) parts values count
+  pub numbers : (k : ℕ) → k < i → get_or banks k 0 ≡ number_in (leaders_of (cells_at words at i)) (cell_at words (end_at (cell_end words) k at))
   pub low : (k : ℕ) → k < i → get_or banks k 0 ≤ count
   pub few : count ≤ i
 
-pub collecting-start : (limits : Limits) (words : List ℕ) (at : ℕ) (banks parts values : List ℕ) → Collecting limits words at 0 0 banks parts values
-unfolding leadersFrom flipFlopsFrom recordsAt
-collecting-start limits words at banks parts values = record {
+pub collecting_start : (limits : Limits) (words : List ℕ) (at : ℕ) (banks parts values : List ℕ) → Collecting limits words at 0 0 banks parts values
+unfolding leaders_from flip_flops_from records_at
+collecting_start limits words at banks parts values = record {
   keyed = record { long = refl; clocks = λ b d h. absurd (omega arith); resets = λ b d h. absurd (omega arith); fits = λ b d h. absurd (omega arith) };
   numbers = λ k h. absurd (omega arith);
   low = λ k h. absurd (omega arith);
@@ -106,69 +106,69 @@ collecting-start limits words at banks parts values = record {
 
 module _ (limits : Limits) (words : List ℕ) (at i count : ℕ) (banks parts values : List ℕ) (so : Collecting limits words at i count banks parts values) where
   abbrev ls : List Member
-  ls = leadersOf (cellsAt words at i)
+  ls = leaders_of (cells_at words at i)
 
   abbrev x : Cell
-  x = cell_at words (end_at (cellEnd words) i at)
+  x = cell_at words (end_at (cell_end words) i at)
 
-  pub collecting-step : (r : ℕ) (parts' values' : List ℕ) → JoinedBank limits ls i x count r parts' values' → i < length banks → Collecting limits words at (i + 1) (larger count r) (set banks i r) parts' values'
-  collecting-step r parts' values' j inside = record {
-    keyed = subst (λ (y : List Member). Keyed limits y parts' values' (larger count r)) (sym (leaders-more words at i)) j.keyed;
+  pub collecting_step : (r : ℕ) (parts' values' : List ℕ) → JoinedBank limits ls i x count r parts' values' → i < length banks → Collecting limits words at (i + 1) (larger count r) (set banks i r) parts' values'
+  collecting_step r parts' values' j inside = record {
+    keyed = subst (λ (y : List Member). Keyed limits y parts' values' (larger count r)) (sym (leaders_more words at i)) j.keyed;
     numbers = λ k h. number k h (ℕ_discrete k i);
     low = λ k h. below k h (ℕ_discrete k i);
-    few = omega (arith, j.keyed.long, with-long ls i x, so.keyed.long, so.few);
+    few = omega (arith, j.keyed.long, with_long ls i x, so.keyed.long, so.few);
   }
     where
       before : (k : ℕ) → k < i + 1 → (k ≡ i → ⊥) → k < i
       before k h n = omega (arith, h, n)
 
-      number : (k : ℕ) → k < i + 1 → Dec (k ≡ i) → get_or (set banks i r) k 0 ≡ number_in (leadersOf (cellsAt words at (i + 1))) (cell_at words (end_at (cellEnd words) k at))
+      number : (k : ℕ) → k < i + 1 → Dec (k ≡ i) → get_or (set banks i r) k 0 ≡ number_in (leaders_of (cells_at words at (i + 1))) (cell_at words (end_at (cell_end words) k at))
       number k h (yes e) =
           ap (λ (n : ℕ). get_or (set banks i r) n 0) e ∙ get_or-set_same banks i r 0 inside ∙ j.number
-          ∙ sym (ap (λ (y : List Member). number_in y (cell_at words (end_at (cellEnd words) k at))) (leaders-more words at i) ∙ ap (λ (n : ℕ). number_in (withCell ls i x) (cell_at words (end_at (cellEnd words) n at))) e)
+          ∙ sym (ap (λ (y : List Member). number_in y (cell_at words (end_at (cell_end words) k at))) (leaders_more words at i) ∙ ap (λ (n : ℕ). number_in (with_cell ls i x) (cell_at words (end_at (cell_end words) n at))) e)
       number k h (no n) =
           let q = before k h n in
           get_or-set_other banks i k r 0 n ∙ so.numbers k q
-          ∙ sym (ap (λ (y : List Member). number_in y (cell_at words (end_at (cellEnd words) k at))) (leaders-more words at i)
-          ∙ number-stays ls i x (flipFlopOf (cell_at words (end_at (cellEnd words) k at))) (omega (arith, so.numbers k q, so.low k q, so.keyed.long)))
+          ∙ sym (ap (λ (y : List Member). number_in y (cell_at words (end_at (cell_end words) k at))) (leaders_more words at i)
+          ∙ number_stays ls i x (flip_flop_of (cell_at words (end_at (cell_end words) k at))) (omega (arith, so.numbers k q, so.low k q, so.keyed.long)))
 
       below : (k : ℕ) → k < i + 1 → Dec (k ≡ i) → get_or (set banks i r) k 0 ≤ larger count r
-      below k h (yes e) = omega (arith, ap (λ (n : ℕ). get_or (set banks i r) n 0) e ∙ get_or-set_same banks i r 0 inside, (larger-both count r).1)
-      below k h (no n) = omega (arith, get_or-set_other banks i k r 0 n, so.low k (before k h n), (larger-both count r).0)
+      below k h (yes e) = omega (arith, ap (λ (n : ℕ). get_or (set banks i r) n 0) e ∙ get_or-set_same banks i r 0 inside, (larger_both count r).1)
+      below k h (no n) = omega (arith, get_or-set_other banks i k r 0 n, so.low k (before k h n), (larger_both count r).0)
 
-  pub collecting-end : (n : ℕ) → i ≤ n → n ≤ i → Collected words at n count banks
-  collecting-end n h g =
+  pub collecting_end : (n : ℕ) → i ≤ n → n ≤ i → Collected words at n count banks
+  collecting_end n h g =
       let e : i ≡ n = omega arith in
       subst (λ (m : ℕ). Collected words at m count banks) e (record { long = so.keyed.long; numbers = so.numbers })
 
 -- THE LOOP
 
 pub record Gathers (words : List ℕ) (at n : ℕ) (banks₀ parts₀ values₀ : List ℕ) (i count place : ℕ) (banks parts values : List ℕ) : Type 0 where
-  pub so : (limits : Limits) → limits.wires < 1000000000 → Fitting (cell_at words) (cellEnd words) (FitsCell limits) (length words) n at → Work n banks₀ parts₀ values₀
-      → Collecting limits words at i count banks parts values × (place ≡ end_at (cellEnd words) i at)
+  pub so : (limits : Limits) → limits.wires < 1000000000 → Fitting (cell_at words) (cell_end words) (FitsCell limits) (length words) n at → Work n banks₀ parts₀ values₀
+      → Collecting limits words at i count banks parts values × (place ≡ end_at (cell_end words) i at)
 
 module _ (words : List ℕ) (at n : ℕ) (banks₀ parts₀ values₀ : List ℕ) where
-  pub gathers-start : Gathers words at n banks₀ parts₀ values₀ 0 0 at banks₀ parts₀ values₀
-  gathers-start = record { so = λ limits small fit work. (collecting-start limits words at banks₀ parts₀ values₀, place-start (cellEnd words) at) }
+  pub gathers_start : Gathers words at n banks₀ parts₀ values₀ 0 0 at banks₀ parts₀ values₀
+  gathers_start = record { so = λ limits small fit work. (collecting_start limits words at banks₀ parts₀ values₀, place_start (cell_end words) at) }
 
   module _ {i count place : ℕ} {banks parts values : List ℕ} (now : Gathers words at n banks₀ parts₀ values₀ i count place banks parts values) where
-    pub gathers-step : length banks ≡ length banks₀ → length parts ≡ length parts₀ → length values ≡ length values₀ → i < n → n < 4294967296
-        → {r count' place' j : ℕ} {banks' parts' values' : List ℕ} → Joins words place parts values count r parts' values' → j ≡ i → banks' ≡ set banks j r → count' ≡ larger count r → place' ≡ min (cellEnd words place) (length words)
+    pub gathers_step : length banks ≡ length banks₀ → length parts ≡ length parts₀ → length values ≡ length values₀ → i < n → n < 4294967296
+        → {r count' place' j : ℕ} {banks' parts' values' : List ℕ} → Joins words place parts values count r parts' values' → j ≡ i → banks' ≡ set banks j r → count' ≡ larger count r → place' ≡ min (cell_end words place) (length words)
         → Gathers words at n banks₀ parts₀ values₀ (i + 1) count' place' banks' parts' values'
-    gathers-step lb lf ls h big {r} {count'} {place'} {j} {banks'} {parts'} {values'} join e b c p = record {
+    gathers_step lb lf ls h big {r} {count'} {place'} {j} {banks'} {parts'} {values'} join e b c p = record {
       so = λ limits small fit work.
           let s = now.so limits small fit work in
           let few : count ≤ i = s.0.few in
-          let here : cell_at words place ≡ cell_at words (end_at (cellEnd words) i at) = ap (cell_at words) s.1 in
+          let here : cell_at words place ≡ cell_at words (end_at (cell_end words) i at) = ap (cell_at words) s.1 in
           let fits : FitsCell limits (cell_at words place) = subst (FitsCell limits) (sym here) (fit.fit i h) in
-          let done = join limits (leadersOf (cellsAt words at i)) i small fits s.0.keyed (omega (arith, few, work.clocks)) (omega (arith, few, work.resets)) (omega (arith, few)) in
-          let now' = subst (λ (x : Cell). JoinedBank limits (leadersOf (cellsAt words at i)) i x count r parts' values') here done in (
+          let done = join limits (leaders_of (cells_at words at i)) i small fits s.0.keyed (omega (arith, few, work.clocks)) (omega (arith, few, work.resets)) (omega (arith, few)) in
+          let now' = subst (λ (x : Cell). JoinedBank limits (leaders_of (cells_at words at i)) i x count r parts' values') here done in (
             subst (λ (k : ℕ). Collecting limits words at (i + 1) k banks' parts' values') (sym c)
                 (subst (λ (l : List ℕ). Collecting limits words at (i + 1) (larger count r) l parts' values') (sym (b ∙ ap (λ (k : ℕ). set banks k r) e))
-                (collecting-step limits words at i count banks parts values s.0 r parts' values' now' (omega (arith, work.numbers)))),
-            place-step (cellEnd words) fit h s.1 p,
+                (collecting_step limits words at i count banks parts values s.0 r parts' values' now' (omega (arith, work.numbers)))),
+            place_step (cell_end words) fit h s.1 p,
           );
     }
 
-    pub gathers-end : i ≤ n → n ≤ i → (limits : Limits) → limits.wires < 1000000000 → Fitting (cell_at words) (cellEnd words) (FitsCell limits) (length words) n at → Work n banks₀ parts₀ values₀ → Collected words at n count banks
-    gathers-end h g limits small fit work = collecting-end limits words at i count banks parts values (now.so limits small fit work).0 n h g
+    pub gathers_end : i ≤ n → n ≤ i → (limits : Limits) → limits.wires < 1000000000 → Fitting (cell_at words) (cell_end words) (FitsCell limits) (length words) n at → Work n banks₀ parts₀ values₀ → Collected words at n count banks
+    gathers_end h g limits small fit work = collecting_end limits words at i count banks parts values (now.so limits small fit work).0 n h g

@@ -9,7 +9,7 @@ use lib.ListN.{length}
 use borrow.Author.Tests.{leb-true}
 use Rattle.bits.specs.Bits.{pick}
 use Rattle.recorder.specs.declared.Tapes.{Tapes}
-use Rattle.recorder.specs.Record.{Signal, signalWords}
+use Rattle.recorder.specs.Record.{Signal, signal_words}
 use Rattle.recorder.specs.Writer.{declare}
 use Rattle.recorder.specs.Lists.{fits, lists, tapes, behind, over, play, onward, Played.going, Played.full, finish, Left, Answer.Done, Answer.Failed, WroteSignals}
 use Rattle.recorder.specs.Writer.{End.ok}
@@ -19,24 +19,24 @@ both true true h = (refl, refl)
 both true false h = (refl, h)
 both false b h = let z : ◌≡◌ {A = ℕ} 0 1 = cc in absurd (omega arith)
 
-pub declared-small : (l : List ℕ) (t : Tapes) (x : Signal) (n : ℕ) (u : Tapes) (l' : List ℕ) → WroteSignals l t (declare x) (Done n u) l' → n < 2147483648
+pub declared_small : (l : List ℕ) (t : Tapes) (x : Signal) (n : ℕ) (u : Tapes) (l' : List ℕ) → WroteSignals l t (declare x) (Done n u) l' → n < 2147483648
 unfolding play
-declared-small l t x n u l' h = go (fits (length l) t.signals (length (signalWords x))) refl (h [] []).wrote
+declared_small l t x n u l' h = go (fits (length l) t.signals (length (signal_words x))) refl (h [] []).wrote
   where
-    room : fits (length l) t.signals (length (signalWords x)) ≡ true → t.signals.count < 2147483648
+    room : fits (length l) t.signals (length (signal_words x)) ≡ true → t.signals.count < 2147483648
     room q = inside (both (leb t.signals.count t.signals.used) (leb (t.signals.used + 4) (min (length l) 2147483648)) (opened q))
       where
-        opened : fits (length l) t.signals (length (signalWords x)) ≡ true → leb t.signals.count t.signals.used && leb (t.signals.used + 4) (min (length l) 2147483648) ≡ true
+        opened : fits (length l) t.signals (length (signal_words x)) ≡ true → leb t.signals.count t.signals.used && leb (t.signals.used + 4) (min (length l) 2147483648) ≡ true
         opened e = unfold fits in e
 
         inside : (leb t.signals.count t.signals.used ≡ true) × (leb (t.signals.used + 4) (min (length l) 2147483648) ≡ true) → t.signals.count < 2147483648
         inside p = omega (arith, leb-true t.signals.count t.signals.used p.0, leb-true (t.signals.used + 4) (min (length l) 2147483648) p.1)
 
-    go : (b : Bool) → fits (length l) t.signals (length (signalWords x)) ≡ b
-        → ◌≡◌ {A = Left ℕ} (finish (onward (pick b (going (lists (over l t.signals.used (signalWords x)) [] []) (tapes (behind t.signals (length (signalWords x))) t.exprs t.stmts)) (full 0 (lists l [] []))) (λ k v. going k v)) (ok t.signals.count)) (record { answer = Done n u; lists = lists l' [] [] })
+    go : (b : Bool) → fits (length l) t.signals (length (signal_words x)) ≡ b
+        → ◌≡◌ {A = Left ℕ} (finish (onward (pick b (going (lists (over l t.signals.used (signal_words x)) [] []) (tapes (behind t.signals (length (signal_words x))) t.exprs t.stmts)) (full 0 (lists l [] []))) (λ k v. going k v)) (ok t.signals.count)) (record { answer = Done n u; lists = lists l' [] [] })
         → n < 2147483648
     go true q e =
-        let f : Done t.signals.count (tapes (behind t.signals (length (signalWords x))) t.exprs t.stmts) ≡ Done n u = ap (λ (y : Left ℕ). y.answer) e in
+        let f : Done t.signals.count (tapes (behind t.signals (length (signal_words x))) t.exprs t.stmts) ≡ Done n u = ap (λ (y : Left ℕ). y.answer) e in
         let z : t.signals.count ≡ n = cc in
         omega (arith, room q)
     go false q e =

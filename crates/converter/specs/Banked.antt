@@ -7,9 +7,9 @@ use Rattle.netlist.specs.declared.Bit.{Bit}
 use Rattle.netlist.specs.declared.Bit.TheVariants.{Zero, One, Wire}
 use Rattle.netlist.specs.declared.Reset.{Reset}
 use Rattle.netlist.specs.Netlist.{FlipFlop, Cell}
-use Rattle.netlist.specs.Fields.{end_at, word_at, bit_at, optionalControlAt, optionalResetAt, cell_at, cellEnd, cellsAt}
+use Rattle.netlist.specs.Fields.{end_at, word_at, bit_at, optional_control_at, optional_reset_at, cell_at, cell_end, cells_at}
 use Rattle.netlist.specs.Shape.{FitsCell, FitsFlipFlop}
-use Rattle.behaviour.specs.Banks.{Member, asyncReset, flipFlopOf, also, bankIn, leadersFrom, leadersOf}
+use Rattle.behaviour.specs.Banks.{Member, async_reset, flip_flop_of, also, bank_in, leaders_from, leaders_of}
 use Rattle.converter.specs.Reserves.{Fitting}
 
 -- a bit's word
@@ -18,25 +18,25 @@ word_of Zero = 0
 word_of One = 1
 word_of (Wire w) = suc (suc w)
 
-abbrev pub clockKey : FlipFlop → ℕ
-clockKey f = word_of f.clock * 2 + f.edge
+abbrev pub clock_key : FlipFlop → ℕ
+clock_key f = word_of f.clock * 2 + f.edge
 
-abbrev pub controlKey : Option Reset → ℕ
-controlKey none = 0
-controlKey (some r) = suc (word_of r.signal * 2 + r.active)
+abbrev pub control_key : Option Reset → ℕ
+control_key none = 0
+control_key (some r) = suc (word_of r.signal * 2 + r.active)
 
-abbrev pub resetKey : FlipFlop → ℕ
-resetKey f = controlKey (asyncReset f)
+abbrev pub reset_key : FlipFlop → ℕ
+reset_key f = control_key (async_reset f)
 
 -- the flip-flop at an index
-abbrev pub flopAt : List ℕ → ℕ → FlipFlop
-flopAt words i = record {
+abbrev pub flop_at : List ℕ → ℕ → FlipFlop
+flop_at words i = record {
   input = bit_at words (i + 1);
   output = word_at words (i + 2);
   clock = bit_at words (i + 3);
   edge = word_at words (i + 4);
-  enable = optionalControlAt words (i + 5);
-  reset = optionalResetAt words (i + 8);
+  enable = optional_control_at words (i + 5);
+  reset = optional_reset_at words (i + 8);
 }
 
 -- a word and a flag that fit
@@ -45,19 +45,19 @@ pub record KeyOf (word flag r : ℕ) : Type 0 where
   pub is : word < 1073741824 → flag < 2 → r ≡ word * 2 + flag
 
 pub record ResetKeyOf (words : List ℕ) (i r : ℕ) : Type 0 where
-  pub is : (limits : Limits) → limits.wires < 1000000000 → FitsFlipFlop limits (flopAt words i) → r ≡ resetKey (flopAt words i)
+  pub is : (limits : Limits) → limits.wires < 1000000000 → FitsFlipFlop limits (flop_at words i) → r ≡ reset_key (flop_at words i)
 
-abbrev pub keyIs : List ℕ → List ℕ → ℕ → ℕ → ℕ → Bool
-keyIs parts values i a b = eqb (get_or parts i 0) a && eqb (get_or values i 0) b
+abbrev pub key_is : List ℕ → List ℕ → ℕ → ℕ → ℕ → Bool
+key_is parts values i a b = eqb (get_or parts i 0) a && eqb (get_or values i 0) b
 
 -- the steps to the first of n numbers from i on that passes
-unfoldable pub firstWith : (ℕ → Bool) → ℕ → ℕ → ℕ
-firstWith p zero i = 0
-firstWith p (suc n) i = pick (p i) 0 (suc (firstWith p n (suc i)))
+unfoldable pub first_with : (ℕ → Bool) → ℕ → ℕ → ℕ
+first_with p zero i = 0
+first_with p (suc n) i = pick (p i) 0 (suc (first_with p n (suc i)))
 
 -- to the first key that is a and b
-abbrev pub findKey : List ℕ → List ℕ → ℕ → ℕ → ℕ → ℕ → ℕ
-findKey parts values a b n i = firstWith (λ j. keyIs parts values j a b) n i
+abbrev pub find_key : List ℕ → List ℕ → ℕ → ℕ → ℕ → ℕ → ℕ
+find_key parts values a b n i = first_with (λ j. key_is parts values j a b) n i
 
 abbrev pub larger : ℕ → ℕ → ℕ
 larger a b = pick (ltb a b) b a
@@ -65,26 +65,26 @@ larger a b = pick (ltb a b) b a
 -- the keys of the banks' first flip-flops are noted, and those fit
 pub record Keyed (limits : Limits) (ls : List Member) (parts values : List ℕ) (count : ℕ) : Type 0 where
   pub long : count ≡ length ls
-  pub clocks : (b : ℕ) (d : Member) → b < length ls → get_or parts b 0 ≡ clockKey (get_or ls b d).flop
-  pub resets : (b : ℕ) (d : Member) → b < length ls → get_or values b 0 ≡ resetKey (get_or ls b d).flop
+  pub clocks : (b : ℕ) (d : Member) → b < length ls → get_or parts b 0 ≡ clock_key (get_or ls b d).flop
+  pub resets : (b : ℕ) (d : Member) → b < length ls → get_or values b 0 ≡ reset_key (get_or ls b d).flop
   pub fits : (b : ℕ) (d : Member) → b < length ls → FitsFlipFlop limits (get_or ls b d).flop
 
 -- 0, or 1 and the bank's number
 abbrev pub number_of : List Member → Option FlipFlop → ℕ
 number_of ls none = 0
-number_of ls (some f) = suc (bankIn ls f)
+number_of ls (some f) = suc (bank_in ls f)
 
 abbrev pub number_in : List Member → Cell → ℕ
-number_in ls x = number_of ls (flipFlopOf x)
+number_in ls x = number_of ls (flip_flop_of x)
 
 -- the banks once cell c is there too
-abbrev pub withCell : List Member → ℕ → Cell → List Member
-withCell ls c x = leadersFrom ls (also (flipFlopOf x) c [])
+abbrev pub with_cell : List Member → ℕ → Cell → List Member
+with_cell ls c x = leaders_from ls (also (flip_flop_of x) c [])
 
 -- cell x finds its bank, or founds one
 pub record JoinedBank (limits : Limits) (ls : List Member) (c : ℕ) (x : Cell) (count r : ℕ) (parts values : List ℕ) : Type 0 where
-  pub number : r ≡ number_in (withCell ls c x) x
-  pub keyed : Keyed limits (withCell ls c x) parts values (larger count r)
+  pub number : r ≡ number_in (with_cell ls c x) x
+  pub keyed : Keyed limits (with_cell ls c x) parts values (larger count r)
 
 abbrev pub Joins : List ℕ → ℕ → List ℕ → List ℕ → ℕ → ℕ → List ℕ → List ℕ → Type 0
 Joins words i parts values count r parts' values' = (limits : Limits) (ls : List Member) (c : ℕ) → limits.wires < 1000000000 → FitsCell limits (cell_at words i) → Keyed limits ls parts values count
@@ -92,8 +92,8 @@ Joins words i parts values count r parts' values' = (limits : Limits) (ls : List
 
 -- the bank of each of the n cells from an index on
 pub record Collected (words : List ℕ) (i n count : ℕ) (banks : List ℕ) : Type 0 where
-  pub long : count ≡ length (leadersOf (cellsAt words i n))
-  pub numbers : (k : ℕ) → k < n → get_or banks k 0 ≡ number_in (leadersOf (cellsAt words i n)) (cell_at words (end_at (cellEnd words) k i))
+  pub long : count ≡ length (leaders_of (cells_at words i n))
+  pub numbers : (k : ℕ) → k < n → get_or banks k 0 ≡ number_in (leaders_of (cells_at words i n)) (cell_at words (end_at (cell_end words) k i))
 
 -- work for so many
 pub record Work (n : ℕ) (banks parts values : List ℕ) : Type 0 where
@@ -102,4 +102,4 @@ pub record Work (n : ℕ) (banks parts values : List ℕ) : Type 0 where
   pub resets : n ≤ length values
 
 abbrev pub Collects : List ℕ → ℕ → ℕ → List ℕ → List ℕ → List ℕ → ℕ → List ℕ → Type 0
-Collects words i n banks parts values r banks' = (limits : Limits) → limits.wires < 1000000000 → Fitting (cell_at words) (cellEnd words) (FitsCell limits) (length words) n i → Work n banks parts values → Collected words i n r banks'
+Collects words i n banks parts values r banks' = (limits : Limits) → limits.wires < 1000000000 → Fitting (cell_at words) (cell_end words) (FitsCell limits) (length words) n i → Work n banks parts values → Collected words i n r banks'

@@ -5,7 +5,7 @@ use Rattle.refusal.specs.Refusal.{number_of, place_of}
 use Rattle.netlist.specs.declared.Limits.{Limits}
 use Rattle.netlist.specs.declared.Layout.{Layout}
 use Rattle.netlist.specs.Netlist.{Cell, Port}
-use Rattle.netlist.specs.Fields.{cell_at, cellEnd, cellsAt, portAt, portEnd, portsAt}
+use Rattle.netlist.specs.Fields.{cell_at, cell_end, cells_at, port_at, port_end, ports_at}
 use Rattle.netlist.specs.Shape.{FitsCell, FitsPort}
 use Rattle.recorder.specs.declared.Tapes.{Tapes}
 use Rattle.recorder.specs.declared.Stated.{Stated}
@@ -14,10 +14,10 @@ use Rattle.recorder.specs.Writer.{Writer, pure, declare, emit, state, ◌>>=◌,
 use Rattle.recorder.specs.Lists.{Lists, lists, Answer, Answer.Done, Answer.Failed, Wrote, stated}
 use Rattle.wires.specs.declared.Constants.{Constants}
 use Rattle.wires.specs.Wires.{Wires}
-use Rattle.wires.specs.Expressions.{bitsExpression}
-use Rattle.lowering.specs.Reserve.{signalOf}
-use Rattle.lowering.specs.Emit.{emitCell, emitCells, emitOutputs}
-use Rattle.converter.specs.Reserves.{Fitting, ofKind}
+use Rattle.wires.specs.Expressions.{bits_expression}
+use Rattle.lowering.specs.Reserve.{signal_of}
+use Rattle.lowering.specs.Emit.{emit_cell, emit_cells, emit_outputs}
+use Rattle.converter.specs.Reserves.{Fitting, of_kind}
 use Rattle.converter.specs.declared.constants.Started.{Started}
 use Rattle.converter.specs.declared.constants.Started.TheVariants as C
 
@@ -25,15 +25,15 @@ abbrev pub started : Started → Answer Constants
 started (C.Done z t) = Done z t
 started (C.Refused x) = Failed (number_of x) (place_of x)
 
--- the two parts of emitConstants: the signals, and what they are assigned
-unfoldable pub constantSignals : Writer Constants
-constantSignals = do
-  z ← declare (signalOf 14 1 0)
-  o ← declare (signalOf 15 1 0)
+-- the two parts of emit_constants: the signals, and what they are assigned
+unfoldable pub constant_signals : Writer Constants
+constant_signals = do
+  z ← declare (signal_of 14 1 0)
+  o ← declare (signal_of 15 1 0)
   pure (record { zero = record { 0 = z }; one = record { 0 = o } })
 
-unfoldable pub constantValues : Constants → Writer Constants
-constantValues c = do
+unfoldable pub constant_values : Constants → Writer Constants
+constant_values c = do
   e₀ ← emit (const 1 0)
   e₁ ← emit (const 1 1)
   state (assign c.zero.0 e₀)
@@ -68,33 +68,33 @@ abbrev pub CellFits : List ℕ → List ℕ → Cell → Limits → Type 0
 CellFits parts values x limits = Work parts × Work values × FitsCell limits x
 
 abbrev pub EmitsCell : Lists → List ℕ → List ℕ → List ℕ → Tapes → Wires → Constants → ℕ → Cell → Stated → Lists → List ℕ → Type 0
-EmitsCell l parts values seen t m z owner x r l' seen' = Shares (CellFits parts values x) l t seen (emitCell (length seen) m z owner x) r l' seen'
+EmitsCell l parts values seen t m z owner x r l' seen' = Shares (CellFits parts values x) l t seen (emit_cell (length seen) m z owner x) r l' seen'
 
 -- one that takes no work
 abbrev pub EmitsDistributed : Lists → List ℕ → Tapes → Wires → Constants → ℕ → Cell → Stated → Lists → List ℕ → Type 0
-EmitsDistributed l seen t m z owner x r l' seen' = Shares (λ limits. FitsCell limits x) l t seen (emitCell (length seen) m z owner x) r l' seen'
+EmitsDistributed l seen t m z owner x r l' seen' = Shares (λ limits. FitsCell limits x) l t seen (emit_cell (length seen) m z owner x) r l' seen'
 
 -- one that takes none and declares no signal: whatever the signals hold, and its number is
 abbrev pub EmitsKind : List ℕ → List ℕ → List ℕ → Tapes → Wires → Cell → Stated → List ℕ → List ℕ → List ℕ → Type 0
-EmitsKind e s seen t m x r e' s' seen' = (l : List ℕ) (z : Constants) (owner : ℕ) → Shares (λ limits. FitsCell limits x) (lists l e s) t seen (emitCell (length seen) m z owner x) r (lists l e' s') seen'
+EmitsKind e s seen t m x r e' s' seen' = (l : List ℕ) (z : Constants) (owner : ℕ) → Shares (λ limits. FitsCell limits x) (lists l e s) t seen (emit_cell (length seen) m z owner x) r (lists l e' s') seen'
 
 -- the kinds from 5 on but for the RAMs, and all but for these
 abbrev pub EmitsLate : List ℕ → List ℕ → List ℕ → Tapes → Wires → List ℕ → ℕ → ℕ → Stated → List ℕ → List ℕ → List ℕ → Type 0
-EmitsLate e s seen t m words at kind r e' s' seen' = 5 ≤ kind → (kind ≡ 6 → ⊥) → (kind ≡ 7 → ⊥) → EmitsKind e s seen t m (ofKind words at kind) r e' s' seen'
+EmitsLate e s seen t m words at kind r e' s' seen' = 5 ≤ kind → (kind ≡ 6 → ⊥) → (kind ≡ 7 → ⊥) → EmitsKind e s seen t m (of_kind words at kind) r e' s' seen'
 
 abbrev pub EmitsSmall : List ℕ → List ℕ → List ℕ → Tapes → Wires → List ℕ → ℕ → ℕ → Stated → List ℕ → List ℕ → List ℕ → Type 0
-EmitsSmall e s seen t m words at kind r e' s' seen' = (kind ≡ 6 → ⊥) → (kind ≡ 7 → ⊥) → EmitsKind e s seen t m (ofKind words at kind) r e' s' seen'
+EmitsSmall e s seen t m words at kind r e' s' seen' = (kind ≡ 6 → ⊥) → (kind ≡ 7 → ⊥) → EmitsKind e s seen t m (of_kind words at kind) r e' s' seen'
 
 -- n cells that fit, from an index on
 abbrev pub CellsFit : List ℕ → List ℕ → List ℕ → ℕ → ℕ → Limits → Type 0
-CellsFit parts values words at n limits = Work parts × Work values × Fitting (cell_at words) (cellEnd words) (FitsCell limits) (length words) n at
+CellsFit parts values words at n limits = Work parts × Work values × Fitting (cell_at words) (cell_end words) (FitsCell limits) (length words) n at
 
 abbrev pub EmitsCells : Lists → List ℕ → List ℕ → List ℕ → Tapes → Wires → Constants → List ℕ → ℕ → ℕ → Stated → Lists → List ℕ → Type 0
-EmitsCells l parts values seen t m z words at n r l' seen' = Shares (CellsFit parts values words at n) l t seen (emitCells (length seen) m z 0 (cellsAt words at n)) r l' seen'
+EmitsCells l parts values seen t m z words at n r l' seen' = Shares (CellsFit parts values words at n) l t seen (emit_cells (length seen) m z 0 (cells_at words at n)) r l' seen'
 
 -- the cells of a layout, with a table of their own for so many wires
 pub record EmitsAll (l : Lists) (parts values : List ℕ) (t : Tapes) (m : Wires) (z : Constants) (words : List ℕ) (layout : Layout) (shared : ℕ) (r : Stated) (l' : Lists) : Type 0 where
-  pub so : shared ≤ 16384 → (limits : Limits) → CellsFit parts values words layout.start layout.cells limits → Wrote l t (emitCells shared m z 0 (cellsAt words layout.start layout.cells)) (stated r) l'
+  pub so : shared ≤ 16384 → (limits : Limits) → CellsFit parts values words layout.start layout.cells limits → Wrote l t (emit_cells shared m z 0 (cells_at words layout.start layout.cells)) (stated r) l'
 
 -- A PORT
 -- the work has the widest port's width
@@ -102,16 +102,16 @@ pub record EmitsAll (l : Lists) (parts values : List ℕ) (t : Tapes) (m : Wires
 abbrev pub PortFits : List ℕ → Port → Limits → Type 0
 PortFits parts x limits = (limits.width ≤ length parts) × FitsPort limits x
 
--- port number p, if it is an output: a step of emitOutputs
-abbrev pub emitOutput : Wires → ℕ → Port → Writer (Unit {0})
-emitOutput m p port = pick (eqb port.direction 1) (bitsExpression m port.bits >>= λ e. state (assign p e)) (pure tt)
+-- port number p, if it is an output: a step of emit_outputs
+abbrev pub emit_output : Wires → ℕ → Port → Writer (Unit {0})
+emit_output m p port = pick (eqb port.direction 1) (bits_expression m port.bits >>= λ e. state (assign p e)) (pure tt)
 
 -- whatever the signals hold
 abbrev pub EmitsPort : List ℕ → List ℕ → List ℕ → Tapes → Wires → ℕ → Port → Stated → List ℕ → List ℕ → Type 0
-EmitsPort e s parts t m p x r e' s' = (l : List ℕ) → Emits (PortFits parts x) (lists l e s) t (emitOutput m p x) r (lists l e' s')
+EmitsPort e s parts t m p x r e' s' = (l : List ℕ) → Emits (PortFits parts x) (lists l e s) t (emit_output m p x) r (lists l e' s')
 
 abbrev pub PortsFit : List ℕ → List ℕ → ℕ → ℕ → Limits → Type 0
-PortsFit parts words at n limits = (limits.width ≤ length parts) × Fitting (portAt words) (portEnd words) (FitsPort limits) (length words) n at
+PortsFit parts words at n limits = (limits.width ≤ length parts) × Fitting (port_at words) (port_end words) (FitsPort limits) (length words) n at
 
 abbrev pub EmitsPorts : List ℕ → List ℕ → List ℕ → Tapes → Wires → List ℕ → ℕ → ℕ → Stated → List ℕ → List ℕ → Type 0
-EmitsPorts e s parts t m words at n r e' s' = (l : List ℕ) → Emits (PortsFit parts words at n) (lists l e s) t (emitOutputs m 0 (portsAt words at n)) r (lists l e' s')
+EmitsPorts e s parts t m words at n r e' s' = (l : List ℕ) → Emits (PortsFit parts words at n) (lists l e s) t (emit_outputs m 0 (ports_at words at n)) r (lists l e' s')

@@ -6,10 +6,10 @@ use Rattle.refusal.specs.declared.Refusal as x
 use Rattle.netlist.specs.declared.Limits.{Limits}
 use Rattle.recorder.specs.declared.Tapes.{Tapes}
 use Rattle.recorder.specs.declared.Stated as r
-use Rattle.recorder.specs.Record.{Signal, Stmt, signalWords, stmtWords}
+use Rattle.recorder.specs.Record.{Signal, Stmt, signal_words, stmt_words}
 use Rattle.recorder.specs.Lists.{Lists}
-use Rattle.recorder.specs.Words.{listWords, holding, blank, zeroed}
-use Rattle.lowering.specs.Lower.{Lowered, Accepted, Refused, Lowering, overdrivenFrom, judged, lowerWords}
+use Rattle.recorder.specs.Words.{list_words, holding, blank, zeroed}
+use Rattle.lowering.specs.Lower.{Lowered, Accepted, Refused, Lowering, overdriven_from, judged, lower_words}
 use Rattle.converter.specs.Steps.{Within}
 use Rattle.converter.specs.declared.Lowered as c
 
@@ -22,16 +22,16 @@ answer_of (c.TheVariants.Refused x) = Refused (number_of x) (place_of x)
 unfoldable pub short : ℕ → Bool
 short n = ltb n 16384
 
-unfoldable pub anyShort : List ℕ → Bool
-anyShort [] = false
-anyShort (n ∷ ns) = pick (short n) true (anyShort ns)
+unfoldable pub any_short : List ℕ → Bool
+any_short [] = false
+any_short (n ∷ ns) = pick (short n) true (any_short ns)
 
 -- THE CALL: limits and words, and the lengths of lists and works. 1 comes first
-abbrev pub lowerCall : Limits → List ℕ → ℕ → ℕ → ℕ → List ℕ → Lowering
-lowerCall limits words s e t works = pick (anyShort works) (record { answer = Refused 1 16384; lists = blank s e t }) (lowerWords limits words s e t)
+abbrev pub lower_call : Limits → List ℕ → ℕ → ℕ → ℕ → List ℕ → Lowering
+lower_call limits words s e t works = pick (any_short works) (record { answer = Refused 1 16384; lists = blank s e t }) (lower_words limits words s e t)
 
 abbrev pub call_of : Limits → List ℕ → Lists → List (List ℕ) → Lowering
-call_of limits words l works = lowerCall limits words (length l.signals) (length l.exprs) (length l.stmts) (map length works)
+call_of limits words l works = lower_call limits words (length l.signals) (length l.exprs) (length l.stmts) (map length works)
 
 -- words, lists and works at entry; the answer, lists and works at exit
 pub record Lowers (limits : Limits) (words : List ℕ) (l : Lists) (works : List (List ℕ)) (r : c.Lowered) (l' : Lists) (works' : List (List ℕ)) : Type 0 where
@@ -52,32 +52,32 @@ abbrev pub kept : Lowered → Lists → Lists → Lists
 kept (Accepted t) l zeroed = l
 kept (Refused number place) l zeroed = zeroed
 
-abbrev pub blankOf : Lists → Lists
-blankOf l = blank (length l.signals) (length l.exprs) (length l.stmts)
+abbrev pub blank_of : Lists → Lists
+blank_of l = blank (length l.signals) (length l.exprs) (length l.stmts)
 
 abbrev pub Keeps : c.Lowered → Lists → Lists → Type 0
-Keeps r l l' = l' ≡ kept (answer_of r) l (blankOf l)
+Keeps r l l' = l' ≡ kept (answer_of r) l (blank_of l)
 
 -- what the works hold once they are known to be long enough: the first two are the wire map's tables, and empty
 pub record Ready (wires places parts values banks : List ℕ) : Type 0 where
-  pub no-signals : wires ≡ zeroed wires
-  pub no-places : places ≡ zeroed places
-  pub wires-long : 16384 ≤ length wires
-  pub places-long : 16384 ≤ length places
-  pub parts-long : 16384 ≤ length parts
-  pub values-long : 16384 ≤ length values
-  pub banks-long : 16384 ≤ length banks
+  pub no_signals : wires ≡ zeroed wires
+  pub no_places : places ≡ zeroed places
+  pub wires_long : 16384 ≤ length wires
+  pub places_long : 16384 ≤ length places
+  pub parts_long : 16384 ≤ length parts
+  pub values_long : 16384 ≤ length values
+  pub banks_long : 16384 ≤ length banks
 
 -- from lists of zeros: the answer, and the lists if it is a model
 pub record Attempts (limits : Limits) (words : List ℕ) (l : Lists) (wires places parts values banks : List ℕ) (r : c.Lowered) (l' : Lists) : Type 0 where
-  pub value : Within limits → Ready wires places parts values banks → (s e t : ℕ) → l ≡ blank s e t → record { answer = answer_of r; lists = kept (answer_of r) l' (blank s e t) } ≡ lowerWords limits words s e t
+  pub value : Within limits → Ready wires places parts values banks → (s e t : ℕ) → l ≡ blank s e t → record { answer = answer_of r; lists = kept (answer_of r) l' (blank s e t) } ≡ lower_words limits words s e t
 
 -- what was recorded, p, judged on the signals s and the statements m
 pub record AnswersTo (s m : List ℕ) (p : r.Stated) (q : c.Lowered) (s' : List ℕ) : Type 0 where
   pub refused : (x : x.Refusal) → p ≡ r.TheVariants.Refused x → answer_of q ≡ Refused (number_of x) (place_of x)
-  pub recorded : (t : Tapes) → p ≡ r.TheVariants.Done t → (a b : ℕ) (xs : List Signal) (ts : List Stmt) → s ≡ holding a (listWords signalWords xs) → m ≡ holding b (listWords stmtWords ts)
-      → (l : Lists) → answer_of q ≡ (judged (overdrivenFrom 0 xs ts) t l l).answer
-  pub same : (t : Tapes) → p ≡ r.TheVariants.Done t → (a b : ℕ) (xs : List Signal) (ts : List Stmt) → s ≡ holding a (listWords signalWords xs) → m ≡ holding b (listWords stmtWords ts) → s' ≡ s
+  pub recorded : (t : Tapes) → p ≡ r.TheVariants.Done t → (a b : ℕ) (xs : List Signal) (ts : List Stmt) → s ≡ holding a (list_words signal_words xs) → m ≡ holding b (list_words stmt_words ts)
+      → (l : Lists) → answer_of q ≡ (judged (overdriven_from 0 xs ts) t l l).answer
+  pub same : (t : Tapes) → p ≡ r.TheVariants.Done t → (a b : ℕ) (xs : List Signal) (ts : List Stmt) → s ≡ holding a (list_words signal_words xs) → m ≡ holding b (list_words stmt_words ts) → s' ≡ s
 
 -- zeros of the same lengths
 pub record ZerosTwo (a b a' b' : List ℕ) : Type 0 where

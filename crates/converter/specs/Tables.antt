@@ -2,7 +2,7 @@
 use Rattle.std.specs.Prelude.{◌≡◌, List, [], ◌∷◌, ℕ, zero, suc, ◌<◌, length}
 use Rattle.netlist.specs.declared.Bit.{Bit}
 use Rattle.netlist.specs.declared.Bit.TheVariants.{Zero, One, Wire}
-use Rattle.netlist.specs.Fields.{recordsAt, after, word_at, bit_at}
+use Rattle.netlist.specs.Fields.{records_at, after, word_at, bit_at}
 use Rattle.refusal.specs.Refusal.{number_of, place_of}
 use Rattle.recorder.specs.declared.Tapes.{Tapes}
 use Rattle.recorder.specs.declared.Declared.{Declared}
@@ -12,10 +12,10 @@ use Rattle.recorder.specs.declared.Stated.{Stated}
 use Rattle.recorder.specs.declared.Stated.TheVariants as S
 use Rattle.recorder.specs.Writer.{Writer, pure, refuse}
 use Rattle.recorder.specs.Lists.{WroteSignals, Answer, Answer.Done, Answer.Failed}
-use Rattle.wires.specs.Wires.{Wires, wiresOf}
+use Rattle.wires.specs.Wires.{Wires, wires_of}
 use Rattle.converter.specs.declared.insert.Inserted.{Inserted}
 use Rattle.converter.specs.declared.insert.Inserted.TheVariants as I
-use Rattle.lowering.specs.Reserve.{insertWire, insertBits, reserveScalar}
+use Rattle.lowering.specs.Reserve.{insert_wire, insert_bits, reserve_scalar}
 
 -- no record: the map after it, or a refusal
 abbrev pub quiet : Inserted → Wires → Writer Wires
@@ -46,30 +46,30 @@ pub record Small (s lsb width : ℕ) : Type 0 where
   pub narrow : width < 65536
 
 abbrev pub Inserts : List ℕ → List ℕ → ℕ → ℕ → ℕ → ℕ → Inserted → List ℕ → List ℕ → Type 0
-Inserts wires places w s lsb width r wires' places' = Tabled wires places w → Small s lsb width → insertWire (wiresOf wires places) (Wire w) (record { signal = s; lsb = lsb; width = width }) ≡ quiet r (wiresOf wires' places')
+Inserts wires places w s lsb width r wires' places' = Tabled wires places w → Small s lsb width → insert_wire (wires_of wires places) (Wire w) (record { signal = s; lsb = lsb; width = width }) ≡ quiet r (wires_of wires' places')
 
 abbrev pub InsertsBit : List ℕ → List ℕ → Bit → ℕ → ℕ → ℕ → Inserted → List ℕ → List ℕ → Type 0
-InsertsBit wires places b s lsb width r wires' places' = TabledBit wires places b → Small s lsb width → insertWire (wiresOf wires places) b (record { signal = s; lsb = lsb; width = width }) ≡ quiet r (wiresOf wires' places')
+InsertsBit wires places b s lsb width r wires' places' = TabledBit wires places b → Small s lsb width → insert_wire (wires_of wires places) b (record { signal = s; lsb = lsb; width = width }) ≡ quiet r (wires_of wires' places')
 
 -- the words hold bit words (0) or wires
-abbrev pub heldBit : List ℕ → ℕ → ℕ → Bit
-heldBit words zero i = bit_at words i
-heldBit words (suc k) i = Wire (word_at words i)
+abbrev pub held_bit : List ℕ → ℕ → ℕ → Bit
+held_bit words zero i = bit_at words i
+held_bit words (suc k) i = Wire (word_at words i)
 
-abbrev pub heldBits : List ℕ → ℕ → ℕ → ℕ → List Bit
-heldBits words kind at n = recordsAt (heldBit words kind) after n at
+abbrev pub held_bits : List ℕ → ℕ → ℕ → ℕ → List Bit
+held_bits words kind at n = records_at (held_bit words kind) after n at
 
 abbrev pub InsertsBits : List ℕ → List ℕ → List Bit → ℕ → ℕ → Inserted → List ℕ → List ℕ → Type 0
-InsertsBits wires places bits s n r wires' places' = TabledBits wires places bits → s < 4294967295 → n < 65536 → insertBits (wiresOf wires places) s n 0 bits ≡ quiet r (wiresOf wires' places')
+InsertsBits wires places bits s n r wires' places' = TabledBits wires places bits → s < 4294967295 → n < 65536 → insert_bits (wires_of wires places) s n 0 bits ≡ quiet r (wires_of wires' places')
 
 abbrev pub ReservesScalar : List ℕ → List ℕ → List ℕ → Tapes → ℕ → ℕ → ℕ → Stated → List ℕ → List ℕ → List ℕ → Type 0
-ReservesScalar l wires places t label owner w r l' wires' places' = Tabled wires places w → WroteSignals l t (reserveScalar (wiresOf wires places) label owner w) (mapped r (wiresOf wires' places')) l'
+ReservesScalar l wires places t label owner w r l' wires' places' = Tabled wires places w → WroteSignals l t (reserve_scalar (wires_of wires places) label owner w) (mapped r (wires_of wires' places')) l'
 
 -- refusals handed on
-abbrev pub undeclaredOf : Declared → Stated
-undeclaredOf (D.Done s t) = S.Done t
-undeclaredOf (D.Refused x) = S.Refused x
+abbrev pub undeclared_of : Declared → Stated
+undeclared_of (D.Done s t) = S.Done t
+undeclared_of (D.Refused x) = S.Refused x
 
-abbrev pub notInsertedOf : Inserted → Stated
-notInsertedOf I.Done = S.Refused (BufferTooShort 0)
-notInsertedOf (I.Refused x) = S.Refused x
+abbrev pub not_inserted_of : Inserted → Stated
+not_inserted_of I.Done = S.Refused (BufferTooShort 0)
+not_inserted_of (I.Refused x) = S.Refused x

@@ -1,6 +1,6 @@
 // The signals of banks and the wires that they hold.
-ghost use Rattle.converter.specs.Members.{membersIn};
-ghost use Rattle.behaviour.specs.Banks.{outputsOf};
+ghost use Rattle.converter.specs.Members.{members_in};
+ghost use Rattle.behaviour.specs.Banks.{outputs_of};
 ghost use Rattle.converter.specs.Reserved.{InsertsWires, ReservesBank, ReservesBanks};
 
 use crate::insert::{Inserted, insert_wire, not_inserted};
@@ -19,7 +19,7 @@ fn insert_members(
     signal: SignalId,
     width: u32,
 ) -> Inserted
-    ensures { InsertsWires wires.old places.old (outputsOf (membersIn words.now banks.now scan)) signal.0 width result wires.new places.new }
+    ensures { InsertsWires wires.old places.old (outputs_of (members_in words.now banks.now scan)) signal.0 width result wires.new places.new }
 {
     let mut lsb = 0;
     let mut c = first_member(words, banks, scan);

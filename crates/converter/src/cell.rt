@@ -1,7 +1,7 @@
 // Every cell by its kind.
 ghost use Rattle.std.specs.Prelude.{◌≡◌, ◌⊎◌};
 ghost use Rattle.netlist.specs.Fields.{word_at, cell_at};
-ghost use Rattle.wires.specs.Wires.{wiresOf};
+ghost use Rattle.wires.specs.Wires.{wires_of};
 ghost use Rattle.recorder.specs.Lists.{lists};
 ghost use Rattle.converter.specs.Emits.{EmitsCell, EmitsCells};
 
@@ -28,7 +28,7 @@ fn emit_ram(
     at: usize,
 ) -> Stated
     requires { (word_at words.now at ≡ 6) ⊎ (word_at words.now at ≡ 7) }
-    ensures { EmitsCell (lists signals.old exprs.old stmts.old) parts.old values.old seen.old t (wiresOf wires.now places.now) constants owner (cell_at words.now at) result (lists signals.new exprs.new stmts.new) seen.new }
+    ensures { EmitsCell (lists signals.old exprs.old stmts.old) parts.old values.old seen.old t (wires_of wires.now places.now) constants owner (cell_at words.now at) result (lists signals.new exprs.new stmts.new) seen.new }
 {
     if field(words, at, 0) == 6 {
         return block_ram_cell(
@@ -57,7 +57,7 @@ fn emit_cell(
     words: &[u32],
     at: usize,
 ) -> Stated
-    ensures { EmitsCell (lists signals.old exprs.old stmts.old) parts.old values.old seen.old t (wiresOf wires.now places.now) constants owner (cell_at words.now at) result (lists signals.new exprs.new stmts.new) seen.new }
+    ensures { EmitsCell (lists signals.old exprs.old stmts.old) parts.old values.old seen.old t (wires_of wires.now places.now) constants owner (cell_at words.now at) result (lists signals.new exprs.new stmts.new) seen.new }
 {
     let kind = field(words, at, 0);
     if kind == 6 {
@@ -91,7 +91,7 @@ pub fn emit_cells(
     at: usize,
     n: u32,
 ) -> Stated
-    ensures { EmitsCells (lists signals.old exprs.old stmts.old) parts.old values.old seen.old t (wiresOf wires.now places.now) constants words.now at n result (lists signals.new exprs.new stmts.new) seen.new }
+    ensures { EmitsCells (lists signals.old exprs.old stmts.old) parts.old values.old seen.old t (wires_of wires.now places.now) constants words.now at n result (lists signals.new exprs.new stmts.new) seen.new }
 {
     let mut now = t;
     let mut place = at;

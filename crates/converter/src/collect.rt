@@ -3,7 +3,7 @@
 // A bank is not stored: a word for each cell has its bank's number, counted from 1. Its members are found by scanning the cells.
 // While banks are collected, their keys stand in two works: clocks and edges in `parts`, resets in `values`.
 ghost use Rattle.std.specs.Prelude.{◌≡◌, set};
-ghost use Rattle.converter.specs.Banked.{KeyOf, ResetKeyOf, keyIs, findKey, larger as largerOf, Joins, Collects};
+ghost use Rattle.converter.specs.Banked.{KeyOf, ResetKeyOf, key_is, find_key, larger as larger_of, Joins, Collects};
 
 use netlist::fields::{cell_end, field, wide, word};
 
@@ -34,7 +34,7 @@ fn reset_key(words: &[u32], at: usize) -> u32
 }
 
 fn key_is(parts: &[u32], values: &[u32], i: usize, a: u32, b: u32) -> bool
-    ensures { result ≡ keyIs parts.now values.now i a b }
+    ensures { result ≡ key_is parts.now values.now i a b }
 {
     if word(parts, i) != a {
         return false;
@@ -44,7 +44,7 @@ fn key_is(parts: &[u32], values: &[u32], i: usize, a: u32, b: u32) -> bool
 
 // The first of the banks that has a key; their number if none has it.
 fn find_key(parts: &[u32], values: &[u32], count: u32, a: u32, b: u32) -> u32
-    ensures { result ≡ findKey parts.now values.now a b count 0 }
+    ensures { result ≡ find_key parts.now values.now a b count 0 }
 {
     let mut i = 0;
     while i < count {
@@ -87,7 +87,7 @@ fn join_bank(words: &[u32], at: usize, parts: &mut [u32], values: &mut [u32], co
 }
 
 fn larger(a: u32, b: u32) -> u32
-    ensures { result ≡ largerOf a b }
+    ensures { result ≡ larger_of a b }
 {
     if a < b { b } else { a }
 }

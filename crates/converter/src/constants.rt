@@ -1,7 +1,7 @@
 // The constants: two signals, the first two expressions, and a statement for each.
 ghost use Rattle.recorder.specs.Lists.{lists, Wrote, WroteSignals, WroteBoth};
-ghost use Rattle.lowering.specs.Lower.{emitConstants};
-ghost use Rattle.converter.specs.Emits.{started, constantSignals, constantValues};
+ghost use Rattle.lowering.specs.Lower.{emit_constants};
+ghost use Rattle.converter.specs.Emits.{started, constant_signals, constant_values};
 
 use recorder::{Declared, Emitted, Stated, Tapes, builder};
 use refusal::Refusal;
@@ -16,7 +16,7 @@ pub enum Started {
 }
 
 fn constant_signals(signals: &mut [u32], t: Tapes) -> Started
-    ensures { WroteSignals signals.old t constantSignals (started result) signals.new }
+    ensures { WroteSignals signals.old t constant_signals (started result) signals.new }
 {
     match builder::signal(signals, t, 14, 1, 0) {
         Declared::Done(zero, next) => match builder::signal(signals, next, 15, 1, 0) {
@@ -28,7 +28,7 @@ fn constant_signals(signals: &mut [u32], t: Tapes) -> Started
 }
 
 fn constant_values(exprs: &mut [u32], stmts: &mut [u32], t: Tapes, constants: Constants) -> Started
-    ensures { WroteBoth exprs.old stmts.old t (constantValues constants) (started result) exprs.new stmts.new }
+    ensures { WroteBoth exprs.old stmts.old t (constant_values constants) (started result) exprs.new stmts.new }
 {
     let zero = constants.zero;
     let one = constants.one;
@@ -53,7 +53,7 @@ pub fn emit_constants(
     stmts: &mut [u32],
     t: Tapes,
 ) -> Started
-    ensures { Wrote (lists signals.old exprs.old stmts.old) t emitConstants (started result) (lists signals.new exprs.new stmts.new) }
+    ensures { Wrote (lists signals.old exprs.old stmts.old) t emit_constants (started result) (lists signals.new exprs.new stmts.new) }
 {
     let r = constant_signals(signals, t);
     let Started::Done(constants, next) = r else {

@@ -2,7 +2,7 @@
 //
 // A number that a table can't hold is none that a checked netlist has; it is answered `out_of_range`, and the contracts speak of the others.
 ghost use Rattle.std.specs.Prelude.{◌≡◌, ◌+◌};
-ghost use Rattle.converter.specs.Tables.{Inserts, InsertsBit, InsertsBits, heldBit, heldBits, notInsertedOf};
+ghost use Rattle.converter.specs.Tables.{Inserts, InsertsBit, InsertsBits, held_bit, held_bits, not_inserted_of};
 
 use netlist::Bit;
 use netlist::fields::{bit_at, field, wide};
@@ -75,7 +75,7 @@ fn insert_bit(
 
 // The words hold bit words (0) or wires (1).
 fn held_bit(words: &[u32], at: usize, i: usize, kind: u32) -> Bit
-    ensures { result ≡ heldBit words.now kind (at + i) }
+    ensures { result ≡ held_bit words.now kind (at + i) }
 {
     if kind == 0 {
         return bit_at(words, at, i);
@@ -93,7 +93,7 @@ pub fn insert_bits(
     signal: SignalId,
     n: u32,
 ) -> Inserted
-    ensures { InsertsBits wires.old places.old (heldBits words.now kind at n) signal.0 n result wires.new places.new }
+    ensures { InsertsBits wires.old places.old (held_bits words.now kind at n) signal.0 n result wires.new places.new }
 {
     let mut i = 0;
     while i < n {
@@ -108,7 +108,7 @@ pub fn insert_bits(
 }
 
 pub fn not_inserted(r: Inserted) -> Stated
-    ensures { result ≡ notInsertedOf r }
+    ensures { result ≡ not_inserted_of r }
 {
     match r {
         Inserted::Done => Stated::Refused(Refusal::BufferTooShort(0)),

@@ -1,8 +1,8 @@
 // The answer, once all is recorded: 11 comes last, and a refusal leaves lists of zeros.
 ghost use Rattle.std.specs.Prelude.{◌≡◌};
 ghost use Rattle.recorder.specs.Lists.{Lists, lists};
-ghost use Rattle.conflict.specs.Conflicts.{foundOf};
-ghost use Rattle.lowering.specs.Lower.{judged as judgedOf};
+ghost use Rattle.conflict.specs.Conflicts.{found_of};
+ghost use Rattle.lowering.specs.Lower.{judged as judged_of};
 ghost use Rattle.converter.specs.Entry.{AnswersTo, Keeps, answer_of};
 
 use crate::Lowered;
@@ -12,7 +12,7 @@ use recorder::{Stated, Tapes};
 use refusal::Refusal;
 
 fn judged(t: Tapes, found: Conflict) -> Lowered
-    ensures { (l : Lists) → answer_of result ≡ (judgedOf (foundOf found) t l l).answer }
+    ensures { (l : Lists) → answer_of result ≡ (judged_of (found_of found) t l l).answer }
 {
     match found {
         Conflict::Absent => Lowered::Accepted(t),

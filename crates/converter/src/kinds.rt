@@ -1,7 +1,7 @@
 // The small cells, by kind. A cell stands at an index of the words, its kind first.
 ghost use Rattle.std.specs.Prelude.{◌≡◌, ◌%◌};
-ghost use Rattle.wires.specs.Wires.{wiresOf};
-ghost use Rattle.netlist.specs.Fields.{lut4At, pfumxAt, l6mux21At, ccu2cAt, ioAt};
+ghost use Rattle.wires.specs.Wires.{wires_of};
+ghost use Rattle.netlist.specs.Fields.{lut4_at, pfumx_at, l6mux21_at, ccu2c_at, io_at};
 ghost use Rattle.converter.specs.Emits.{EmitsKind, EmitsSmall, EmitsLate};
 
 use carry::ccu2c::emit_ccu2c;
@@ -29,7 +29,7 @@ fn lut4_cell(
     words: &[u32],
     at: usize,
 ) -> Stated
-    ensures { EmitsKind exprs.old stmts.old seen.old t (wiresOf wires.now places.now) (lut4At words.now at) result exprs.new stmts.new seen.new }
+    ensures { EmitsKind exprs.old stmts.old seen.old t (wires_of wires.now places.now) (lut4_at words.now at) result exprs.new stmts.new seen.new }
 {
     let inputs = bits4(words, at, 1);
     let output = field(words, at, 5);
@@ -47,7 +47,7 @@ fn pfumx_cell(
     words: &[u32],
     at: usize,
 ) -> Stated
-    ensures { EmitsKind exprs.old stmts.old seen.old t (wiresOf wires.now places.now) (pfumxAt words.now at) result exprs.new stmts.new seen.new }
+    ensures { EmitsKind exprs.old stmts.old seen.old t (wires_of wires.now places.now) (pfumx_at words.now at) result exprs.new stmts.new seen.new }
 {
     let f = pfumx_at(words, at);
     let high = f.lut_true;
@@ -68,7 +68,7 @@ fn l6mux21_cell(
     words: &[u32],
     at: usize,
 ) -> Stated
-    ensures { EmitsKind exprs.old stmts.old seen.old t (wiresOf wires.now places.now) (l6mux21At words.now at) result exprs.new stmts.new seen.new }
+    ensures { EmitsKind exprs.old stmts.old seen.old t (wires_of wires.now places.now) (l6mux21_at words.now at) result exprs.new stmts.new seen.new }
 {
     let f = l6mux21_at(words, at);
     let low = f.data_zero;
@@ -89,7 +89,7 @@ fn ccu2c_cell(
     words: &[u32],
     at: usize,
 ) -> Stated
-    ensures { EmitsKind exprs.old stmts.old seen.old t (wiresOf wires.now places.now) (ccu2cAt words.now at) result exprs.new stmts.new seen.new }
+    ensures { EmitsKind exprs.old stmts.old seen.old t (wires_of wires.now places.now) (ccu2c_at words.now at) result exprs.new stmts.new seen.new }
 {
     let inputs = ccu2c_inputs(words, at);
     let f = ccu2c_at(words, at);
@@ -114,7 +114,7 @@ fn io_cell(
     words: &[u32],
     at: usize,
 ) -> Stated
-    ensures { EmitsKind exprs.old stmts.old seen.old t (wiresOf wires.now places.now) (ioAt words.now at) result exprs.new stmts.new seen.new }
+    ensures { EmitsKind exprs.old stmts.old seen.old t (wires_of wires.now places.now) (io_at words.now at) result exprs.new stmts.new seen.new }
 {
     let f = io_at(words, at);
     let driven = f.fabric_output;
@@ -145,7 +145,7 @@ fn emit_late(
     at: usize,
     kind: u32,
 ) -> Stated
-    ensures { EmitsLate exprs.old stmts.old seen.old t (wiresOf wires.now places.now) words.now at kind result exprs.new stmts.new seen.new }
+    ensures { EmitsLate exprs.old stmts.old seen.old t (wires_of wires.now places.now) words.now at kind result exprs.new stmts.new seen.new }
 {
     match kind {
         5 => Stated::Done(t),
@@ -167,7 +167,7 @@ pub fn emit_small(
     at: usize,
     kind: u32,
 ) -> Stated
-    ensures { EmitsSmall exprs.old stmts.old seen.old t (wiresOf wires.now places.now) words.now at kind result exprs.new stmts.new seen.new }
+    ensures { EmitsSmall exprs.old stmts.old seen.old t (wires_of wires.now places.now) words.now at kind result exprs.new stmts.new seen.new }
 {
     match kind {
         0 => lut4_cell(exprs, stmts, seen, wires, places, t, words, at),

@@ -1,6 +1,6 @@
 // The members of a bank, in cell order: a walk from one to the next.
 ghost use Rattle.std.specs.Prelude.{◌≡◌, length};
-ghost use Rattle.converter.specs.Members.{membersIn, Finds, Starts, Goes};
+ghost use Rattle.converter.specs.Members.{members_in, Finds, Starts, Goes};
 
 use netlist::fields::{cell_end, wide, word};
 
@@ -63,7 +63,7 @@ pub fn next_member(words: &[u32], banks: &[u32], scan: Scan, c: Cursor) -> Curso
 }
 
 pub fn count_members(words: &[u32], banks: &[u32], scan: Scan) -> u32
-    ensures { result ≡ length (membersIn words.now banks.now scan) }
+    ensures { result ≡ length (members_in words.now banks.now scan) }
 {
     let mut k = 0;
     let mut c = first_member(words, banks, scan);

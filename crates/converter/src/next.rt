@@ -1,13 +1,13 @@
 // The next value of a bank: each flip-flop's input, held while it is not enabled, reset where its reset is synchronous.
 ghost use Rattle.std.specs.Prelude.{◌≡◌, length, take, [], ◌≤◌};
-ghost use Rattle.wires.specs.Wires.{wiresOf};
-ghost use Rattle.converter.specs.Members.{membersIn};
-ghost use Rattle.netlist.specs.FieldForms.{presence, resetPresence};
+ghost use Rattle.wires.specs.Wires.{wires_of};
+ghost use Rattle.converter.specs.Members.{members_in};
+ghost use Rattle.netlist.specs.FieldForms.{presence, reset_presence};
 ghost use Rattle.recorder.specs.Lists.{WroteExprs, emitted};
-ghost use Rattle.wires.specs.Expressions.{concatParts};
-ghost use Rattle.lowering.specs.Emit.{withEnable, withReset, resetBit as resetBitOf, resetBits, nextBit};
-ghost use Rattle.converter.specs.Banked.{flopAt};
-ghost use Rattle.converter.specs.BankEmits.{nextValue};
+ghost use Rattle.wires.specs.Expressions.{concat_parts};
+ghost use Rattle.lowering.specs.Emit.{with_enable, with_reset, reset_bit as reset_bit_of, reset_bits, next_bit};
+ghost use Rattle.converter.specs.Banked.{flop_at};
+ghost use Rattle.converter.specs.BankEmits.{next_value};
 
 use crate::members::{Scan, first_member, next_member};
 use netlist::fields::{
@@ -26,7 +26,7 @@ fn with_enable(
     enable: OptionalControl,
     next: ExprId,
 ) -> Emitted
-    ensures { WroteExprs exprs.old t (withEnable (wiresOf wires.now places.now) output (presence enable) next.0) (emitted result) exprs.new }
+    ensures { WroteExprs exprs.old t (with_enable (wires_of wires.now places.now) output (presence enable) next.0) (emitted result) exprs.new }
 {
     let OptionalControl::Present(control) = enable else {
         return Emitted::Done(next, t);
@@ -44,7 +44,7 @@ fn with_enable(
 
 // The expression of the value that a reset loads.
 fn reset_bit(reset: OptionalReset) -> ExprId
-    ensures { result.0 ≡ resetBitOf (resetPresence reset) }
+    ensures { result.0 ≡ reset_bit_of (reset_presence reset) }
 {
     let OptionalReset::Present(r) = reset else {
         return ExprId::ZERO;
@@ -63,7 +63,7 @@ fn with_reset(
     reset: OptionalReset,
     next: ExprId,
 ) -> Emitted
-    ensures { WroteExprs exprs.old t (withReset (wiresOf wires.now places.now) (resetPresence reset) next.0) (emitted result) exprs.new }
+    ensures { WroteExprs exprs.old t (with_reset (wires_of wires.now places.now) (reset_presence reset) next.0) (emitted result) exprs.new }
 {
     let OptionalReset::Present(r) = reset else {
         return Emitted::Done(next, t);
@@ -93,7 +93,7 @@ fn next_bit(
     words: &[u32],
     at: usize,
 ) -> Emitted
-    ensures { WroteExprs exprs.old t (nextBit (wiresOf wires.now places.now) (flopAt words.now at)) (emitted result) exprs.new }
+    ensures { WroteExprs exprs.old t (next_bit (wires_of wires.now places.now) (flop_at words.now at)) (emitted result) exprs.new }
 {
     let r = bit_expression(exprs, wires, places, t, bit_at(words, at, 1));
     let Emitted::Done(d, after_input) = r else {
@@ -121,8 +121,8 @@ pub fn next_value(
     scan: Scan,
     width: u32,
 ) -> Emitted
-    requires { (width ≤ length parts.old) × (width ≡ length (membersIn words.now banks.now scan)) }
-    ensures { WroteExprs exprs.old t (nextValue (wiresOf wires.now places.now) (membersIn words.now banks.now scan)) (emitted result) exprs.new }
+    requires { (width ≤ length parts.old) × (width ≡ length (members_in words.now banks.now scan)) }
+    ensures { WroteExprs exprs.old t (next_value (wires_of wires.now places.now) (members_in words.now banks.now scan)) (emitted result) exprs.new }
 {
     let mut now = t;
     let mut left = wide(width);
@@ -142,8 +142,8 @@ pub fn next_value(
 
 // The constants that a reset loads, in the same order.
 fn reset_bits(parts: &mut [u32], words: &[u32], banks: &[u32], scan: Scan, width: u32)
-    requires { (width ≤ length parts.old) × (width ≡ length (membersIn words.now banks.now scan)) }
-    ensures { take width parts.new ≡ resetBits (membersIn words.now banks.now scan) [] }
+    requires { (width ≤ length parts.old) × (width ≡ length (members_in words.now banks.now scan)) }
+    ensures { take width parts.new ≡ reset_bits (members_in words.now banks.now scan) [] }
 {
     let mut left = wide(width);
     let mut c = first_member(words, banks, scan);
@@ -164,8 +164,8 @@ pub fn reset_value(
     scan: Scan,
     width: u32,
 ) -> Emitted
-    requires { (width ≤ length parts.old) × (width ≡ length (membersIn words.now banks.now scan)) }
-    ensures { WroteExprs exprs.old t (concatParts (resetBits (membersIn words.now banks.now scan) [])) (emitted result) exprs.new }
+    requires { (width ≤ length parts.old) × (width ≡ length (members_in words.now banks.now scan)) }
+    ensures { WroteExprs exprs.old t (concat_parts (reset_bits (members_in words.now banks.now scan) [])) (emitted result) exprs.new }
 {
     reset_bits(parts, words, banks, scan, width);
     concat_parts(exprs, t, parts, width)

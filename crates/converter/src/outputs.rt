@@ -1,6 +1,6 @@
 // The output ports: what is assigned to their signals, which have the ports' numbers.
-ghost use Rattle.netlist.specs.Fields.{portAt};
-ghost use Rattle.wires.specs.Wires.{wiresOf};
+ghost use Rattle.netlist.specs.Fields.{port_at};
+ghost use Rattle.wires.specs.Wires.{wires_of};
 ghost use Rattle.converter.specs.Emits.{EmitsPort, EmitsPorts};
 
 use crate::zeros::cut;
@@ -21,7 +21,7 @@ fn emit_output(
     words: &[u32],
     at: usize,
 ) -> Stated
-    ensures { EmitsPort exprs.old stmts.old parts.old t (wiresOf wires.now places.now) p (portAt words.now at) result exprs.new stmts.new }
+    ensures { EmitsPort exprs.old stmts.old parts.old t (wires_of wires.now places.now) p (port_at words.now at) result exprs.new stmts.new }
 {
     if field(words, at, 0) != 1 {
         return Stated::Done(t);
@@ -59,7 +59,7 @@ pub fn emit_outputs(
     at: usize,
     n: u32,
 ) -> Stated
-    ensures { EmitsPorts exprs.old stmts.old parts.old t (wiresOf wires.now places.now) words.now at n result exprs.new stmts.new }
+    ensures { EmitsPorts exprs.old stmts.old parts.old t (wires_of wires.now places.now) words.now at n result exprs.new stmts.new }
 {
     let mut now = t;
     let mut place = at;

@@ -1,5 +1,5 @@
 // The signals of ports and the wires that they hold.
-ghost use Rattle.netlist.specs.Fields.{portAt};
+ghost use Rattle.netlist.specs.Fields.{port_at};
 ghost use Rattle.converter.specs.Reserves.{ReservesPort, ReservesPorts};
 
 use crate::scalar::{reserve_vector, undeclared};
@@ -16,7 +16,7 @@ fn reserve_port(
     words: &[u32],
     at: usize,
 ) -> Stated
-    ensures { ReservesPort signals.old wires.old places.old t p (portAt words.now at) result signals.new wires.new places.new }
+    ensures { ReservesPort signals.old wires.old places.old t p (port_at words.now at) result signals.new wires.new places.new }
 {
     let width = field(words, at, 1);
     if field(words, at, 0) == 1 {

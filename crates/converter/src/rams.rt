@@ -1,6 +1,6 @@
 // The RAMs: their addresses are read here, and works are lent as far as they are needed.
-ghost use Rattle.netlist.specs.Fields.{blockRamAt, distributedRamAt};
-ghost use Rattle.wires.specs.Wires.{wiresOf};
+ghost use Rattle.netlist.specs.Fields.{block_ram_at, distributed_ram_at};
+ghost use Rattle.wires.specs.Wires.{wires_of};
 ghost use Rattle.recorder.specs.Lists.{lists};
 ghost use Rattle.converter.specs.Emits.{EmitsCell, EmitsDistributed};
 
@@ -28,7 +28,7 @@ pub fn block_ram_cell(
     words: &[u32],
     at: usize,
 ) -> Stated
-    ensures { EmitsCell (lists signals.old exprs.old stmts.old) parts.old values.old seen.old t (wiresOf wires.now places.now) constants owner (blockRamAt words.now at) result (lists signals.new exprs.new stmts.new) seen.new }
+    ensures { EmitsCell (lists signals.old exprs.old stmts.old) parts.old values.old seen.old t (wires_of wires.now places.now) constants owner (block_ram_at words.now at) result (lists signals.new exprs.new stmts.new) seen.new }
 {
     let written = address(words, at, 4);
     let read = address(words, at, 20);
@@ -70,7 +70,7 @@ pub fn distributed_ram_cell(
     words: &[u32],
     at: usize,
 ) -> Stated
-    ensures { EmitsDistributed (lists signals.old exprs.old stmts.old) seen.old t (wiresOf wires.now places.now) constants owner (distributedRamAt words.now at) result (lists signals.new exprs.new stmts.new) seen.new }
+    ensures { EmitsDistributed (lists signals.old exprs.old stmts.old) seen.old t (wires_of wires.now places.now) constants owner (distributed_ram_at words.now at) result (lists signals.new exprs.new stmts.new) seen.new }
 {
     if field(words, at, 21) == 1 {
         return Stated::Refused(Refusal::UnsupportedTrueDualPortMemory(wide(owner)));

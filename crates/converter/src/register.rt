@@ -1,14 +1,14 @@
 // The registers of banks.
 ghost use Rattle.std.specs.Prelude.{◌≡◌, length, ◌≤◌};
-ghost use Rattle.wires.specs.Wires.{wiresOf};
-ghost use Rattle.converter.specs.Members.{membersIn};
-ghost use Rattle.netlist.specs.FieldForms.{resetPresence};
-ghost use Rattle.recorder.specs.Lists.{WroteExprs, emitted, WroteStmts, resetOf, stated};
-ghost use Rattle.converter.specs.Banked.{flopAt};
-ghost use Rattle.behaviour.specs.Banks.{asyncReset};
+ghost use Rattle.wires.specs.Wires.{wires_of};
+ghost use Rattle.converter.specs.Members.{members_in};
+ghost use Rattle.netlist.specs.FieldForms.{reset_presence};
+ghost use Rattle.recorder.specs.Lists.{WroteExprs, emitted, WroteStmts, reset_of, stated};
+ghost use Rattle.converter.specs.Banked.{flop_at};
+ghost use Rattle.behaviour.specs.Banks.{async_reset};
 ghost use Rattle.cells.specs.Answers.{changed};
-ghost use Rattle.lowering.specs.Emit.{bankReset};
-ghost use Rattle.converter.specs.BankEmits.{resetting, unset, dropped, clockBank, EmitsBank, EmitsBanks};
+ghost use Rattle.lowering.specs.Emit.{bank_reset};
+ghost use Rattle.converter.specs.BankEmits.{resetting, unset, dropped, clock_bank, EmitsBank, EmitsBanks};
 
 use crate::members::{Scan, count_members, first_member};
 use crate::next::{next_value, reset_value};
@@ -30,7 +30,7 @@ pub enum Resetting {
 
 // The asynchronous reset of the flip-flop at an index.
 fn async_reset(words: &[u32], at: usize) -> OptionalReset
-    ensures { resetPresence result ≡ asyncReset (flopAt words.now at) }
+    ensures { reset_presence result ≡ async_reset (flop_at words.now at) }
 {
     let reset = optional_reset(words, at, 8);
     let OptionalReset::Present(r) = reset else {
@@ -75,8 +75,8 @@ fn bank_reset(
     width: u32,
     reset: OptionalReset,
 ) -> Resetting
-    requires { (width ≤ length parts.old) × (width ≡ length (membersIn words.now banks.now scan)) }
-    ensures { WroteExprs exprs.old t (bankReset (wiresOf wires.now places.now) constants (resetPresence reset) (membersIn words.now banks.now scan)) (resetting result) exprs.new }
+    requires { (width ≤ length parts.old) × (width ≡ length (members_in words.now banks.now scan)) }
+    ensures { WroteExprs exprs.old t (bank_reset (wires_of wires.now places.now) constants (reset_presence reset) (members_in words.now banks.now scan)) (resetting result) exprs.new }
 {
     let OptionalReset::Present(x) = reset else {
         return Resetting::Done(AsyncReset::Absent, t);
@@ -106,7 +106,7 @@ fn clock_bank(
     next: ExprId,
     reset: AsyncReset,
 ) -> Stated
-    ensures { WroteStmts stmts.old t (clockBank (wiresOf wires.now places.now) constants (flopAt words.now at) target.0 next.0 (resetOf reset)) (stated result) stmts.new }
+    ensures { WroteStmts stmts.old t (clock_bank (wires_of wires.now places.now) constants (flop_at words.now at) target.0 next.0 (reset_of reset)) (stated result) stmts.new }
 {
     let edge = field(words, at, 4);
     match bit_signal(wires, places, constants, bit_at(words, at, 3)) {
@@ -137,7 +137,7 @@ fn emit_flip_flop_bank(
     banks: &[u32],
     scan: Scan,
 ) -> Stated
-    ensures { EmitsBank exprs.old stmts.old parts.old wires.now places.now t constants (membersIn words.now banks.now scan) result exprs.new stmts.new }
+    ensures { EmitsBank exprs.old stmts.old parts.old wires.now places.now t constants (members_in words.now banks.now scan) result exprs.new stmts.new }
 {
     let leader = first_member(words, banks, scan);
     let at = leader.place;

@@ -1,5 +1,5 @@
 // The signals of cells and the wires that they hold.
-ghost use Rattle.netlist.specs.Fields.{cell_at, pllAt, blockRamAt};
+ghost use Rattle.netlist.specs.Fields.{cell_at, pll_at, block_ram_at};
 ghost use Rattle.converter.specs.Reserves.{ReservesCell, ReservesCells, ReservesLate};
 
 use crate::scalar::{reserve_absent, reserve_scalar, reserve_scalars, reserve_vector};
@@ -17,7 +17,7 @@ fn reserve_pll(
     words: &[u32],
     at: usize,
 ) -> Stated
-    ensures { ReservesCell signals.old wires.old places.old t owner (pllAt words.now at) result signals.new wires.new places.new }
+    ensures { ReservesCell signals.old wires.old places.old t owner (pll_at words.now at) result signals.new wires.new places.new }
 {
     let first = ahead(words, at, 2);
     let r = reserve_absent(signals, wires, places, t, 12, owner, words, first, 3);
@@ -39,7 +39,7 @@ fn reserve_block_ram(
     words: &[u32],
     at: usize,
 ) -> Stated
-    ensures { ReservesCell signals.old wires.old places.old t owner (blockRamAt words.now at) result signals.new wires.new places.new }
+    ensures { ReservesCell signals.old wires.old places.old t owner (block_ram_at words.now at) result signals.new wires.new places.new }
 {
     let width = field(words, at, 2);
     let first = ahead(words, at, 43 + wide(width));

@@ -1,7 +1,7 @@
 // A signal for a wire, for each of several wires, or for all of them.
 ghost use Rattle.std.specs.Prelude.{◌≡◌};
-ghost use Rattle.netlist.specs.Fields.{wiresAt};
-ghost use Rattle.converter.specs.Tables.{heldBits, ReservesScalar, undeclaredOf};
+ghost use Rattle.netlist.specs.Fields.{wires_at};
+ghost use Rattle.converter.specs.Tables.{held_bits, ReservesScalar, undeclared_of};
 ghost use Rattle.converter.specs.Reserves.{ReservesVector, ReservesScalars, ReservesUnless, ReservesAbsent};
 
 use crate::insert::{Inserted, insert_bits, insert_wire, not_inserted};
@@ -10,7 +10,7 @@ use recorder::{Declared, Stated, Tapes, builder};
 
 // A refusal handed on.
 pub fn undeclared(r: Declared) -> Stated
-    ensures { result ≡ undeclaredOf r }
+    ensures { result ≡ undeclared_of r }
 {
     match r {
         Declared::Done(_, t) => Stated::Done(t),
@@ -54,7 +54,7 @@ pub fn reserve_vector(
     kind: u32,
     n: u32,
 ) -> Stated
-    ensures { ReservesVector signals.old wires.old places.old t label owner (heldBits words.now kind at n) n result signals.new wires.new places.new }
+    ensures { ReservesVector signals.old wires.old places.old t label owner (held_bits words.now kind at n) n result signals.new wires.new places.new }
 {
     let d = builder::signal(signals, t, label, n, owner);
     let Declared::Done(s, next) = d else {
@@ -79,7 +79,7 @@ pub fn reserve_scalars(
     at: usize,
     n: u32,
 ) -> Stated
-    ensures { ReservesScalars signals.old wires.old places.old t label owner (wiresAt words.now at n) result signals.new wires.new places.new }
+    ensures { ReservesScalars signals.old wires.old places.old t label owner (wires_at words.now at n) result signals.new wires.new places.new }
 {
     let mut now = t;
     let mut i = 0;
@@ -125,7 +125,7 @@ pub fn reserve_absent(
     at: usize,
     n: u32,
 ) -> Stated
-    ensures { ReservesAbsent signals.old wires.old places.old t label owner (wiresAt words.now at n) result signals.new wires.new places.new }
+    ensures { ReservesAbsent signals.old wires.old places.old t label owner (wires_at words.now at n) result signals.new wires.new places.new }
 {
     let mut now = t;
     let mut i = 0;

@@ -2,9 +2,9 @@
 ghost use Rattle.std.specs.Prelude.{◌≡◌};
 ghost use Rattle.recorder.specs.Lists.{lists};
 ghost use Rattle.lowering.specs.Lower.{start};
-ghost use Rattle.wires.specs.Wires.{wiresOf};
+ghost use Rattle.wires.specs.Wires.{wires_of};
 ghost use Rattle.converter.specs.Emits.{EmitsAll};
-ghost use Rattle.converter.specs.Steps.{ReservesNetlist, EmitsRest, EmitsNetlist, RecordsNetlist, unstartedOf};
+ghost use Rattle.converter.specs.Steps.{ReservesNetlist, EmitsRest, EmitsNetlist, RecordsNetlist, unstarted_of};
 
 use crate::WORK;
 use crate::bank::reserve_flip_flop_banks;
@@ -110,7 +110,7 @@ fn emit_rest(
 }
 
 fn unstarted(r: Started) -> Stated
-    ensures { result ≡ unstartedOf r }
+    ensures { result ≡ unstarted_of r }
 {
     match r {
         Started::Done(_, t) => Stated::Done(t),
@@ -133,7 +133,7 @@ fn emit_shared_cells(
     layout: Layout,
     shared: u32,
 ) -> Stated
-    ensures { EmitsAll (lists signals.old exprs.old stmts.old) parts.old values.old t (wiresOf wires.now places.now) constants words.now layout shared result (lists signals.new exprs.new stmts.new) }
+    ensures { EmitsAll (lists signals.old exprs.old stmts.old) parts.old values.old t (wires_of wires.now places.now) constants words.now layout shared result (lists signals.new exprs.new stmts.new) }
 {
     let mut table = [0u32; WORK];
     let n = cut(&table, wide(shared));

@@ -1,7 +1,7 @@
 // Lists and works of zeros.
 ghost use Rattle.std.specs.Prelude.{◌≡◌, [], ◌∷◌, min, length};
 ghost use Rattle.recorder.specs.Words.{zeroed};
-ghost use Rattle.converter.specs.Entry.{short, anyShort, ZerosTwo, ZerosThree, ZerosFive};
+ghost use Rattle.converter.specs.Entry.{short, any_short, ZerosTwo, ZerosThree, ZerosFive};
 
 use crate::WORK;
 use recorder::words::zero_words;
@@ -43,7 +43,7 @@ fn is_short(work: &[u32]) -> bool
 
 // Whether one of the works has fewer words than lowering needs.
 pub fn short_work(a: &[u32], b: &[u32], c: &[u32], d: &[u32], e: &[u32]) -> bool
-    ensures { result ≡ anyShort (length a.now ∷ length b.now ∷ length c.now ∷ length d.now ∷ length e.now ∷ []) }
+    ensures { result ≡ any_short (length a.now ∷ length b.now ∷ length c.now ∷ length d.now ∷ length e.now ∷ []) }
 {
     if is_short(a) {
         return true;

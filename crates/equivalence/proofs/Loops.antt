@@ -13,26 +13,26 @@ use lib.Dec.{eqb}
 use lib.ListN.{length}
 use borrow.Author.Tests.{eqb-true}
 use Rattle.bits.specs.Bits.{pick}
-use Rattle.settle.specs.Ground.{Grounded, ground, grounded→no-loop}
+use Rattle.settle.specs.Ground.{Grounded, ground, grounded→no_loop}
 use Rattle.settle.specs.Loop.{Reads, Under, DepsUnder, NoLoops, LowestOnLoop}
 use Rattle.netlist.specs.declared.Limits.{Limits}
 use Rattle.netlist.specs.Netlist.{Netlist}
 use Rattle.recorder.specs.Record.{Stmt, Stmt.assign, Stmt.reg, Model}
 use Rattle.behaviour.specs.Behaviour.{Depends, NoWireLoop}
-use Rattle.behaviour.proofs.Settled.{wires-grounded}
+use Rattle.behaviour.proofs.Settled.{wires_grounded}
 use Rattle.wires.specs.Wires.{WireRef}
 use Rattle.simulation.specs.Wellformed.{or_else}
-use Rattle.simulation.specs.Tick.{target, given, assigns, readsAll, readsBy, depends, looped}
-use Rattle.simulation.proofs.Bounds.{reads-under}
-use Rattle.simulation.proofs.Settles.{looped-says}
-use Rattle.forms.specs.Lowered.{loweredModel, Lowered, Roomy}
-use Rattle.forms.specs.Dependent.{first_word, MayRead, a_word, a-wire}
-use Rattle.forms.proofs.Sounds.{lowered-sound, assigned-reads, assigned-under}
+use Rattle.simulation.specs.Tick.{target, given, assigns, reads_all, reads_by, depends, looped}
+use Rattle.simulation.proofs.Bounds.{reads_under}
+use Rattle.simulation.proofs.Settles.{looped_says}
+use Rattle.forms.specs.Lowered.{lowered_model, Lowered, Roomy}
+use Rattle.forms.specs.Dependent.{first_word, MayRead, a_word, a_wire}
+use Rattle.forms.proofs.Sounds.{lowered_sound, assigned_reads, assigned_under}
 
 -- what is given is assigned
-given-assign : (ts : List Stmt) (s e : ℕ) → given assigns ts s ≡ some e → Mem (assign s e) ts
-given-assign [] s e h = absurd (none-ne-some e h)
-given-assign (t ∷ ts) s e h = go t (eqb (target t) s) refl (given-assign ts s e) h
+given_assign : (ts : List Stmt) (s e : ℕ) → given assigns ts s ≡ some e → Mem (assign s e) ts
+given_assign [] s e h = absurd (none-ne-some e h)
+given_assign (t ∷ ts) s e h = go t (eqb (target t) s) refl (given_assign ts s e) h
   where
     go : (t : Stmt) (b : Bool) → eqb (target t) s ≡ b → (given assigns ts s ≡ some e → Mem (assign s e) ts) → pick b (or_else (assigns t) (given assigns ts s)) (given assigns ts s) ≡ some e → Mem (assign s e) (t ∷ ts)
     go t false q f k = there (f k)
@@ -45,7 +45,7 @@ given-assign (t ∷ ts) s e h = go t (eqb (target t) s) refl (given-assign ts s 
 
 module _ {shared : ℕ} {limits : Limits} {n : Netlist} (a : Lowered shared limits n) {widest : ℕ} (r : Roomy limits widest) where
   abbrev M : Model
-  M = loweredModel shared n
+  M = lowered_model shared n
 
   abbrev E : ℕ → ℕ → Type 0
   E = Reads (depends M)
@@ -53,38 +53,38 @@ module _ {shared : ℕ} {limits : Limits} {n : Netlist} (a : Lowered shared limi
   may_read : (x y : ℕ) → E x y → (MayRead n a.wires x y) × (x < first_word n)
   may_read x y k = go (given assigns M.stmts x) refl k
     where
-      go : (o : Option ℕ) → given assigns M.stmts x ≡ o → Mem y (readsBy (readsAll [] M.exprs) o) → MayRead n a.wires x y × (x < first_word n)
+      go : (o : Option ℕ) → given assigns M.stmts x ≡ o → Mem y (reads_by (reads_all [] M.exprs) o) → MayRead n a.wires x y × (x < first_word n)
       go none q m = absurd (not-nil m)
-      go (some e) q m = let h = given-assign M.stmts x e q in (assigned-reads a r x e h y m, assigned-under a r x e h)
+      go (some e) q m = let h = given_assign M.stmts x e q in (assigned_reads a r x e h y m, assigned_under a r x e h)
 
-  word-grounded : (y : ℕ) → first_word n ≤ y → Grounded E y
-  word-grounded y l = ground (λ z k. absurd (omega (arith, l, (may_read y z k).1)))
+  word_grounded : (y : ℕ) → first_word n ≤ y → Grounded E y
+  word_grounded y l = ground (λ z k. absurd (omega (arith, l, (may_read y z k).1)))
 
-  wire-grounded : {w : ℕ} → Grounded (Depends n) w → (q : WireRef) → a.wires w ≡ some q → Grounded E q.signal
-  wire-grounded (ground {x = w} h) q e = ground (λ y k. go y (may_read q.signal y k).0 (λ b d s z. wire-grounded (h b d) s z))
+  wire_grounded : {w : ℕ} → Grounded (Depends n) w → (q : WireRef) → a.wires w ≡ some q → Grounded E q.signal
+  wire_grounded (ground {x = w} h) q e = ground (λ y k. go y (may_read q.signal y k).0 (λ b d s z. wire_grounded (h b d) s z))
     where
       go : (y : ℕ) → MayRead n a.wires q.signal y → ((b : ℕ) → Depends n w b → (s : WireRef) → a.wires b ≡ some s → Grounded E s.signal) → Grounded E y
-      go y (a_word l) f = word-grounded y l
-      go y (a-wire b s z t d) f = subst (Grounded E) t (f b (d w q e refl) s z)
+      go y (a_word l) f = word_grounded y l
+      go y (a_wire b s z t d) f = subst (Grounded E) t (f b (d w q e refl) s z)
 
   module _ (loopless : NoWireLoop n) where
-    all-grounded : (x : ℕ) → Grounded E x
-    all-grounded x = ground (λ y k. go y (may_read x y k).0)
+    all_grounded : (x : ℕ) → Grounded E x
+    all_grounded x = ground (λ y k. go y (may_read x y k).0)
       where
         go : (y : ℕ) → MayRead n a.wires x y → Grounded E y
-        go y (a_word l) = word-grounded y l
-        go y (a-wire b s z t d) = subst (Grounded E) t (wire-grounded (wires-grounded n loopless b) s z)
+        go y (a_word l) = word_grounded y l
+        go y (a_wire b s z t d) = subst (Grounded E) t (wire_grounded (wires_grounded n loopless b) s z)
 
-    pub no-loops : NoLoops (length M.signals) (depends M)
-    no-loops = grounded→no-loop E (Under (length M.signals)) (λ x h. all-grounded x)
+    pub no_loops : NoLoops (length M.signals) (depends M)
+    no_loops = grounded→no_loop E (Under (length M.signals)) (λ x h. all_grounded x)
 
-    pub deps-under : DepsUnder (length M.signals) (depends M)
-    deps-under = reads-under widest M (lowered-sound a r)
+    pub deps_under : DepsUnder (length M.signals) (depends M)
+    deps_under = reads_under widest M (lowered_sound a r)
 
     -- 13 never comes
-    pub never-looped : looped M ≡ none
-    never-looped = go (looped M) (looped-says M [] deps-under)
+    pub never_looped : looped M ≡ none
+    never_looped = go (looped M) (looped_says M [] deps_under)
       where
         go : (o : Option ℕ) → LowestOnLoop (length M.signals) (depends M) o → o ≡ none
         go none h = refl
-        go (some x) h = absurd (no-loops x h.0 h.1)
+        go (some x) h = absurd (no_loops x h.0 h.1)

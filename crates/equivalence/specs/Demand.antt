@@ -4,43 +4,43 @@ use Rattle.std.proofs.Math.Option.{Option, none, some}
 use Rattle.bits.specs.Bits.{pick, Bits, digit}
 use Rattle.netlist.specs.declared.Limits.{Limits}
 use Rattle.netlist.specs.Netlist.{Netlist}
-use Rattle.netlist.specs.Reader.{netlist, readWords}
+use Rattle.netlist.specs.Reader.{netlist, read_words}
 use Rattle.recorder.specs.declared.Tapes.{Tapes}
 use Rattle.recorder.specs.Record.{Model}
 use Rattle.recorder.specs.Lists.{Lists, lists}
-use Rattle.recorder.specs.Read.{modelOf}
-use Rattle.recorder.specs.Words.{rawOf}
-use Rattle.lowering.specs.Lower.{Accepted, lowerSharing}
+use Rattle.recorder.specs.Read.{model_of}
+use Rattle.recorder.specs.Words.{raw_of}
+use Rattle.lowering.specs.Lower.{Accepted, lower_sharing}
 use Rattle.behaviour.specs.Behaviour.{Fired, Tick, State, start, tick, accepts, NoWireLoop}
-use Rattle.simulation.specs.Run.{exprBits, signalBytes, tickBits, short, noBit, wrongCount, wrongFired, first_of}
-use Rattle.simulation.specs.Shown.{Entry, ByModel, shownByModel, bytesAfterAll}
-use Rattle.forms.specs.Lowered.{loweredModel, Roomy}
+use Rattle.simulation.specs.Run.{expr_bits, signal_bytes, tick_bits, short, no_bit, wrong_count, wrong_fired, first_of}
+use Rattle.simulation.specs.Shown.{Entry, ByModel, shown_by_model, bytes_after_all}
+use Rattle.forms.specs.Lowered.{lowered_model, Roomy}
 
 -- THE MODEL
 
 -- a run is lent just the words that lowering used
-abbrev pub usedLists : Lists → Tapes → Lists
-usedLists l t = lists (take t.signals.used l.signals) (take t.exprs.used l.exprs) (take t.stmts.used l.stmts)
+abbrev pub used_lists : Lists → Tapes → Lists
+used_lists l t = lists (take t.signals.used l.signals) (take t.exprs.used l.exprs) (take t.stmts.used l.stmts)
 
 -- THE CELLS
 
-abbrev pub firedBy : Option (ℕ × ℕ) → Option Fired
-firedBy none = none
-firedBy (some f) = some (record { signal = f.0; edge = f.1 })
+abbrev pub fired_by : Option (ℕ × ℕ) → Option Fired
+fired_by none = none
+fired_by (some f) = some (record { signal = f.0; edge = f.1 })
 
-abbrev pub tickBy : Entry → Tick
-tickBy e = record { bits = e.ticks; fired = firedBy e.fired }
+abbrev pub tick_by : Entry → Tick
+tick_by e = record { bits = e.ticks; fired = fired_by e.fired }
 
 -- the works are as long as the model asks
 abbrev pub enough : Model → Entry → Bool
-enough M e = leb (exprBits M) (length e.workBits) && (leb (length M.exprs) (length e.workExprs) && leb (length M.signals) (length e.workSignals))
+enough M e = leb (expr_bits M) (length e.work_bits) && (leb (length M.exprs) (length e.work_exprs) && leb (length M.signals) (length e.work_signals))
 
 -- the tick is made; the model is the netlist's that shares its cells' reads of so many wires
 abbrev pub made : ℕ → Netlist → Entry → Bool
-made shared n e = enough (loweredModel shared n) e && accepts n (tickBy e)
+made shared n e = enough (lowered_model shared n) e && accepts n (tick_by e)
 
 abbrev pub after : ℕ → Netlist → State → Entry → State
-after shared n s e = pick (made shared n e) (tick n s (tickBy e)) s
+after shared n s e = pick (made shared n e) (tick n s (tick_by e)) s
 
 pub record ByCells : Type 0 where
   pub made : Bool
@@ -49,9 +49,9 @@ pub record ByCells : Type 0 where
 abbrev pub bytes_of : List Bits → List (List ℕ)
 bytes_of outputs = map (λ (bits : Bits). map digit bits) outputs
 
-abbrev pub shownByCells : ℕ → Netlist → State → List Entry → List ByCells
-shownByCells shared n s [] = []
-shownByCells shared n s (e ∷ es) = record { made = made shared n e; outputs = bytes_of (after shared n s e).outputs } ∷ shownByCells shared n (after shared n s e) es
+abbrev pub shown_by_cells : ℕ → Netlist → State → List Entry → List ByCells
+shown_by_cells shared n s [] = []
+shown_by_cells shared n s (e ∷ es) = record { made = made shared n e; outputs = bytes_of (after shared n s e).outputs } ∷ shown_by_cells shared n (after shared n s e) es
 
 -- THE SAME: the outputs, and the ticks that are made; a refusal is 1 or 14
 
@@ -67,21 +67,21 @@ AllAgree (m ∷ ms) (c ∷ cs) = Agrees m c × AllAgree ms cs
 
 -- WHAT EACH CALL ANSWERS: a short work (1), or tick bits or a fired edge that do not fit (14). The model and its signal bytes never refuse (12, 13, 1 and 14)
 
-abbrev pub entryCauses : Model → Entry → List (Option (ℕ × ℕ))
-entryCauses M e =
-    short (exprBits M) e.workBits
-    ∷ short (length M.exprs) e.workExprs
-    ∷ short (length M.signals) e.workSignals
-    ∷ wrongCount (tickBits M) e.ticks
-    ∷ noBit 0 e.ticks
-    ∷ wrongFired (length M.signals) e.fired
+abbrev pub entry_causes : Model → Entry → List (Option (ℕ × ℕ))
+entry_causes M e =
+    short (expr_bits M) e.work_bits
+    ∷ short (length M.exprs) e.work_exprs
+    ∷ short (length M.signals) e.work_signals
+    ∷ wrong_count (tick_bits M) e.ticks
+    ∷ no_bit 0 e.ticks
+    ∷ wrong_fired (length M.signals) e.fired
     ∷ []
 
-abbrev pub answerTo : Model → Entry → Option (ℕ × ℕ)
-answerTo M e = first_of (entryCauses M e)
+abbrev pub answer_to : Model → Entry → Option (ℕ × ℕ)
+answer_to M e = first_of (entry_causes M e)
 
 abbrev pub Answered : Model → List Entry → List ByModel → Type 0
-Answered M entries shown = map (λ (m : ByModel). m.answer) shown ≡ map (answerTo M) entries
+Answered M entries shown = map (λ (m : ByModel). m.answer) shown ≡ map (answer_to M) entries
 
 -- FROM THE START: at least k bytes, the first k of them zeros; behind them anything
 abbrev pub Fresh : ℕ → List ℕ → Type 0
@@ -92,16 +92,16 @@ Fresh k bytes = take k bytes ≡ replicate k 0
 abbrev pub Always : (ℕ → Netlist → List Entry → List ByModel → Type 0) → Type 0
 Always P =
     (shared : ℕ) (limits : Limits) (widest : ℕ) → Roomy limits widest
-    → (words : List ℕ) (s e t : ℕ) (tapes : Tapes) (l : Lists) → lowerSharing shared limits words s e t ≡ record { answer = Accepted tapes; lists = l }
-    → (n : Netlist) → readWords limits words ≡ netlist n → NoWireLoop n
-    → (bytes : List ℕ) → Fresh (signalBytes (loweredModel shared n)) bytes
-    → (entries : List Entry) → P shared n entries (shownByModel widest (usedLists l tapes) (loweredModel shared n).signals bytes entries)
+    → (words : List ℕ) (s e t : ℕ) (tapes : Tapes) (l : Lists) → lower_sharing shared limits words s e t ≡ record { answer = Accepted tapes; lists = l }
+    → (n : Netlist) → read_words limits words ≡ netlist n → NoWireLoop n
+    → (bytes : List ℕ) → Fresh (signal_bytes (lowered_model shared n)) bytes
+    → (entries : List Entry) → P shared n entries (shown_by_model widest (used_lists l tapes) (lowered_model shared n).signals bytes entries)
 
 abbrev pub Demand3 : Type 0
-Demand3 = Always (λ (shared : ℕ) (n : Netlist) (entries : List Entry) (shown : List ByModel). AllAgree shown (shownByCells shared n (start n) entries))
+Demand3 = Always (λ (shared : ℕ) (n : Netlist) (entries : List Entry) (shown : List ByModel). AllAgree shown (shown_by_cells shared n (start n) entries))
 
 abbrev pub AllAnswered : Type 0
-AllAnswered = Always (λ (shared : ℕ) (n : Netlist) (entries : List Entry) (shown : List ByModel). Answered (loweredModel shared n) entries shown)
+AllAnswered = Always (λ (shared : ℕ) (n : Netlist) (entries : List Entry) (shown : List ByModel). Answered (lowered_model shared n) entries shown)
 
 -- SHARED OR NOT: two models of one netlist without a loop, each in its own lists, that share the reads of different numbers of wires, with
 -- works long enough for both: after every tick they show the same outputs
@@ -109,22 +109,22 @@ abbrev pub AllEnough : Model → List Entry → Type 0
 AllEnough M [] = Unit {0}
 AllEnough M (e ∷ es) = (enough M e ≡ true) × AllEnough M es
 
-abbrev pub outputsShown : List ByModel → List (List (List ℕ))
-outputsShown shown = map (λ (m : ByModel). m.outputs) shown
+abbrev pub outputs_shown : List ByModel → List (List (List ℕ))
+outputs_shown shown = map (λ (m : ByModel). m.outputs) shown
 
 abbrev pub SharingShowsTheSame : Type 0
 SharingShowsTheSame =
     (a b : ℕ) (limits : Limits) (widest : ℕ) → Roomy limits widest → (words : List ℕ)
-    → (s e t : ℕ) (tapes : Tapes) (l : Lists) → lowerSharing a limits words s e t ≡ record { answer = Accepted tapes; lists = l }
-    → (s' e' t' : ℕ) (tapes' : Tapes) (l' : Lists) → lowerSharing b limits words s' e' t' ≡ record { answer = Accepted tapes'; lists = l' }
-    → (n : Netlist) → readWords limits words ≡ netlist n → NoWireLoop n
-    → (bytes bytes' : List ℕ) → Fresh (signalBytes (loweredModel a n)) bytes → Fresh (signalBytes (loweredModel b n)) bytes'
-    → (entries : List Entry) → AllEnough (loweredModel a n) entries → AllEnough (loweredModel b n) entries
-    → outputsShown (shownByModel widest (usedLists l tapes) (loweredModel a n).signals bytes entries)
-    ≡ outputsShown (shownByModel widest (usedLists l' tapes') (loweredModel b n).signals bytes' entries)
+    → (s e t : ℕ) (tapes : Tapes) (l : Lists) → lower_sharing a limits words s e t ≡ record { answer = Accepted tapes; lists = l }
+    → (s' e' t' : ℕ) (tapes' : Tapes) (l' : Lists) → lower_sharing b limits words s' e' t' ≡ record { answer = Accepted tapes'; lists = l' }
+    → (n : Netlist) → read_words limits words ≡ netlist n → NoWireLoop n
+    → (bytes bytes' : List ℕ) → Fresh (signal_bytes (lowered_model a n)) bytes → Fresh (signal_bytes (lowered_model b n)) bytes'
+    → (entries : List Entry) → AllEnough (lowered_model a n) entries → AllEnough (lowered_model b n) entries
+    → outputs_shown (shown_by_model widest (used_lists l tapes) (lowered_model a n).signals bytes entries)
+    ≡ outputs_shown (shown_by_model widest (used_lists l' tapes') (lowered_model b n).signals bytes' entries)
 
 -- THE BYTES BEHIND: after a list of calls on any model they are the old ones
 abbrev pub BehindKept : Type 0
 BehindKept =
     (widest : ℕ) (l : Lists) (bytes : List ℕ) (entries : List Entry)
-    → let k = signalBytes (modelOf (rawOf l)) in drop k (bytesAfterAll widest l bytes entries) ≡ drop k bytes
+    → let k = signal_bytes (model_of (raw_of l)) in drop k (bytes_after_all widest l bytes entries) ≡ drop k bytes

@@ -14,5 +14,5 @@ pub record Settling (M : Model) : Type 0 where
   pub settled : IsSettled M old state
   pub fires : Firing
 
-abbrev pub tickOf : (M : Model) → Settling M → Tick
-tickOf M k = record { before = at [] k.state; next = at [] (commit M k.fires k.state); fires = k.fires; stmts = M.stmts }
+abbrev pub tick_of : (M : Model) → Settling M → Tick
+tick_of M k = record { before = at [] k.state; next = at [] (commit M k.fires k.state); fires = k.fires; stmts = M.stmts }

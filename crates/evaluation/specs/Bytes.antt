@@ -8,15 +8,15 @@ use Rattle.simulation.proofs.Flat.{Wide}
 abbrev pub part : List ℕ → ℕ → ℕ → List ℕ
 part l i n = take n (drop i l)
 
-abbrev pub sameBytes : List ℕ → List ℕ → Bool
-sameBytes [] [] = true
-sameBytes [] (c ∷ cs) = false
-sameBytes (b ∷ bs) [] = false
-sameBytes (b ∷ bs) (c ∷ cs) = eqb b c && sameBytes bs cs
+abbrev pub same_bytes : List ℕ → List ℕ → Bool
+same_bytes [] [] = true
+same_bytes [] (c ∷ cs) = false
+same_bytes (b ∷ bs) [] = false
+same_bytes (b ∷ bs) (c ∷ cs) = eqb b c && same_bytes bs cs
 
 -- a gate of two inputs by its kind, 4 and, 5 or, 6 xor; any other is the complement of the first
-abbrev pub gateOf : ℕ → Bool → Bool → Bool
-gateOf kind x y = pick (eqb kind 4) (x && y) (pick (eqb kind 5) (x || y) (pick (eqb kind 6) (differ x y) (not x)))
+abbrev pub gate_of : ℕ → Bool → Bool → Bool
+gate_of kind x y = pick (eqb kind 4) (x && y) (pick (eqb kind 5) (x || y) (pick (eqb kind 6) (differ x y) (not x)))
 
 -- bytes that begin with the values vs, which have the widths ws
 pub record Holds (ws : List ℕ) (vs : List Bits) (rest bytes : List ℕ) : Type 0 where

@@ -2,11 +2,11 @@
 use Rattle.std.specs.Prelude.{ℕ, ◌<◌, ◌≡◌, List, [], ◌∷◌, length, get_or}
 use Rattle.std.proofs.Math.Option.{none}
 use Rattle.bits.specs.Bits.{Bits}
-use Rattle.settle.specs.Table.{tabFrom}
+use Rattle.settle.specs.Table.{tab_from}
 use Rattle.recorder.specs.Record.{Expr, Model}
 use Rattle.recorder.specs.Record.{const, read, concat, not, and, or, xor, mux, eq, mul}
-use Rattle.recorder.specs.Evaluate.{Signals, evalExpr}
-use Rattle.simulation.specs.Tick.{given, assigns, become, valuesIn, settle, looped}
+use Rattle.recorder.specs.Evaluate.{Signals, eval_expr}
+use Rattle.simulation.specs.Tick.{given, assigns, become, values_in, settle, looped}
 use Rattle.simulation.specs.Settled.{IsSettled}
 use Rattle.simulation.specs.Sound.{Sound}
 
@@ -16,15 +16,15 @@ assigned m old vs s = become vs (given assigns m.stmts s) (get_or old s [])
 
 -- all of them as a state
 abbrev pub stored : Model → List Bits → List Bits → List Bits
-stored m old vs = tabFrom (assigned m old vs) 0 (length m.signals)
+stored m old vs = tab_from (assigned m old vs) 0 (length m.signals)
 
 -- expression number e
-abbrev pub exprAt : Model → ℕ → Expr
-exprAt m e = get_or m.exprs e (const 0 0)
+abbrev pub expr_at : Model → ℕ → Expr
+expr_at m e = get_or m.exprs e (const 0 0)
 
 -- what expression e means over the values vs
 abbrev pub computed : Model → List Bits → List Bits → ℕ → Bits
-computed m old vs e = evalExpr (assigned m old vs) vs (exprAt m e)
+computed m old vs e = eval_expr (assigned m old vs) vs (expr_at m e)
 
 -- it has that value
 abbrev pub Right : Model → List Bits → List Bits → ℕ → Type 0
@@ -36,7 +36,7 @@ pub record Consistent (m : Model) (old vs : List Bits) : Type 0 where
 
 -- such values are those of the state that they make, it is settled, and without a loop it is what settling gives
 pub record Settling (m : Model) (old vs : List Bits) : Type 0 where
-  pub values : valuesIn m (stored m old vs) ≡ vs
+  pub values : values_in m (stored m old vs) ≡ vs
   pub settled : IsSettled m old (stored m old vs)
   pub settling : looped m ≡ none → settle m old ≡ stored m old vs
 
@@ -59,14 +59,14 @@ operands (eq a b) = a ∷ b ∷ []
 operands (mul a b) = a ∷ b ∷ []
 
 -- the signal that it reads
-abbrev pub signalsOf : Expr → List ℕ
-signalsOf (const w v) = []
-signalsOf (read w s l) = s ∷ []
-signalsOf (concat w ps) = []
-signalsOf (not a) = []
-signalsOf (and a b) = []
-signalsOf (or a b) = []
-signalsOf (xor a b) = []
-signalsOf (mux w s t f) = []
-signalsOf (eq a b) = []
-signalsOf (mul a b) = []
+abbrev pub signals_of : Expr → List ℕ
+signals_of (const w v) = []
+signals_of (read w s l) = s ∷ []
+signals_of (concat w ps) = []
+signals_of (not a) = []
+signals_of (and a b) = []
+signals_of (or a b) = []
+signals_of (xor a b) = []
+signals_of (mux w s t f) = []
+signals_of (eq a b) = []
+signals_of (mul a b) = []

@@ -3,35 +3,35 @@
 use Rattle.std.specs.Prelude.{ℕ, ◌+◌, ◌≤◌, ◌<◌, ◌≡◌, Bool, List, [], ◌⊎◌, eqb, length, get_or}
 use Rattle.std.proofs.Math.Option.{Option, none, some}
 use Rattle.bits.specs.Bits.{pick, Bits}
-use Rattle.settle.specs.Table.{at as signalsAt}
+use Rattle.settle.specs.Table.{at as signals_at}
 use Rattle.recorder.specs.Record.{RegReset, Stmt, assign, reg}
-use Rattle.recorder.specs.Read.{readStmt}
+use Rattle.recorder.specs.Read.{read_stmt}
 use Rattle.recorder.specs.Words.{EachReads}
 use Rattle.recorder.specs.Evaluate.{Signals}
-use Rattle.simulation.specs.Wellformed.{count_of, stmtFits}
+use Rattle.simulation.specs.Wellformed.{count_of, stmt_fits}
 use Rattle.simulation.specs.Tick.{target, assigns, asserted, Firing, loads}
 use Rattle.simulation.specs.Sound.{AllFrom, on}
-use Rattle.simulation.specs.Index.{recordsIn, widthsIn, start_of, stmtsIn}
+use Rattle.simulation.specs.Index.{records_in, widths_in, start_of, stmts_in}
 use Rattle.simulation.proofs.Stores.{store, stores}
 use Rattle.evaluation.specs.Bytes.{Holds}
 
 -- THE STATEMENTS
 
 -- statement k of a list of words
-abbrev pub stmtIn : List ℕ → ℕ → Stmt
-stmtIn stmts k = get_or (stmtsIn stmts) k (assign 0 0)
+abbrev pub stmt_in : List ℕ → ℕ → Stmt
+stmt_in stmts k = get_or (stmts_in stmts) k (assign 0 0)
 
 -- statements that can be read and fit the signals, at most one on each
 pub record Stated (signals stmts : List ℕ) : Type 0 where
-  pub expr-widths : List ℕ
-  pub readable : EachReads readStmt (recordsIn stmts)
-  pub fit : AllFrom (λ (n : ℕ). stmtFits (widthsIn signals) expr-widths) 0 (stmtsIn stmts)
-  pub one_each : (i : ℕ) → i < length (recordsIn signals) → count_of (on i) (stmtsIn stmts) ≤ 1
+  pub expr_widths_lem : List ℕ
+  pub readable : EachReads read_stmt (records_in stmts)
+  pub fit : AllFrom (λ (n : ℕ). stmt_fits (widths_in signals) expr_widths_lem) 0 (stmts_in stmts)
+  pub one_each : (i : ℕ) → i < length (records_in signals) → count_of (on i) (stmts_in stmts) ≤ 1
 
 -- a record of a list begins at a word
 pub record Begins (list : List ℕ) (word : ℕ) : Type 0 where
   pub number : ℕ
-  pub there : number < length (recordsIn list)
+  pub there : number < length (records_in list)
   pub begins : word ≡ start_of list number
 
 -- CONTROLS: a reset or an enable in a register's record is 0, or 1, its signal, the level that asserts it
@@ -39,30 +39,30 @@ pub record Begins (list : List ℕ) (word : ℕ) : Type 0 where
 -- one that is given has a signal of one bit
 pub record Control (signals stmts : List ℕ) (word : ℕ) : Type 0 where
   pub inside : word < length stmts
-  pub one_bit : (get_or stmts word 0 ≡ 0 → ⊥) → (word + 2 < length stmts) × (get_or stmts (word + 1) 0 < length (recordsIn signals)) × (get_or (widthsIn signals) (get_or stmts (word + 1) 0) 0 ≡ 1)
+  pub one_bit : (get_or stmts word 0 ≡ 0 → ⊥) → (word + 2 < length stmts) × (get_or stmts (word + 1) 0 < length (records_in signals)) × (get_or (widths_in signals) (get_or stmts (word + 1) 0) 0 ≡ 1)
 
 -- it is asserted; `absent` where none is given
-abbrev pub controlAt : Signals → List ℕ → ℕ → Bool → Bool
-controlAt v stmts word absent = pick (eqb (get_or stmts word 0) 0) absent (asserted v (get_or stmts (word + 1) 0) (get_or stmts (word + 2) 0))
+abbrev pub control_at : Signals → List ℕ → ℕ → Bool → Bool
+control_at v stmts word absent = pick (eqb (get_or stmts word 0) 0) absent (asserted v (get_or stmts (word + 1) 0) (get_or stmts (word + 2) 0))
 
 -- the word of a register's enable, which stands behind its reset
-abbrev pub enableAt : List ℕ → ℕ → ℕ
-enableAt stmts word = pick (eqb (get_or stmts (word + 6) 0) 0) (word + 7) (word + 10)
+abbrev pub enable_at : List ℕ → ℕ → ℕ
+enable_at stmts word = pick (eqb (get_or stmts (word + 6) 0) 0) (word + 7) (word + 10)
 
 -- MARKS: a register's is 1 if it loads its next value, 2 if it loads its reset's, anything else if it keeps its own
 
-abbrev pub resetValue : Option RegReset → Option ℕ
-resetValue none = none
-resetValue (some r) = some r.value
+abbrev pub reset_value : Option RegReset → Option ℕ
+reset_value none = none
+reset_value (some r) = some r.value
 
 -- what a statement loads by a mark
 abbrev pub marked : ℕ → Stmt → Option ℕ
 marked mark (assign t e) = none
-marked mark (reg t n c d r e) = pick (eqb mark 1) (some n) (pick (eqb mark 2) (resetValue r) none)
+marked mark (reg t n c d r e) = pick (eqb mark 1) (some n) (pick (eqb mark 2) (reset_value r) none)
 
 -- each signal's mark stands by its number
-abbrev pub byMarks : List ℕ → Stmt → Option ℕ
-byMarks marks x = marked (get_or marks (target x) 0) x
+abbrev pub by_marks : List ℕ → Stmt → Option ℕ
+by_marks marks x = marked (get_or marks (target x) 0) x
 
 -- EXPRESSIONS THAT STATEMENTS NAME: what is assigned, a register's next value and its reset's
 
@@ -71,8 +71,8 @@ Names x e = (assigns x ≡ some e) ⊎ ((marked 1 x ≡ some e) ⊎ (marked 2 x 
 
 pub record Named (stmts : List ℕ) (e : ℕ) : Type 0 where
   pub number : ℕ
-  pub there : number < length (recordsIn stmts)
-  pub names : Names (stmtIn stmts number) e
+  pub there : number < length (records_in stmts)
+  pub names : Names (stmt_in stmts number) e
 
 -- values that agree on them
 abbrev pub SameNamed : List ℕ → List Bits → List Bits → Type 0
@@ -82,26 +82,26 @@ SameNamed stmts a b = (e : ℕ) → Named stmts e → get_or a e [] ≡ get_or b
 pub record Markable (stmts marks : List ℕ) : Type 0 where
   pub signals : List ℕ
   pub stated : Stated signals stmts
-  pub room : length (recordsIn signals) ≤ length marks
+  pub room : length (records_in signals) ≤ length marks
 
 module _ (signals stmts : List ℕ) (fires : Firing) (bytes : List ℕ) where
   -- the mark of statement k
   pub record MarkOf (k mark : ℕ) : Type 0 where
-    pub means : (t : List Bits) (behind : List ℕ) → Holds (widthsIn signals) t behind bytes → marked mark (stmtIn stmts k) ≡ loads fires (signalsAt [] t) (stmtIn stmts k)
+    pub means : (t : List Bits) (behind : List ℕ) → Holds (widths_in signals) t behind bytes → marked mark (stmt_in stmts k) ≡ loads fires (signals_at [] t) (stmt_in stmts k)
 
   -- it is noted, and the other signals' marks are kept
   pub record NotesOne (k : ℕ) (marks marks' : List ℕ) : Type 0 where
-    pub own : MarkOf k (get_or marks' (target (stmtIn stmts k)) 0)
-    pub others : (i : ℕ) → (i ≡ target (stmtIn stmts k) → ⊥) → get_or marks' i 0 ≡ get_or marks i 0
+    pub own : MarkOf k (get_or marks' (target (stmt_in stmts k)) 0)
+    pub others : (i : ℕ) → (i ≡ target (stmt_in stmts k) → ⊥) → get_or marks' i 0 ≡ get_or marks i 0
 
   -- the first n statements are noted
   pub record Noted (n : ℕ) (marks : List ℕ) : Type 0 where
-    pub noted : (k : ℕ) → k < n → MarkOf k (get_or marks (target (stmtIn stmts k)) 0)
+    pub noted : (k : ℕ) → k < n → MarkOf k (get_or marks (target (stmt_in stmts k)) 0)
 
 -- STORING: one statement after the other stores what it loads by the marks
 pub record StoresMarked (signals exprs stmts values marks bytes bytes' : List ℕ) : Type 0 where
-  pub stores-marked : (old vs : List Bits) (behind rest : List ℕ) → Holds (widthsIn signals) old behind bytes → Holds (widthsIn exprs) vs rest values → Holds (widthsIn signals) (stores (byMarks marks) vs (stmtsIn stmts) old) behind bytes'
+  pub stores_marked : (old vs : List Bits) (behind rest : List ℕ) → Holds (widths_in signals) old behind bytes → Holds (widths_in exprs) vs rest values → Holds (widths_in signals) (stores (by_marks marks) vs (stmts_in stmts) old) behind bytes'
 
 -- statement k alone
 pub record StoresLoad (signals exprs stmts values marks : List ℕ) (k : ℕ) (bytes bytes' : List ℕ) : Type 0 where
-  pub stores-load : (old vs : List Bits) (behind rest : List ℕ) → Holds (widthsIn signals) old behind bytes → Holds (widthsIn exprs) vs rest values → Holds (widthsIn signals) (store vs (byMarks marks (stmtIn stmts k)) (target (stmtIn stmts k)) old) behind bytes'
+  pub stores_load : (old vs : List Bits) (behind rest : List ℕ) → Holds (widths_in signals) old behind bytes → Holds (widths_in exprs) vs rest values → Holds (widths_in signals) (store vs (by_marks marks (stmt_in stmts k)) (target (stmt_in stmts k)) old) behind bytes'

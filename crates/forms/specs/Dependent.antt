@@ -12,4 +12,4 @@ first_word n = suc (suc (length (slots n)))
 
 pub data MayRead (n : Netlist) (m : Wires) (t y : ℕ) : Type 0 where
   a_word : first_word n ≤ y → MayRead n m t y
-  a-wire : (b : ℕ) (r : WireRef) → m b ≡ some r → r.signal ≡ y → ((v : ℕ) (q : WireRef) → m v ≡ some q → q.signal ≡ t → Depends n v b) → MayRead n m t y
+  a_wire : (b : ℕ) (r : WireRef) → m b ≡ some r → r.signal ≡ y → ((v : ℕ) (q : WireRef) → m v ≡ some q → q.signal ≡ t → Depends n v b) → MayRead n m t y

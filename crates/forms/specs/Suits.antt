@@ -4,16 +4,16 @@ use mathlib.Core.List.{List, [], ◌∷◌, ◌++◌, Memᴰ as Mem}
 use Rattle.std.proofs.Math.Option.{Option, none, some}
 use Rattle.netlist.specs.declared.Bit.{Bit}
 use Rattle.netlist.specs.declared.Bit.TheVariants.{Wire}
-use Rattle.netlist.specs.Netlist.{Port, SecondPort, Cell, lut4, pfumx, l6mux21, ccu2c, multiplier, flipFlop, blockRam, distributedRam, io, jtagg, pll}
+use Rattle.netlist.specs.Netlist.{Port, SecondPort, Cell, lut4, pfumx, l6mux21, ccu2c, multiplier, flip_flop, block_ram, distributed_ram, io, jtagg, pll}
 use Rattle.behaviour.specs.Banks.{Bank}
-use Rattle.behaviour.specs.Behaviour.{wiresOf}
+use Rattle.behaviour.specs.Behaviour.{wires_of}
 use Rattle.wires.specs.Wires.{WireRef, Wires}
 use Rattle.forms.specs.Typed.{None}
 
 -- y is the signal of a wire among these bits
 pub record From (m : Wires) (bits : List Bit) (y : ℕ) : Type 0 where
   pub wire : ℕ
-  pub one_of : Mem wire (wiresOf bits)
+  pub one_of : Mem wire (wires_of bits)
   pub ref : WireRef
   pub is : m wire ≡ some ref
   pub signal : ref.signal ≡ y
@@ -41,11 +41,11 @@ module _ (D : ℕ → ℕ → Type 0) (words : ℕ) (m : Wires) where
   CellSuits (lut4 i o t) = Suits o 1 (From m i)
   CellSuits (pfumx t f s o) = Suits o 1 (From m (t ∷ f ∷ s ∷ []))
   CellSuits (l6mux21 z y s o) = Suits o 1 (From m (z ∷ y ∷ s ∷ []))
-  CellSuits (ccu2c u) = AllSuit (u.sum0 ∷ u.sum1 ∷ u.carry ∷ []) (From m (u.row0 ++ (u.row1 ++ (u.carryIn ∷ []))))
+  CellSuits (ccu2c u) = AllSuit (u.sum0 ∷ u.sum1 ∷ u.carry ∷ []) (From m (u.row0 ++ (u.row1 ++ (u.carry_in ∷ []))))
   CellSuits (multiplier l r p) = Suits (get_or p 0 0) 36 (From m (l ++ r))
-  CellSuits (flipFlop f) = Unit {0}
-  CellSuits (blockRam r) = WideAs m (get_or r.output 0 0) r.width × SecondSuits r.width r.second
-  CellSuits (distributedRam r) = Suits (get_or r.output 0 0) 4 (λ y. From m r.readAddress y ⊎ (words ≤ y))
+  CellSuits (flip_flop f) = Unit {0}
+  CellSuits (block_ram r) = WideAs m (get_or r.output 0 0) r.width × SecondSuits r.width r.second
+  CellSuits (distributed_ram r) = Suits (get_or r.output 0 0) 4 (λ y. From m r.read_address y ⊎ (words ≤ y))
   CellSuits (io p d i t) = Suits i 1 (From m (Wire p ∷ d ∷ t ∷ []))
   CellSuits (jtagg ws) = (w : ℕ) → Mem w ws → Suits w 1 None
   CellSuits (pll p) = AllSuit (p.feedback ∷ p.output ∷ p.more) (From m (p.reference ∷ [])) × Suits p.locked 1 None

@@ -7,8 +7,8 @@ use Rattle.recorder.specs.Record.{Expr, Expr.const, Expr.read, Expr.concat, Expr
 use Rattle.recorder.specs.Writer.{Event, Event.signal, Event.expr, Event.stmt, Count, Writer}
 use Rattle.recorder.specs.Meaning.{Ends}
 use Rattle.wires.specs.Wires.{WireRef, Wires}
-use Rattle.simulation.specs.Tick.{readsExpr}
-use Rattle.simulation.specs.Run.{exprWidth}
+use Rattle.simulation.specs.Tick.{reads_expr}
+use Rattle.simulation.specs.Run.{expr_width}
 
 -- the widths of the signals and of the expressions so far, and the signals that each expression reads
 pub record Context : Type 0 where
@@ -18,12 +18,12 @@ pub record Context : Type 0 where
 
 abbrev pub grow : Context → Event → Context
 grow c (signal s) = record { signals = c.signals ++ (s.width ∷ []); exprs = c.exprs; reads = c.reads }
-grow c (expr x) = record { signals = c.signals; exprs = c.exprs ++ (exprWidth x ∷ []); reads = c.reads ++ (readsExpr c.reads x ∷ []) }
+grow c (expr x) = record { signals = c.signals; exprs = c.exprs ++ (expr_width x ∷ []); reads = c.reads ++ (reads_expr c.reads x ∷ []) }
 grow c (stmt t) = c
 
-abbrev pub growAll : Context → List Event → Context
-growAll c [] = c
-growAll c (e ∷ es) = growAll (grow c e) es
+abbrev pub grow_all : Context → List Event → Context
+grow_all c [] = c
+grow_all c (e ∷ es) = grow_all (grow c e) es
 
 -- number i of a list of widths is there, and is w
 pub record At (ws : List ℕ) (i w : ℕ) : Type 0 where
@@ -101,7 +101,7 @@ module _ (widest words : ℕ) (D : ℕ → ℕ → Type 0) where
 
   -- a writer, at the context's numbers, makes good records; and, unless it refuses, its result and the context after are as P says
   pub record Fit {A : Type 0} (c : Context) (w : Writer A) (P : A → Context → Type 0) : Type 0 where
-    pub fit : (n : Count) → Numbered c n → GoodAll c (w n).events × Ends (w n).end (λ a. P a (growAll c (w n).events))
+    pub fit : (n : Count) → Numbered c n → GoodAll c (w n).events × Ends (w n).end (λ a. P a (grow_all c (w n).events))
 
 abbrev pub None : ℕ → Type 0
 None y = ⊥
@@ -116,4 +116,4 @@ Wired c m = (w : ℕ) (r : WireRef) → m w ≡ some r → Sig c r.signal r.widt
 -- the constants are expressions 0 and 1, and read nothing
 pub record Based (c : Context) : Type 0 where
   pub zero_is : Exp c 0 1 None
-  pub one-is : Exp c 1 1 None
+  pub one_is : Exp c 1 1 None

@@ -11,66 +11,66 @@ use lib.Dec.{eqb}
 use lib.ListN.{length, get_or, drop, replicate, length-replicate, get_or-append, get_or-eq_default}
 use lib.Seq.{get_or-take, get_or-drop, get_or-append-add}
 use borrow.Author.Tests.{eq-eqb, ne_eqb}
-use Rattle.bits.specs.Bits.{pick, Bits, binary, window, lowest, same, sameBits, tableBit}
-use Rattle.bits.proofs.TableBits.{bit-none, bit-ones}
-use Rattle.recorder.specs.Record.{Model, exprWords}
-use Rattle.recorder.specs.Read.{modelOf}
-use Rattle.recorder.specs.Evaluate.{Signals, value_of, evalExpr}
+use Rattle.bits.specs.Bits.{pick, Bits, binary, window, lowest, same, same_bits, table_bit}
+use Rattle.bits.proofs.TableBits.{bit_none, bit_ones}
+use Rattle.recorder.specs.Record.{Model, expr_words}
+use Rattle.recorder.specs.Read.{model_of}
+use Rattle.recorder.specs.Evaluate.{Signals, value_of, eval_expr}
 use Rattle.simulation.specs.declared.Driver.{Driver}
 use Rattle.simulation.specs.declared.Driver.TheVariants.{None, By}
 use Rattle.simulation.specs.Run.{flat}
 use Rattle.simulation.specs.Tick.{given, assigns, become}
-use Rattle.simulation.specs.Index.{recordsIn, widthsIn, offset, start_of, clipped, stmtsIn, driverOf, driverBy, Indexed, Starts}
-use Rattle.simulation.proofs.Flat.{Wide, flat-part}
-use Rattle.simulation.proofs.Tables.{indexed-read, starts-read, driver-right}
-use Rattle.simulation.proofs.Steps.{length-widths}
-use Rattle.evaluation.specs.Bytes.{gateOf}
+use Rattle.simulation.specs.Index.{records_in, widths_in, offset, start_of, clipped, stmts_in, driver_of, driver_by, Indexed, Starts}
+use Rattle.simulation.proofs.Flat.{Wide, flat_part}
+use Rattle.simulation.proofs.Tables.{indexed_read, starts_read, driver_right}
+use Rattle.simulation.proofs.Steps.{length_widths}
+use Rattle.evaluation.specs.Bytes.{gate_of}
 use Rattle.evaluation.specs.Consistent.{assigned, Consistent}
-use Rattle.evaluation.specs.Ready.{exprIn, Ready, Room, modelIn}
-use Rattle.evaluation.proofs.Held.{wide-length, wide_at, flat-room, flat-total}
+use Rattle.evaluation.specs.Ready.{expr_in, Ready, Room, model_in}
+use Rattle.evaluation.proofs.Held.{wide_length, wide_at, flat_room, flat_total}
 use Rattle.evaluation.proofs.ByKind.{Gate, Mux, Const, Equal, Read, is_read}
-use Rattle.evaluation.proofs.Evaluating.{gate-ready, not-ready, mux-ready, const-ready, equal-ready, kind-is, count-is, own-width}
-use Rattle.evaluation.proofs.Whole.{ready, expr-fits, driver-there, driver-wide}
+use Rattle.evaluation.proofs.Evaluating.{gate_ready, not_ready, mux_ready, const_ready, equal_ready, kind_is, count_is, own_width}
+use Rattle.evaluation.proofs.Whole.{ready, expr_fits_lem, driver_there, driver_wide}
 use Rattle.fusing.specs.declared.join.Lut.{Lut}
-use Rattle.fusing.specs.Form.{bit_at, Form, row, formBit, formAt, Means, Formed}
-use Rattle.fusing.specs.Join.{form_of, gateBit, Alone, Joins, bitsFrom, Matches}
+use Rattle.fusing.specs.Form.{bit_at, Form, row, form_bit, form_at, Means, Formed}
+use Rattle.fusing.specs.Join.{form_of, gate_bit, Alone, Joins, bits_from, Matches}
 use Rattle.fusing.specs.Finding.{Known, Entry, spot_of, Spotted, OneBit, OneSpot, Own, Fused, Fuses, Compared, Equates, Finds}
 use Rattle.fusing.proofs.Joining.{row_under}
 
 -- WORDS AND TABLES
 
-pub word-past : (l : List ℕ) (at j : ℕ) → length l ≤ at → 0 ≡ get_or l (at + j) 0
-word-past l at j h = sym (get_or-eq_default l 0 (omega arith))
+pub word_past : (l : List ℕ) (at j : ℕ) → length l ≤ at → 0 ≡ get_or l (at + j) 0
+word_past l at j h = sym (get_or-eq_default l 0 (omega arith))
 
-pub word-behind : (l : List ℕ) (at j : ℕ) → length l ≤ at + j → 0 ≡ get_or l (at + j) 0
-word-behind l at j h = sym (get_or-eq_default l 0 h)
+pub word_behind : (l : List ℕ) (at j : ℕ) → length l ≤ at + j → 0 ≡ get_or l (at + j) 0
+word_behind l at j h = sym (get_or-eq_default l 0 h)
 
-pub entry-offset : {ws table : List ℕ} {k r : ℕ} → Entry table k r → Indexed ws table → k ≤ length ws → r < 4294967295 → r ≡ offset ws k
-entry-offset {ws} {table} {k} n i h s = let e = n.said s in e ∙ indexed-read i k (n.inside s) h (omega arith)
+pub entry_offset : {ws table : List ℕ} {k r : ℕ} → Entry table k r → Indexed ws table → k ≤ length ws → r < 4294967295 → r ≡ offset ws k
+entry_offset {ws} {table} {k} n i h s = let e = n.said s in e ∙ indexed_read i k (n.inside s) h (omega arith)
 
-pub entry-start : {l table : List ℕ} {k r : ℕ} → Entry table k r → Starts l table → k < length (recordsIn l) → r < 4294967295 → r ≡ start_of l k
-entry-start {l} {table} {k} n i h s = let e = n.said s in e ∙ starts-read i k (n.inside s) h (omega arith)
+pub entry_start : {l table : List ℕ} {k r : ℕ} → Entry table k r → Starts l table → k < length (records_in l) → r < 4294967295 → r ≡ start_of l k
+entry_start {l} {table} {k} n i h s = let e = n.said s in e ∙ starts_read i k (n.inside s) h (omega arith)
 
 -- WHERE A SIGNAL'S BIT STANDS
 
-module _ (stmts exprTable signalTable driverTable : List ℕ) (base s l : ℕ) where
-  module _ (by : Driver) (choice : driverOf by ≡ driverBy stmts driverTable s) where
-    pub spot-by : (d : ℕ) → by ≡ By d → (w n : ℕ) → w ≡ d → Entry exprTable w n → (r : ℕ) → r ≡ clipped (n + l) → Spotted stmts exprTable signalTable driverTable base s l r
-    spot-by d e w n hw t r hr = record {
+module _ (stmts expr_table signal_table driver_table : List ℕ) (base s l : ℕ) where
+  module _ (by : Driver) (choice : driver_of by ≡ driver_by stmts driver_table s) where
+    pub spot_by : (d : ℕ) → by ≡ By d → (w n : ℕ) → w ≡ d → Entry expr_table w n → (r : ℕ) → r ≡ clipped (n + l) → Spotted stmts expr_table signal_table driver_table base s l r
+    spot_by d e w n hw t r hr = record {
       spotted = λ ew sw i j v b k g z.
-          let o : given assigns (stmtsIn stmts) s ≡ some d = sym (driver-right _ _ _ choice v) ∙ ap driverOf e in
+          let o : given assigns (stmts_in stmts) s ≡ some d = sym (driver_right _ _ _ choice v) ∙ ap driver_of e in
           let q : w ≤ length ew = (let m = g d o in omega arith) in
-          let p : n ≡ offset ew w = entry-offset t i q (omega arith) in
+          let p : n ≡ offset ew w = entry_offset t i q (omega arith) in
           let p' : n ≡ offset ew d = p ∙ ap (offset ew) hw in
           let y : r ≡ offset ew d + l = omega arith in
           y ∙ ap (spot_of ew sw s l) (sym o);
     }
 
-    pub spot-kept : by ≡ None → (n : ℕ) → Entry signalTable s n → (m r : ℕ) → m ≡ clipped (base + n) → r ≡ clipped (m + l) → Spotted stmts exprTable signalTable driverTable base s l r
-    spot-kept e n t m r hm hr = record {
+    pub spot_kept : by ≡ None → (n : ℕ) → Entry signal_table s n → (m r : ℕ) → m ≡ clipped (base + n) → r ≡ clipped (m + l) → Spotted stmts expr_table signal_table driver_table base s l r
+    spot_kept e n t m r hm hr = record {
       spotted = λ ew sw i j v b k g z.
-          let o : given assigns (stmtsIn stmts) s ≡ none = sym (driver-right _ _ _ choice v) ∙ ap driverOf e in
-          let p : n ≡ offset sw s = entry-offset t j k (omega arith) in
+          let o : given assigns (stmts_in stmts) s ≡ none = sym (driver_right _ _ _ choice v) ∙ ap driver_of e in
+          let p : n ≡ offset sw s = entry_offset t j k (omega arith) in
           let y : r ≡ offset ew (length ew) + offset sw s + l = omega arith in
           y ∙ ap (spot_of ew sw s l) (sym o);
     }
@@ -78,36 +78,36 @@ module _ (stmts exprTable signalTable driverTable : List ℕ) (base s l : ℕ) w
 -- CONSTANTS
 
 module _ (exprs : List ℕ) (at : ℕ) (z : Lut) where
-  pub const-one : (w v : ℕ) → w ≡ get_or exprs (at + 2) 0 → v ≡ get_or exprs (at + 3) 0 → w ≡ 1 → v % 2 ≡ 1 → z.table ≡ 65535 → OneBit exprs at z
-  const-one w v hw hv h1 h2 t = record {
+  pub const_one : (w v : ℕ) → w ≡ get_or exprs (at + 2) 0 → v ≡ get_or exprs (at + 3) 0 → w ≡ 1 → v % 2 ≡ 1 → z.table ≡ 65535 → OneBit exprs at z
+  const_one w v hw hv h1 h2 t = record {
     one_bit = sym hw ∙ h1;
-    bit = λ x. ap (λ (n : ℕ). tableBit n (row x (form_of z))) t ∙ bit-ones 16 (row x (form_of z)) (row_under x (form_of z)) ∙ sym (ap (λ (n : ℕ). eqb (n % 2) 1) (sym hv) ∙ eq-eqb (v % 2) 1 h2);
+    bit = λ x. ap (λ (n : ℕ). table_bit n (row x (form_of z))) t ∙ bit_ones 16 (row x (form_of z)) (row_under x (form_of z)) ∙ sym (ap (λ (n : ℕ). eqb (n % 2) 1) (sym hv) ∙ eq-eqb (v % 2) 1 h2);
   }
 
-  pub const-zero : (w v : ℕ) → w ≡ get_or exprs (at + 2) 0 → v ≡ get_or exprs (at + 3) 0 → w ≡ 1 → (v % 2 ≡ 1 → ⊥) → z.table ≡ 0 → OneBit exprs at z
-  const-zero w v hw hv h1 h2 t = record {
+  pub const_zero : (w v : ℕ) → w ≡ get_or exprs (at + 2) 0 → v ≡ get_or exprs (at + 3) 0 → w ≡ 1 → (v % 2 ≡ 1 → ⊥) → z.table ≡ 0 → OneBit exprs at z
+  const_zero w v hw hv h1 h2 t = record {
     one_bit = sym hw ∙ h1;
-    bit = λ x. ap (λ (n : ℕ). tableBit n (row x (form_of z))) t ∙ bit-none (row x (form_of z)) ∙ sym (ap (λ (n : ℕ). eqb (n % 2) 1) (sym hv) ∙ ne_eqb (v % 2) 1 h2);
+    bit = λ x. ap (λ (n : ℕ). table_bit n (row x (form_of z))) t ∙ bit_none (row x (form_of z)) ∙ sym (ap (λ (n : ℕ). eqb (n % 2) 1) (sym hv) ∙ ne_eqb (v % 2) 1 h2);
   }
 
 -- READS
 
-pub one_spot : (exprs stmts exprTable signalTable driverTable : List ℕ) (base at : ℕ) (z : Lut) (w v s l p : ℕ) → w ≡ get_or exprs (at + 2) 0 → w ≡ 1 → v ≡ get_or exprs (at + 3) 0 → s ≡ v → l ≡ get_or exprs (at + 4) 0 → Spotted stmts exprTable signalTable driverTable base s l p → (p ≡ 4294967295 → ⊥) → p < 4294967296 → Alone p z → OneSpot exprs stmts exprTable signalTable driverTable base at z
-one_spot exprs stmts exprTable signalTable driverTable base at z w v s l p hw h1 hv hs hl h d f a = record {
+pub one_spot : (exprs stmts expr_table signal_table driver_table : List ℕ) (base at : ℕ) (z : Lut) (w v s l p : ℕ) → w ≡ get_or exprs (at + 2) 0 → w ≡ 1 → v ≡ get_or exprs (at + 3) 0 → s ≡ v → l ≡ get_or exprs (at + 4) 0 → Spotted stmts expr_table signal_table driver_table base s l p → (p ≡ 4294967295 → ⊥) → p < 4294967296 → Alone p z → OneSpot exprs stmts expr_table signal_table driver_table base at z
+one_spot exprs stmts expr_table signal_table driver_table base at z w v s l p hw h1 hv hs hl h d f a = record {
   one_bit = sym hw ∙ h1;
   spot = p;
   small = omega arith;
-  spotted = subst (λ (n : ℕ). Spotted stmts exprTable signalTable driverTable base n (get_or exprs (at + 4) 0) p) (hs ∙ hv) (subst (λ (n : ℕ). Spotted stmts exprTable signalTable driverTable base s n p) hl h);
+  spotted = subst (λ (n : ℕ). Spotted stmts expr_table signal_table driver_table base n (get_or exprs (at + 4) 0) p) (hs ∙ hv) (subst (λ (n : ℕ). Spotted stmts expr_table signal_table driver_table base s n p) hl h);
   alone = a;
 }
 
 -- OPERANDS
 
-pub view-is : (forms : List ℕ) (o w t a b c d : ℕ) → w ≡ o → t ≡ get_or forms (6 * w + 0) 0 → a ≡ get_or forms (6 * w + 2) 0 → b ≡ get_or forms (6 * w + 3) 0 → c ≡ get_or forms (6 * w + 4) 0 → d ≡ get_or forms (6 * w + 5) 0 → form_of (record { table = t; a = a; b = b; c = c; d = d }) ≡ formAt forms o
-view-is forms o w t a b c d hw ht ha hb hc hd = same-form ∙ ap (formAt forms) hw
+pub view_is : (forms : List ℕ) (o w t a b c d : ℕ) → w ≡ o → t ≡ get_or forms (6 * w + 0) 0 → a ≡ get_or forms (6 * w + 2) 0 → b ≡ get_or forms (6 * w + 3) 0 → c ≡ get_or forms (6 * w + 4) 0 → d ≡ get_or forms (6 * w + 5) 0 → form_of (record { table = t; a = a; b = b; c = c; d = d }) ≡ form_at forms o
+view_is forms o w t a b c d hw ht ha hb hc hd = same_form ∙ ap (form_at forms) hw
   where
-    same-form : form_of (record { table = t; a = a; b = b; c = c; d = d }) ≡ formAt forms w
-    same-form =
+    same_form : form_of (record { table = t; a = a; b = b; c = c; d = d }) ≡ form_at forms w
+    same_form =
         let z : 6 * w + 0 ≡ 6 * w = omega arith in
         let ht' : t ≡ get_or forms (6 * w) 0 = ht ∙ ap (λ (n : ℕ). get_or forms n 0) z in
         cc
@@ -115,31 +115,31 @@ view-is forms o w t a b c d hw ht ha hb hc hd = same-form ∙ ap (formAt forms) 
 pub alone_at : (forms : List ℕ) (o w p : ℕ) (z : Lut) → w ≡ o → p ≡ get_or forms (6 * w + 1) 0 → Alone p z → Alone (get_or forms (6 * o + 1) 0) z
 alone_at forms o w p z hw hp a = subst (λ (n : ℕ). Alone n z) (hp ∙ ap (λ (n : ℕ). get_or forms (6 * n + 1) 0) hw) a
 
-gate_same : (kind : ℕ) {a b c a' b' c' : Bool} → a ≡ a' → b ≡ b' → c ≡ c' → gateBit kind a b c ≡ gateBit kind a' b' c'
-gate_same kind {a} {b} {c} {a'} {b'} {c'} ha hb hc = ap₂ (λ (x y : Bool). gateBit kind x y c) ha hb ∙ ap (gateBit kind a' b') hc
+gate_same : (kind : ℕ) {a b c a' b' c' : Bool} → a ≡ a' → b ≡ b' → c ≡ c' → gate_bit kind a b c ≡ gate_bit kind a' b' c'
+gate_same kind {a} {b} {c} {a'} {b'} {c'} ha hb hc = ap₂ (λ (x y : Bool). gate_bit kind x y c) ha hb ∙ ap (gate_bit kind a' b') hc
 
 module _ (forms : List ℕ) (kind a b c : ℕ) where
-  pub fused-none : (z : Lut) → z.table ≡ 65536 → Fuses forms kind a b c z
-  fused-none z e = record { fuses = λ s. absurd (omega arith) }
+  pub fused_none : (z : Lut) → z.table ≡ 65536 → Fuses forms kind a b c z
+  fused_none z e = record { fuses = λ s. absurd (omega arith) }
 
-  module _ (p q r z : Lut) (hp : form_of p ≡ formAt forms a) (hq : form_of q ≡ formAt forms b) (hr : form_of r ≡ formAt forms c) (sp : p.table < 65536) (sq : q.table < 65536) (sr : r.table < 65536) where
-    formed : (o : ℕ) (v : Lut) → form_of v ≡ formAt forms o → v.table < 65536 → get_or forms (6 * o) 0 < 65536
+  module _ (p q r z : Lut) (hp : form_of p ≡ form_at forms a) (hq : form_of q ≡ form_at forms b) (hr : form_of r ≡ form_at forms c) (sp : p.table < 65536) (sq : q.table < 65536) (sr : r.table < 65536) where
+    formed : (o : ℕ) (v : Lut) → form_of v ≡ form_at forms o → v.table < 65536 → get_or forms (6 * o) 0 < 65536
     formed o v h s = let e : v.table ≡ get_or forms (6 * o) 0 = ap (λ (f : Form). f.table) h in omega arith
 
     -- of the operands' forms
-    pub fused-forms : Joins kind p q r z → Fuses forms kind a b c z
-    fused-forms j = record {
+    pub fused_forms : Joins kind p q r z → Fuses forms kind a b c z
+    fused_forms j = record {
       fuses = λ s. record {
         first = formed a p hp sp;
         second = formed b q hq sq;
         third = formed c r hr sr;
-        shows = λ x oa ob oc. j.joins s x ∙ gate_same kind (ap (formBit x) hp) (ap (formBit x) hq) (ap (formBit x) hr);
+        shows = λ x oa ob oc. j.joins s x ∙ gate_same kind (ap (form_bit x) hp) (ap (form_bit x) hq) (ap (form_bit x) hr);
       };
     }
 
     -- of the operands' values
-    pub fused-values : (u v w : Lut) → Alone (get_or forms (6 * a + 1) 0) u → Alone (get_or forms (6 * b + 1) 0) v → Alone (get_or forms (6 * c + 1) 0) w → Joins kind u v w z → Fuses forms kind a b c z
-    fused-values u v w hu hv hw j = record {
+    pub fused_values : (u v w : Lut) → Alone (get_or forms (6 * a + 1) 0) u → Alone (get_or forms (6 * b + 1) 0) v → Alone (get_or forms (6 * c + 1) 0) w → Joins kind u v w z → Fuses forms kind a b c z
+    fused_values u v w hu hv hw j = record {
       fuses = λ s. record {
         first = formed a p hp sp;
         second = formed b q hq sq;
@@ -150,179 +150,179 @@ module _ (forms : List ℕ) (kind a b c : ℕ) where
 
 -- COMPARISONS WITH A CONSTANT
 
-pub is-compared : (exprs starts exprTable : List ℕ) (a b : ℕ) (z : Lut) (i begin at kind o own w v : ℕ) → i ≡ b → Entry starts i begin → (begin ≡ 4294967295 → ⊥) → begin < 4294967296 → at ≡ begin → kind ≡ get_or exprs (at + 1) 0 → kind ≡ 0 → o ≡ a → Entry exprTable o own → own < 4294967292 → w ≡ get_or exprs (at + 2) 0 → v ≡ get_or exprs (at + 3) 0 → Matches w v own z → Compared exprs starts exprTable a b z
-is-compared exprs starts exprTable a b z i begin at kind o own w v hi n d f ht hk h0 ho t s hw hv g = record {
+pub is_compared : (exprs starts expr_table : List ℕ) (a b : ℕ) (z : Lut) (i begin at kind o own w v : ℕ) → i ≡ b → Entry starts i begin → (begin ≡ 4294967295 → ⊥) → begin < 4294967296 → at ≡ begin → kind ≡ get_or exprs (at + 1) 0 → kind ≡ 0 → o ≡ a → Entry expr_table o own → own < 4294967292 → w ≡ get_or exprs (at + 2) 0 → v ≡ get_or exprs (at + 3) 0 → Matches w v own z → Compared exprs starts expr_table a b z
+is_compared exprs starts expr_table a b z i begin at kind o own w v hi n d f ht hk h0 ho t s hw hv g = record {
   begin = at;
   begins = subst (λ (m : ℕ). Entry starts m at) hi (subst (λ (m : ℕ). Entry starts i m) (sym ht) n);
   there = omega arith;
   constant = sym hk ∙ h0;
   own = own;
-  owned = subst (λ (m : ℕ). Entry exprTable m own) ho t;
+  owned = subst (λ (m : ℕ). Entry expr_table m own) ho t;
   small = omega arith;
   matches = subst (λ (m : ℕ). Matches m (get_or exprs (at + 3) 0) own z) hw (subst (λ (m : ℕ). Matches w m own z) hv g);
 }
 
 -- THE BIT AT A POSITION
 
-bits-from : (x : ℕ → Bool) (v : Bits) (p : ℕ) → ((l : ℕ) → l < length v → x (p + l) ≡ get_or v l false) → v ≡ bitsFrom x p (length v)
-bits-from x [] p h = refl
-bits-from x (b ∷ v) p h =
+bits_from_lem : (x : ℕ → Bool) (v : Bits) (p : ℕ) → ((l : ℕ) → l < length v → x (p + l) ≡ get_or v l false) → v ≡ bits_from x p (length v)
+bits_from_lem x [] p h = refl
+bits_from_lem x (b ∷ v) p h =
     let first : b ≡ x p = sym (ap x (sym (add-zero p)) ∙ h 0 (omega arith)) in
-    let others : v ≡ bitsFrom x (suc p) (length v) = bits-from x v (suc p) (λ l q. let e : suc p + l ≡ p + suc l = omega arith in ap x e ∙ h (suc l) (omega arith)) in
+    let others : v ≡ bits_from x (suc p) (length v) = bits_from_lem x v (suc p) (λ l q. let e : suc p + l ≡ p + suc l = omega arith in ap x e ∙ h (suc l) (omega arith)) in
     ap₂ (λ (c : Bool) (cs : Bits). c ∷ cs) first others
 
-flat-at : (ws : List ℕ) (vs : List Bits) → Wide ws vs → (i l : ℕ) → i < length ws → l < get_or ws i 0 → get_or (flat vs) (offset ws i + l) false ≡ get_or (get_or vs i []) l false
-flat-at ws vs h i l q k =
+flat_at : (ws : List ℕ) (vs : List Bits) → Wide ws vs → (i l : ℕ) → i < length ws → l < get_or ws i 0 → get_or (flat vs) (offset ws i + l) false ≡ get_or (get_or vs i []) l false
+flat_at ws vs h i l q k =
     sym (get_or-drop (offset ws i) (flat vs) l false)
     ∙ sym (get_or-take (get_or ws i 0) (drop (offset ws i) (flat vs)) l false k)
-    ∙ ap (λ (v : Bits). get_or v l false) (flat-part ws vs h i (omega (arith, wide-length ws vs h)))
+    ∙ ap (λ (v : Bits). get_or v l false) (flat_part ws vs h i (omega (arith, wide_length ws vs h)))
 
 module _ (ew : List ℕ) (vs old : List Bits) (h : Wide ew vs) where
   -- of an expression
   pub at_value : (i l : ℕ) → i < length ew → l < get_or ew i 0 → bit_at vs old (offset ew i + l) ≡ get_or (get_or vs i []) l false
-  at_value i l q k = get_or-append (flat vs) (flat old) false (offset ew i + l) (omega (arith, flat-room ew vs h i (omega (arith, wide-length ew vs h)))) ∙ flat-at ew vs h i l q k
+  at_value i l q k = get_or-append (flat vs) (flat old) false (offset ew i + l) (omega (arith, flat_room ew vs h i (omega (arith, wide_length ew vs h)))) ∙ flat_at ew vs h i l q k
 
   pub at_first : (i : ℕ) → i < length ew → 0 < get_or ew i 0 → bit_at vs old (offset ew i) ≡ lowest (get_or vs i [])
   at_first i q k = ap (bit_at vs old) (sym (add-zero (offset ew i))) ∙ at_value i 0 q k
 
   -- of a signal
-  pub at-signal : (sw : List ℕ) → Wide sw old → (s l : ℕ) → s < length sw → l < get_or sw s 0 → bit_at vs old (offset ew (length ew) + offset sw s + l) ≡ get_or (get_or old s []) l false
-  at-signal sw w s l q k =
-      let e : offset ew (length ew) + offset sw s + l ≡ length (flat vs) + (offset sw s + l) = omega (arith, flat-total ew vs h) in
-      ap (bit_at vs old) e ∙ get_or-append-add (flat vs) (flat old) (offset sw s + l) false ∙ flat-at sw old w s l q k
+  pub at_signal : (sw : List ℕ) → Wide sw old → (s l : ℕ) → s < length sw → l < get_or sw s 0 → bit_at vs old (offset ew (length ew) + offset sw s + l) ≡ get_or (get_or old s []) l false
+  at_signal sw w s l q k =
+      let e : offset ew (length ew) + offset sw s + l ≡ length (flat vs) + (offset sw s + l) = omega (arith, flat_total ew vs h) in
+      ap (bit_at vs old) e ∙ get_or-append-add (flat vs) (flat old) (offset sw s + l) false ∙ flat_at sw old w s l q k
 
 -- AN EXPRESSION OF A MODEL
 
-gate-alike : (kind : ℕ) (p q r : Bool) → (kind ≡ 7 → ⊥) → (kind ≡ 8 → ⊥) → gateOf kind p q ≡ gateBit kind p q r
-gate-alike kind p q r h7 h8 = rw (ne_eqb kind 7 h7, ne_eqb kind 8 h8)
+gate_alike : (kind : ℕ) (p q r : Bool) → (kind ≡ 7 → ⊥) → (kind ≡ 8 → ⊥) → gate_of kind p q ≡ gate_bit kind p q r
+gate_alike kind p q r h7 h8 = rw (ne_eqb kind 7 h7, ne_eqb kind 8 h8)
 
-pick-alike : (x y w : Bool) → pick x (y ∷ []) (w ∷ []) ≡ pick x y w ∷ []
-pick-alike true y w = refl
-pick-alike false y w = refl
+pick_alike : (x y w : Bool) → pick x (y ∷ []) (w ∷ []) ≡ pick x y w ∷ []
+pick_alike true y w = refl
+pick_alike false y w = refl
 
-same_alike : (x y : Bool) → sameBits (x ∷ []) (y ∷ []) ≡ same x y
+same_alike : (x y : Bool) → same_bits (x ∷ []) (y ∷ []) ≡ same x y
 same_alike true true = refl
 same_alike true false = refl
 same_alike false true = refl
 same_alike false false = refl
 
-module _ {signals exprs stmts starts exprTable signalTable driverTable : List ℕ} (k : Known signals exprs stmts starts exprTable signalTable driverTable) {e : ℕ} (q : e < length (recordsIn exprs)) where
+module _ {signals exprs stmts starts expr_table signal_table driver_table : List ℕ} (k : Known signals exprs stmts starts expr_table signal_table driver_table) {e : ℕ} (q : e < length (records_in exprs)) where
   abbrev m : Model
-  m = modelIn signals exprs stmts
+  m = model_in signals exprs stmts
 
   abbrev ew : List ℕ
-  ew = widthsIn exprs
+  ew = widths_in exprs
 
   abbrev sw : List ℕ
-  sw = widthsIn signals
+  sw = widths_in signals
 
   -- bytes and values of just the room that is needed
   abbrev bytes : List ℕ
-  bytes = replicate (offset (widthsIn signals) (length (recordsIn signals))) 0
+  bytes = replicate (offset (widths_in signals) (length (records_in signals))) 0
 
   abbrev values : List ℕ
-  values = replicate (offset (widthsIn exprs) (length (recordsIn exprs))) 0
+  values = replicate (offset (widths_in exprs) (length (records_in exprs))) 0
 
-  some-room : Room signals exprs bytes values
-  some-room = record {
-    bytes-room = omega (arith, length-replicate {A = ℕ} (offset (widthsIn signals) (length (recordsIn signals))) 0);
-    values-room = omega (arith, length-replicate {A = ℕ} (offset (widthsIn exprs) (length (recordsIn exprs))) 0);
+  some_room : Room signals exprs bytes values
+  some_room = record {
+    bytes_room = omega (arith, length-replicate {A = ℕ} (offset (widths_in signals) (length (records_in signals))) 0);
+    values_room = omega (arith, length-replicate {A = ℕ} (offset (widths_in exprs) (length (records_in exprs))) 0);
   }
 
-  own_value : (old vs : List Bits) → Wide (widthsIn exprs) vs → Consistent (modelIn signals exprs stmts) old vs → evalExpr (assigned (modelIn signals exprs stmts) old vs) vs (exprIn exprs e) ≡ get_or vs e []
-  unfolding modelOf
-  own_value old vs w c = c.right e (omega (arith, c.each, wide-length ew vs w, length-widths exprs))
+  own_value : (old vs : List Bits) → Wide (widths_in exprs) vs → Consistent (model_in signals exprs stmts) old vs → eval_expr (assigned (model_in signals exprs stmts) old vs) vs (expr_in exprs e) ≡ get_or vs e []
+  unfolding model_of
+  own_value old vs w c = c.right e (omega (arith, c.each, wide_length ew vs w, length_widths exprs))
 
-  module _ (forms : List ℕ) (f : Formed signals exprs stmts forms e) (old vs : List Bits) (wo : Wide (widthsIn signals) old) (wv : Wide (widthsIn exprs) vs) (c : Consistent (modelIn signals exprs stmts) old vs) where
+  module _ (forms : List ℕ) (f : Formed signals exprs stmts forms e) (old vs : List Bits) (wo : Wide (widths_in signals) old) (wv : Wide (widths_in exprs) vs) (c : Consistent (model_in signals exprs stmts) old vs) where
     module _ (o : ℕ) (lt : o < e) (t : get_or forms (6 * o) 0 < 65536) where
-      operand-value : get_or vs o [] ≡ formBit (bit_at vs old) (formAt forms o) ∷ []
-      operand-value = (f.formed o lt t).means old vs wo wv c
+      operand_value : get_or vs o [] ≡ form_bit (bit_at vs old) (form_at forms o) ∷ []
+      operand_value = (f.formed o lt t).means old vs wo wv c
 
-      operand-own : Own (bit_at vs old) forms o
-      operand-own =
-          let there : o < length ew = omega (arith, length-widths exprs) in
-          let wide : length (get_or vs o []) ≡ get_or ew o 0 = wide_at ew vs wv o (omega (arith, wide-length ew vs wv)) in
-          let one : length (get_or vs o []) ≡ 1 = ap length operand-value in
-          ap (bit_at vs old) (f.own-position o lt t) ∙ at_first ew vs old wv o there (omega arith) ∙ ap lowest operand-value
+      operand_own : Own (bit_at vs old) forms o
+      operand_own =
+          let there : o < length ew = omega (arith, length_widths exprs) in
+          let wide : length (get_or vs o []) ≡ get_or ew o 0 = wide_at ew vs wv o (omega (arith, wide_length ew vs wv)) in
+          let one : length (get_or vs o []) ≡ 1 = ap length operand_value in
+          ap (bit_at vs old) (f.own_position o lt t) ∙ at_first ew vs old wv o there (omega arith) ∙ ap lowest operand_value
 
   -- a gate of formed operands
-  fused-means : (forms : List ℕ) (kind a b c : ℕ) (z : Lut) → a < e → b < e → c < e → Fuses forms kind a b c z → ((σ : Signals) (vs : List Bits) (x y w : Bool) → get_or vs a [] ≡ x ∷ [] → get_or vs b [] ≡ y ∷ [] → get_or vs c [] ≡ w ∷ [] → evalExpr σ vs (exprIn exprs e) ≡ gateBit kind x y w ∷ []) → Finds signals exprs stmts forms e z
-  fused-means forms kind a b c z la lb lc g value = record {
+  fused_means : (forms : List ℕ) (kind a b c : ℕ) (z : Lut) → a < e → b < e → c < e → Fuses forms kind a b c z → ((σ : Signals) (vs : List Bits) (x y w : Bool) → get_or vs a [] ≡ x ∷ [] → get_or vs b [] ≡ y ∷ [] → get_or vs c [] ≡ w ∷ [] → eval_expr σ vs (expr_in exprs e) ≡ gate_bit kind x y w ∷ []) → Finds signals exprs stmts forms e z
+  fused_means forms kind a b c z la lb lc g value = record {
     finds = λ s f.
         let u : Fused forms kind a b c z = g.fuses s in
         record {
           means = λ old vs wo wv con.
               sym (own_value old vs wv con)
-              ∙ value (assigned m old vs) vs _ _ _ (operand-value forms f old vs wo wv con a la u.first) (operand-value forms f old vs wo wv con b lb u.second) (operand-value forms f old vs wo wv con c lc u.third)
-              ∙ ap (λ (y : Bool). y ∷ []) (sym (u.shows (bit_at vs old) (operand-own forms f old vs wo wv con a la u.first) (operand-own forms f old vs wo wv con b lb u.second) (operand-own forms f old vs wo wv con c lc u.third)));
+              ∙ value (assigned m old vs) vs _ _ _ (operand_value forms f old vs wo wv con a la u.first) (operand_value forms f old vs wo wv con b lb u.second) (operand_value forms f old vs wo wv con c lc u.third)
+              ∙ ap (λ (y : Bool). y ∷ []) (sym (u.shows (bit_at vs old) (operand_own forms f old vs wo wv con a la u.first) (operand_own forms f old vs wo wv con b lb u.second) (operand_own forms f old vs wo wv con c lc u.third)));
         };
   }
 
   pub begins : (r w : ℕ) → Entry starts e r → (r ≡ 4294967295 → ⊥) → r < 4294967296 → w ≡ r → w ≡ start_of exprs e
-  begins r w n d v h = h ∙ entry-start n k.started q (omega arith)
+  begins r w n d v h = h ∙ entry_start n k.started q (omega arith)
 
-  pub finds-none : (forms : List ℕ) (z : Lut) → z.table ≡ 65536 → Finds signals exprs stmts forms e z
-  finds-none forms z t = record { finds = λ s f. absurd (omega arith) }
+  pub finds_none : (forms : List ℕ) (z : Lut) → z.table ≡ 65536 → Finds signals exprs stmts forms e z
+  finds_none forms z t = record { finds = λ s f. absurd (omega arith) }
 
   module _ {at : ℕ} (b : at ≡ start_of exprs e) where
-    rd : Ready exprs exprTable values at e
-    rd = ready k.prepared q {bytes = bytes} {values = values} some-room b
+    rd : Ready exprs expr_table values at e
+    rd = ready k.prepared q {bytes = bytes} {values = values} some_room b
 
     abbrev word : ℕ → ℕ
     word j = get_or exprs (at + j) 0
 
     -- BY KIND
 
-    pub finds-const : (forms : List ℕ) (z : Lut) (kind : ℕ) → kind ≡ get_or exprs (at + 1) 0 → kind ≡ 0 → (z.table < 65536 → OneBit exprs at z) → Finds signals exprs stmts forms e z
-    finds-const forms z kind kd k0 g = record {
+    pub finds_const : (forms : List ℕ) (z : Lut) (kind : ℕ) → kind ≡ get_or exprs (at + 1) 0 → kind ≡ 0 → (z.table < 65536 → OneBit exprs at z) → Finds signals exprs stmts forms e z
+    finds_const forms z kind kd k0 g = record {
       finds = λ s f.
           let u : OneBit exprs at z = g s in
           record {
             means = λ old vs wo wv con.
                 sym (own_value old vs wv con)
-                ∙ (const-ready rd (sym kd ∙ k0)).0.value (assigned m old vs) vs
+                ∙ (const_ready rd (sym kd ∙ k0)).0.value (assigned m old vs) vs
                 ∙ ap (λ (n : ℕ). binary n (word 3)) u.one_bit
                 ∙ ap (λ (y : Bool). y ∷ []) (sym (u.bit (bit_at vs old)));
           };
     }
 
     module _ (forms : List ℕ) (z : Lut) where
-      pub finds-not : (kind : ℕ) → kind ≡ get_or exprs (at + 1) 0 → kind ≡ 3 → (a : ℕ) → a ≡ get_or exprs (at + 3) 0 → Fuses forms kind a a a z → Finds signals exprs stmts forms e z
-      finds-not kind kd k3 a ha g =
-          let r : Gate ew e 3 a a (exprIn exprs e) = subst (λ (n : ℕ). Gate ew e 3 n n (exprIn exprs e)) (sym ha) (not-ready rd (sym kd ∙ k3)).0 in
-          fused-means forms kind a a a z r.first.before-it r.first.before-it r.first.before-it g
-          (λ σ vs x y w hx hy hw. r.value σ vs ∙ ap (λ (v : Bits). gateOf 3 (lowest v) (lowest v) ∷ []) hx ∙ ap (λ (n : ℕ). gateBit n x y w ∷ []) (sym k3))
+      pub finds_not : (kind : ℕ) → kind ≡ get_or exprs (at + 1) 0 → kind ≡ 3 → (a : ℕ) → a ≡ get_or exprs (at + 3) 0 → Fuses forms kind a a a z → Finds signals exprs stmts forms e z
+      finds_not kind kd k3 a ha g =
+          let r : Gate ew e 3 a a (expr_in exprs e) = subst (λ (n : ℕ). Gate ew e 3 n n (expr_in exprs e)) (sym ha) (not_ready rd (sym kd ∙ k3)).0 in
+          fused_means forms kind a a a z r.first.before_it r.first.before_it r.first.before_it g
+          (λ σ vs x y w hx hy hw. r.value σ vs ∙ ap (λ (v : Bits). gate_of 3 (lowest v) (lowest v) ∷ []) hx ∙ ap (λ (n : ℕ). gate_bit n x y w ∷ []) (sym k3))
 
-      pub finds-gate : (kind : ℕ) → kind ≡ get_or exprs (at + 1) 0 → 4 ≤ kind → kind ≤ 6 → (a i : ℕ) → a ≡ get_or exprs (at + 3) 0 → i ≡ get_or exprs (at + 4) 0 → Fuses forms kind a i i z → Finds signals exprs stmts forms e z
-      finds-gate kind kd lo hi a i ha hi' g =
-          let r : Gate ew e kind a i (exprIn exprs e) = subst (λ (n : ℕ). Gate ew e kind n i (exprIn exprs e)) (sym ha) (subst (λ (n : ℕ). Gate ew e kind (word 3) n (exprIn exprs e)) (sym hi') (gate-ready rd kd lo hi).0) in
-          fused-means forms kind a i i z r.first.before-it r.second.before-it r.second.before-it g
-          (λ σ vs x y w hx hy hw. r.value σ vs ∙ ap₂ (λ (u v : Bits). gateOf kind (lowest u) (lowest v) ∷ []) hx hy ∙ ap (λ (v : Bool). v ∷ []) (gate-alike kind x y w (λ h. omega arith) (λ h. omega arith)))
+      pub finds_gate : (kind : ℕ) → kind ≡ get_or exprs (at + 1) 0 → 4 ≤ kind → kind ≤ 6 → (a i : ℕ) → a ≡ get_or exprs (at + 3) 0 → i ≡ get_or exprs (at + 4) 0 → Fuses forms kind a i i z → Finds signals exprs stmts forms e z
+      finds_gate kind kd lo hi a i ha hi' g =
+          let r : Gate ew e kind a i (expr_in exprs e) = subst (λ (n : ℕ). Gate ew e kind n i (expr_in exprs e)) (sym ha) (subst (λ (n : ℕ). Gate ew e kind (word 3) n (expr_in exprs e)) (sym hi') (gate_ready rd kd lo hi).0) in
+          fused_means forms kind a i i z r.first.before_it r.second.before_it r.second.before_it g
+          (λ σ vs x y w hx hy hw. r.value σ vs ∙ ap₂ (λ (u v : Bits). gate_of kind (lowest u) (lowest v) ∷ []) hx hy ∙ ap (λ (v : Bool). v ∷ []) (gate_alike kind x y w (λ h. omega arith) (λ h. omega arith)))
 
       -- a comparison by the operands' forms
-      forms-equal : (a i : ℕ) → Equal (widthsIn exprs) e a i (exprIn exprs e) → Fused forms 8 a i i z → Finds signals exprs stmts forms e z
-      forms-equal a i r u =
-          fused-means forms 8 a i i z r.first r.second.before-it r.second.before-it (record { fuses = λ s. u })
-          (λ σ vs x y w hx hy hw. r.value σ vs ∙ ap₂ (λ (u v : Bits). sameBits u v ∷ []) hx hy ∙ ap (λ (v : Bool). v ∷ []) (same_alike x y))
+      forms_equal : (a i : ℕ) → Equal (widths_in exprs) e a i (expr_in exprs e) → Fused forms 8 a i i z → Finds signals exprs stmts forms e z
+      forms_equal a i r u =
+          fused_means forms 8 a i i z r.first r.second.before_it r.second.before_it (record { fuses = λ s. u })
+          (λ σ vs x y w hx hy hw. r.value σ vs ∙ ap₂ (λ (u v : Bits). same_bits u v ∷ []) hx hy ∙ ap (λ (v : Bool). v ∷ []) (same_alike x y))
 
-      pub finds-mux : (kind : ℕ) → kind ≡ get_or exprs (at + 1) 0 → kind ≡ 7 → (a i j : ℕ) → a ≡ get_or exprs (at + 3) 0 → i ≡ get_or exprs (at + 4) 0 → j ≡ get_or exprs (at + 5) 0 → Fuses forms kind a i j z → Finds signals exprs stmts forms e z
-      finds-mux kind kd k7 a i j ha hi' hj g =
-          let r : Mux ew e (word 2) a i j (exprIn exprs e) = subst (λ (n : ℕ). Mux ew e (word 2) n i j (exprIn exprs e)) (sym ha) (subst (λ (n : ℕ). Mux ew e (word 2) (word 3) n j (exprIn exprs e)) (sym hi') (subst (λ (n : ℕ). Mux ew e (word 2) (word 3) (word 4) n (exprIn exprs e)) (sym hj) (mux-ready rd (sym kd ∙ k7)).0)) in
-          fused-means forms kind a i j z r.select.before-it r.if-one.before-it r.if-zero.before-it g
-          (λ σ vs x y w hx hy hw. r.value σ vs ∙ ap₂ (λ (u v : Bits). pick (lowest u) v (value_of vs j)) hx hy ∙ ap (λ (v : Bits). pick x (y ∷ []) v) hw ∙ pick-alike x y w ∙ ap (λ (n : ℕ). gateBit n x y w ∷ []) (sym k7))
+      pub finds_mux : (kind : ℕ) → kind ≡ get_or exprs (at + 1) 0 → kind ≡ 7 → (a i j : ℕ) → a ≡ get_or exprs (at + 3) 0 → i ≡ get_or exprs (at + 4) 0 → j ≡ get_or exprs (at + 5) 0 → Fuses forms kind a i j z → Finds signals exprs stmts forms e z
+      finds_mux kind kd k7 a i j ha hi' hj g =
+          let r : Mux ew e (word 2) a i j (expr_in exprs e) = subst (λ (n : ℕ). Mux ew e (word 2) n i j (expr_in exprs e)) (sym ha) (subst (λ (n : ℕ). Mux ew e (word 2) (word 3) n j (expr_in exprs e)) (sym hi') (subst (λ (n : ℕ). Mux ew e (word 2) (word 3) (word 4) n (expr_in exprs e)) (sym hj) (mux_ready rd (sym kd ∙ k7)).0)) in
+          fused_means forms kind a i j z r.select.before_it r.if_one.before_it r.if_zero.before_it g
+          (λ σ vs x y w hx hy hw. r.value σ vs ∙ ap₂ (λ (u v : Bits). pick (lowest u) v (value_of vs j)) hx hy ∙ ap (λ (v : Bits). pick x (y ∷ []) v) hw ∙ pick_alike x y w ∙ ap (λ (n : ℕ). gate_bit n x y w ∷ []) (sym k7))
 
     -- A READ
 
-    module _ (forms : List ℕ) (z : Lut) (base : ℕ) (hb : base ≡ clipped (offset (widthsIn exprs) (length (recordsIn exprs)))) (kind : ℕ) (kd : kind ≡ get_or exprs (at + 1) 0) (k1 : kind ≡ 1) where
-      words-five : 5 ≤ length (exprWords (exprIn exprs e))
-      words-five = count-is rd (sym k1 ∙ kd)
+    module _ (forms : List ℕ) (z : Lut) (base : ℕ) (hb : base ≡ clipped (offset (widths_in exprs) (length (records_in exprs)))) (kind : ℕ) (kd : kind ≡ get_or exprs (at + 1) 0) (k1 : kind ≡ 1) where
+      words_five : 5 ≤ length (expr_words (expr_in exprs e))
+      words_five = count_is rd (sym k1 ∙ kd)
 
-      reading : Read (widthsIn signals) (get_or exprs (at + 2) 0) (get_or exprs (at + 3) 0) (get_or exprs (at + 4) 0) (exprIn exprs e)
+      reading : Read (widths_in signals) (get_or exprs (at + 2) 0) (get_or exprs (at + 3) 0) (get_or exprs (at + 4) 0) (expr_in exprs e)
       reading =
-          subst (λ (n : ℕ). Read sw n (word 3) (word 4) (exprIn exprs e)) (sym (rd.words 2 (omega (arith, words-five))))
-          (subst (λ (n : ℕ). Read sw (get_or (exprWords (exprIn exprs e)) 2 0) n (word 4) (exprIn exprs e)) (sym (rd.words 3 (omega (arith, words-five))))
-          (subst (λ (n : ℕ). Read sw (get_or (exprWords (exprIn exprs e)) 2 0) (get_or (exprWords (exprIn exprs e)) 3 0) n (exprIn exprs e)) (sym (rd.words 4 words-five))
-          (is_read k.prepared.widest sw ew e (exprIn exprs e) (expr-fits k.prepared q) (sym (kind-is rd (sym k1 ∙ kd))))))
+          subst (λ (n : ℕ). Read sw n (word 3) (word 4) (expr_in exprs e)) (sym (rd.words 2 (omega (arith, words_five))))
+          (subst (λ (n : ℕ). Read sw (get_or (expr_words (expr_in exprs e)) 2 0) n (word 4) (expr_in exprs e)) (sym (rd.words 3 (omega (arith, words_five))))
+          (subst (λ (n : ℕ). Read sw (get_or (expr_words (expr_in exprs e)) 2 0) (get_or (expr_words (expr_in exprs e)) 3 0) n (expr_in exprs e)) (sym (rd.words 4 words_five))
+          (is_read k.prepared.widest sw ew e (expr_in exprs e) (expr_fits_lem k.prepared q) (sym (kind_is rd (sym k1 ∙ kd))))))
 
       abbrev s : ℕ
       s = get_or exprs (at + 3) 0
@@ -331,74 +331,74 @@ module _ {signals exprs stmts starts exprTable signalTable driverTable : List �
       l = get_or exprs (at + 4) 0
 
       abbrev choice : Option ℕ
-      choice = given assigns (stmtsIn stmts) (get_or exprs (at + 3) 0)
+      choice = given assigns (stmts_in stmts) (get_or exprs (at + 3) 0)
 
-      module _ (one : get_or exprs (at + 2) 0 ≡ 1) (old vs : List Bits) (wo : Wide (widthsIn signals) old) (wv : Wide (widthsIn exprs) vs) where
-        spot-bit : (o : Option ℕ) → given assigns (stmtsIn stmts) (get_or exprs (at + 3) 0) ≡ o → get_or (become vs o (get_or old (get_or exprs (at + 3) 0) [])) (get_or exprs (at + 4) 0) false ≡ bit_at vs old (spot_of (widthsIn exprs) (widthsIn signals) (get_or exprs (at + 3) 0) (get_or exprs (at + 4) 0) o)
-        spot-bit none h = sym (at-signal ew vs old wv sw wo s l reading.there (omega (arith, reading.inside)))
-        spot-bit (some d) h = sym (at_value ew vs old wv d l (driver-there k.prepared s h) (omega (arith, reading.inside, driver-wide k.prepared s h)))
+      module _ (one : get_or exprs (at + 2) 0 ≡ 1) (old vs : List Bits) (wo : Wide (widths_in signals) old) (wv : Wide (widths_in exprs) vs) where
+        spot_bit : (o : Option ℕ) → given assigns (stmts_in stmts) (get_or exprs (at + 3) 0) ≡ o → get_or (become vs o (get_or old (get_or exprs (at + 3) 0) [])) (get_or exprs (at + 4) 0) false ≡ bit_at vs old (spot_of (widths_in exprs) (widths_in signals) (get_or exprs (at + 3) 0) (get_or exprs (at + 4) 0) o)
+        spot_bit none h = sym (at_signal ew vs old wv sw wo s l reading.there (omega (arith, reading.inside)))
+        spot_bit (some d) h = sym (at_value ew vs old wv d l (driver_there k.prepared s h) (omega (arith, reading.inside, driver_wide k.prepared s h)))
 
-      pub finds-read : (z.table < 65536 → OneSpot exprs stmts exprTable signalTable driverTable base at z) → Finds signals exprs stmts forms e z
-      unfolding modelOf
-      finds-read g = record {
+      pub finds_read : (z.table < 65536 → OneSpot exprs stmts expr_table signal_table driver_table base at z) → Finds signals exprs stmts forms e z
+      unfolding model_of
+      finds_read g = record {
         finds = λ t f.
-            let u : OneSpot exprs stmts exprTable signalTable driverTable base at z = g t in
+            let u : OneSpot exprs stmts expr_table signal_table driver_table base at z = g t in
             let there : get_or exprs (at + 3) 0 ≤ length sw = omega (arith, reading.there) in
-            let based : base ≡ clipped (offset ew (length ew)) = hb ∙ ap (λ (n : ℕ). clipped (offset ew n)) (sym (length-widths exprs)) in
-            let spot_is : u.spot ≡ spot_of ew sw s l choice = u.spotted.spotted ew sw k.prepared.expr-offsets k.prepared.signal-offsets k.driven based there (λ d h. let x = driver-there k.prepared s h in omega arith) u.small in
+            let based : base ≡ clipped (offset ew (length ew)) = hb ∙ ap (λ (n : ℕ). clipped (offset ew n)) (sym (length_widths exprs)) in
+            let spot_is : u.spot ≡ spot_of ew sw s l choice = u.spotted.spotted ew sw k.prepared.expr_offsets k.prepared.signal_offsets k.driven based there (λ d h. let x = driver_there k.prepared s h in omega arith) u.small in
             record {
               means = λ old vs wo wv con.
                   sym (own_value old vs wv con)
                   ∙ reading.value (assigned m old vs) vs
                   ∙ ap (window (assigned m old vs s) l) u.one_bit
-                  ∙ ap (λ (y : Bool). y ∷ []) (spot-bit u.one_bit old vs wo wv choice refl ∙ ap (bit_at vs old) (sym spot_is) ∙ sym (u.alone.alone (bit_at vs old)));
+                  ∙ ap (λ (y : Bool). y ∷ []) (spot_bit u.one_bit old vs wo wv choice refl ∙ ap (bit_at vs old) (sym spot_is) ∙ sym (u.alone.alone (bit_at vs old)));
             };
       }
 
 -- A COMPARISON
 
-module _ {signals exprs stmts starts exprTable signalTable driverTable : List ℕ} (k : Known signals exprs stmts starts exprTable signalTable driverTable) {e : ℕ} (q : e < length (recordsIn exprs)) where
+module _ {signals exprs stmts starts expr_table signal_table driver_table : List ℕ} (k : Known signals exprs stmts starts expr_table signal_table driver_table) {e : ℕ} (q : e < length (records_in exprs)) where
   -- with a constant
-  module _ {a i : ℕ} {z : Lut} (r : Equal (widthsIn exprs) e a i (exprIn exprs e)) (u : Compared exprs starts exprTable a i z) where
-    constant-there : i < length (recordsIn exprs)
-    constant-there = omega (arith, r.second.before-it)
+  module _ {a i : ℕ} {z : Lut} (r : Equal (widths_in exprs) e a i (expr_in exprs e)) (u : Compared exprs starts expr_table a i z) where
+    constant_there : i < length (records_in exprs)
+    constant_there = omega (arith, r.second.before_it)
 
-    other-there : a < length (widthsIn exprs)
-    other-there = omega (arith, r.first, length-widths exprs)
+    other_there : a < length (widths_in exprs)
+    other_there = omega (arith, r.first, length_widths exprs)
 
-    starts-at : u.begin ≡ start_of exprs i
-    starts-at = entry-start u.begins k.started constant-there u.there
+    starts_at : u.begin ≡ start_of exprs i
+    starts_at = entry_start u.begins k.started constant_there u.there
 
-    constant : Const (get_or exprs (u.begin + 2) 0) (get_or exprs (u.begin + 3) 0) (exprIn exprs i)
-    constant = (const-ready (rd k constant-there starts-at) u.constant).0
+    constant : Const (get_or exprs (u.begin + 2) 0) (get_or exprs (u.begin + 3) 0) (expr_in exprs i)
+    constant = (const_ready (rd k constant_there starts_at) u.constant).0
 
-    wide : get_or (widthsIn exprs) a 0 ≡ get_or exprs (u.begin + 2) 0
-    wide = sym r.second.as_wide ∙ own-width (rd k constant-there starts-at) ∙ constant.is_wide
+    wide : get_or (widths_in exprs) a 0 ≡ get_or exprs (u.begin + 2) 0
+    wide = sym r.second.as_wide ∙ own_width (rd k constant_there starts_at) ∙ constant.is_wide
 
-    stands : u.own ≡ offset (widthsIn exprs) a
-    stands = entry-offset u.owned k.prepared.expr-offsets (omega (arith, other-there)) u.small
+    stands : u.own ≡ offset (widths_in exprs) a
+    stands = entry_offset u.owned k.prepared.expr_offsets (omega (arith, other_there)) u.small
 
-    other-bits : (old vs : List Bits) → Wide (widthsIn exprs) vs → get_or vs a [] ≡ bitsFrom (bit_at vs old) u.own (get_or exprs (u.begin + 2) 0)
-    other-bits old vs wv =
-        let long : length (get_or vs a []) ≡ get_or (widthsIn exprs) a 0 = wide_at (widthsIn exprs) vs wv a (omega (arith, wide-length (widthsIn exprs) vs wv, other-there)) in
-        bits-from (bit_at vs old) (get_or vs a []) u.own (λ l h. ap (λ (n : ℕ). bit_at vs old (n + l)) stands ∙ at_value (widthsIn exprs) vs old wv a l other-there (omega arith))
-        ∙ ap (bitsFrom (bit_at vs old) u.own) (long ∙ wide)
+    other_bits : (old vs : List Bits) → Wide (widths_in exprs) vs → get_or vs a [] ≡ bits_from (bit_at vs old) u.own (get_or exprs (u.begin + 2) 0)
+    other_bits old vs wv =
+        let long : length (get_or vs a []) ≡ get_or (widths_in exprs) a 0 = wide_at (widths_in exprs) vs wv a (omega (arith, wide_length (widths_in exprs) vs wv, other_there)) in
+        bits_from_lem (bit_at vs old) (get_or vs a []) u.own (λ l h. ap (λ (n : ℕ). bit_at vs old (n + l)) stands ∙ at_value (widths_in exprs) vs old wv a l other_there (omega arith))
+        ∙ ap (bits_from (bit_at vs old) u.own) (long ∙ wide)
 
-    constant-equal : z.table < 65536 → Means signals exprs stmts e (form_of z)
-    constant-equal s = record {
+    constant_equal : z.table < 65536 → Means signals exprs stmts e (form_of z)
+    constant_equal s = record {
       means = λ old vs wo wv con.
           sym (own_value k q old vs wv con)
-          ∙ r.value (assigned (modelIn signals exprs stmts) old vs) vs
-          ∙ ap₂ (λ (x y : Bits). sameBits x y ∷ []) (other-bits old vs wv) (sym (own_value k constant-there old vs wv con) ∙ constant.value (assigned (modelIn signals exprs stmts) old vs) vs)
+          ∙ r.value (assigned (model_in signals exprs stmts) old vs) vs
+          ∙ ap₂ (λ (x y : Bits). same_bits x y ∷ []) (other_bits old vs wv) (sym (own_value k constant_there old vs wv con) ∙ constant.value (assigned (model_in signals exprs stmts) old vs) vs)
           ∙ ap (λ (y : Bool). y ∷ []) (sym (u.matches.matches s (bit_at vs old)));
     }
 
-  pub finds-equal : {at : ℕ} → at ≡ start_of exprs e → (forms : List ℕ) (z : Lut) (kind : ℕ) → kind ≡ get_or exprs (at + 1) 0 → kind ≡ 8 → (a i : ℕ) → a ≡ get_or exprs (at + 3) 0 → i ≡ get_or exprs (at + 4) 0 → Equates exprs starts exprTable forms a i z → Finds signals exprs stmts forms e z
-  finds-equal {at} b forms z kind kd k8 a i ha hi g = record { finds = λ s f. go s f (g.equates s) }
+  pub finds_equal : {at : ℕ} → at ≡ start_of exprs e → (forms : List ℕ) (z : Lut) (kind : ℕ) → kind ≡ get_or exprs (at + 1) 0 → kind ≡ 8 → (a i : ℕ) → a ≡ get_or exprs (at + 3) 0 → i ≡ get_or exprs (at + 4) 0 → Equates exprs starts expr_table forms a i z → Finds signals exprs stmts forms e z
+  finds_equal {at} b forms z kind kd k8 a i ha hi g = record { finds = λ s f. go s f (g.equates s) }
     where
-      r : Equal (widthsIn exprs) e a i (exprIn exprs e)
-      r = subst (λ (n : ℕ). Equal (widthsIn exprs) e n i (exprIn exprs e)) (sym ha) (subst (λ (n : ℕ). Equal (widthsIn exprs) e (get_or exprs (at + 3) 0) n (exprIn exprs e)) (sym hi) (equal-ready (rd k q b) (sym kd ∙ k8)).0)
+      r : Equal (widths_in exprs) e a i (expr_in exprs e)
+      r = subst (λ (n : ℕ). Equal (widths_in exprs) e n i (expr_in exprs e)) (sym ha) (subst (λ (n : ℕ). Equal (widths_in exprs) e (get_or exprs (at + 3) 0) n (expr_in exprs e)) (sym hi) (equal_ready (rd k q b) (sym kd ∙ k8)).0)
 
-      go : z.table < 65536 → Formed signals exprs stmts forms e → Fused forms 8 a i i z ⊎ Compared exprs starts exprTable a i z → Means signals exprs stmts e (form_of z)
-      go s f (inl u) = (forms-equal k q b forms z a i r u).finds s f
-      go s f (inr u) = constant-equal r u s
+      go : z.table < 65536 → Formed signals exprs stmts forms e → Fused forms 8 a i i z ⊎ Compared exprs starts expr_table a i z → Means signals exprs stmts e (form_of z)
+      go s f (inl u) = (forms_equal k q b forms z a i r u).finds s f
+      go s f (inr u) = constant_equal r u s

@@ -8,63 +8,63 @@ use native.Mathlib.Nat.{pow-succ', zero-add, add-zero}
 use lib.Dec.{eqb}
 use lib.Pow.{pow_mono}
 use borrow.Author.Tests.{eqb-true, eq-eqb, ne_eqb}
-use Rattle.bits.specs.Bits.{pick, digit, binary, same, sameBits, tableBit}
-use Rattle.bits.proofs.TableBits.{bit-first, bit-next, bit-none, bit-ones}
+use Rattle.bits.specs.Bits.{pick, digit, binary, same, same_bits, table_bit}
+use Rattle.bits.proofs.TableBits.{bit_first, bit_next, bit_none, bit_ones}
 use Rattle.settle.specs.Tests.{and_left, and_right}
 use Rattle.fusing.specs.declared.join.Lut.{Lut}
 use Rattle.fusing.specs.declared.join.Spots.{Spots}
-use Rattle.fusing.specs.Form.{Form, row, formBit}
-use Rattle.fusing.specs.Join.{form_of, gateBit, lookIn, among, row_of, rowBit, Tabled, flatTable, Covers, Alone, Joins, bitsFrom, Matches}
+use Rattle.fusing.specs.Form.{Form, row, form_bit}
+use Rattle.fusing.specs.Join.{form_of, gate_bit, look_in, among, row_of, row_bit, Tabled, flat_table, Covers, Alone, Joins, bits_from, Matches}
 
 -- BITS AS NUMBERS
 
-pub digit-small : (b : Bool) → digit b < 2
-digit-small true = omega arith
-digit-small false = omega arith
+pub digit_small : (b : Bool) → digit b < 2
+digit_small true = omega arith
+digit_small false = omega arith
 
-pub one-digit : (b : Bool) → eqb (digit b) 1 ≡ b
-one-digit true = refl
-one-digit false = refl
+pub one_digit : (b : Bool) → eqb (digit b) 1 ≡ b
+one_digit true = refl
+one_digit false = refl
 
-digit-back : (n : ℕ) → n < 2 → n ≡ digit (eqb n 1)
-digit-back zero h = refl
-digit-back (suc zero) h = refl
-digit-back (suc (suc n)) h = absurd (omega arith)
+digit_back : (n : ℕ) → n < 2 → n ≡ digit (eqb n 1)
+digit_back zero h = refl
+digit_back (suc zero) h = refl
+digit_back (suc (suc n)) h = absurd (omega arith)
 
 pub low_bit : (n : ℕ) → n % 2 ≡ digit (eqb (n % 2) 1)
-low_bit n = digit-back (n % 2) (omega arith)
+low_bit n = digit_back (n % 2) (omega arith)
 
 -- GATES
 
-pub gate-is : (k kind : ℕ) (b p q r z : Bool) → kind ≡ k → p ≡ b → z ≡ gateBit k b q r → z ≡ gateBit kind p q r
-gate-is k kind b p q r z hk hp h = h ∙ ap₂ (λ (n : ℕ) (y : Bool). gateBit n y q r) (sym hk) (sym hp)
+pub gate_is : (k kind : ℕ) (b p q r z : Bool) → kind ≡ k → p ≡ b → z ≡ gate_bit k b q r → z ≡ gate_bit kind p q r
+gate_is k kind b p q r z hk hp h = h ∙ ap₂ (λ (n : ℕ) (y : Bool). gate_bit n y q r) (sym hk) (sym hp)
 
-pub gate-else : (kind : ℕ) (p q r : Bool) → (kind ≡ 4 → ⊥) → (kind ≡ 5 → ⊥) → (kind ≡ 6 → ⊥) → (kind ≡ 7 → ⊥) → (kind ≡ 8 → ⊥) → not p ≡ gateBit kind p q r
-gate-else kind p q r h4 h5 h6 h7 h8 = rw (ne_eqb kind 7 h7, ne_eqb kind 8 h8, ne_eqb kind 4 h4, ne_eqb kind 5 h5, ne_eqb kind 6 h6)
+pub gate_else : (kind : ℕ) (p q r : Bool) → (kind ≡ 4 → ⊥) → (kind ≡ 5 → ⊥) → (kind ≡ 6 → ⊥) → (kind ≡ 7 → ⊥) → (kind ≡ 8 → ⊥) → not p ≡ gate_bit kind p q r
+gate_else kind p q r h4 h5 h6 h7 h8 = rw (ne_eqb kind 7 h7, ne_eqb kind 8 h8, ne_eqb kind 4 h4, ne_eqb kind 5 h5, ne_eqb kind 6 h6)
 
 -- ROWS
 
 module _ (s : Spots) (i p : ℕ) where
-  pub look-a : p ≡ s.a → i % 2 ≡ digit (lookIn s i p)
-  look-a h = rw (eq-eqb p s.a h) (low_bit i)
+  pub look_a : p ≡ s.a → i % 2 ≡ digit (look_in s i p)
+  look_a h = rw (eq-eqb p s.a h) (low_bit i)
 
   module _ (na : p ≡ s.a → ⊥) where
-    pub look-b : p ≡ s.b → i / 2 % 2 ≡ digit (lookIn s i p)
-    look-b h = rw (ne_eqb p s.a na, eq-eqb p s.b h) (low_bit (i / 2))
+    pub look_b : p ≡ s.b → i / 2 % 2 ≡ digit (look_in s i p)
+    look_b h = rw (ne_eqb p s.a na, eq-eqb p s.b h) (low_bit (i / 2))
 
     module _ (nb : p ≡ s.b → ⊥) where
-      pub look-c : p ≡ s.c → i / 4 % 2 ≡ digit (lookIn s i p)
-      look-c h = rw (ne_eqb p s.a na, ne_eqb p s.b nb, eq-eqb p s.c h) (low_bit (i / 4))
+      pub look_c : p ≡ s.c → i / 4 % 2 ≡ digit (look_in s i p)
+      look_c h = rw (ne_eqb p s.a na, ne_eqb p s.b nb, eq-eqb p s.c h) (low_bit (i / 4))
 
       module _ (nc : p ≡ s.c → ⊥) where
-        pub look-d : p ≡ s.d → i / 8 % 2 ≡ digit (lookIn s i p)
-        look-d h = rw (ne_eqb p s.a na, ne_eqb p s.b nb, ne_eqb p s.c nc, eq-eqb p s.d h) (low_bit (i / 8))
+        pub look_d : p ≡ s.d → i / 8 % 2 ≡ digit (look_in s i p)
+        look_d h = rw (ne_eqb p s.a na, ne_eqb p s.b nb, ne_eqb p s.c nc, eq-eqb p s.d h) (low_bit (i / 8))
 
-        pub look_none : (p ≡ s.d → ⊥) → 0 ≡ digit (lookIn s i p)
+        pub look_none : (p ≡ s.d → ⊥) → 0 ≡ digit (look_in s i p)
         look_none nd = rw (ne_eqb p s.a na, ne_eqb p s.b nb, ne_eqb p s.c nc, ne_eqb p s.d nd)
 
 pub row_small : (a b c d : Bool) → digit a + 2 * digit b + 4 * digit c + 8 * digit d < 16
-row_small a b c d = omega (arith, digit-small a, digit-small b, digit-small c, digit-small d)
+row_small a b c d = omega (arith, digit_small a, digit_small b, digit_small c, digit_small d)
 
 pub row_under : (x : ℕ → Bool) (f : Form) → row x f < 16
 row_under x f = row_small (x f.first) (x f.second) (x f.third) (x f.fourth)
@@ -76,23 +76,23 @@ module _ (s : Spots) (x : ℕ → Bool) where
 
   at_a : eqb (row_of x s % 2) 1 ≡ x s.a
   at_a =
-      let e : n % 2 ≡ digit (x s.a) = omega (arith, digit-small (x s.a), digit-small (x s.b), digit-small (x s.c), digit-small (x s.d)) in
-      ap (λ (k : ℕ). eqb k 1) e ∙ one-digit (x s.a)
+      let e : n % 2 ≡ digit (x s.a) = omega (arith, digit_small (x s.a), digit_small (x s.b), digit_small (x s.c), digit_small (x s.d)) in
+      ap (λ (k : ℕ). eqb k 1) e ∙ one_digit (x s.a)
 
   at_b : eqb (row_of x s / 2 % 2) 1 ≡ x s.b
   at_b =
-      let e : n / 2 % 2 ≡ digit (x s.b) = omega (arith, digit-small (x s.a), digit-small (x s.b), digit-small (x s.c), digit-small (x s.d)) in
-      ap (λ (k : ℕ). eqb k 1) e ∙ one-digit (x s.b)
+      let e : n / 2 % 2 ≡ digit (x s.b) = omega (arith, digit_small (x s.a), digit_small (x s.b), digit_small (x s.c), digit_small (x s.d)) in
+      ap (λ (k : ℕ). eqb k 1) e ∙ one_digit (x s.b)
 
   at_c : eqb (row_of x s / 4 % 2) 1 ≡ x s.c
   at_c =
-      let e : n / 4 % 2 ≡ digit (x s.c) = omega (arith, digit-small (x s.a), digit-small (x s.b), digit-small (x s.c), digit-small (x s.d)) in
-      ap (λ (k : ℕ). eqb k 1) e ∙ one-digit (x s.c)
+      let e : n / 4 % 2 ≡ digit (x s.c) = omega (arith, digit_small (x s.a), digit_small (x s.b), digit_small (x s.c), digit_small (x s.d)) in
+      ap (λ (k : ℕ). eqb k 1) e ∙ one_digit (x s.c)
 
-  at-d : eqb (row_of x s / 8 % 2) 1 ≡ x s.d
-  at-d =
-      let e : n / 8 % 2 ≡ digit (x s.d) = omega (arith, digit-small (x s.a), digit-small (x s.b), digit-small (x s.c), digit-small (x s.d)) in
-      ap (λ (k : ℕ). eqb k 1) e ∙ one-digit (x s.d)
+  at_d : eqb (row_of x s / 8 % 2) 1 ≡ x s.d
+  at_d =
+      let e : n / 8 % 2 ≡ digit (x s.d) = omega (arith, digit_small (x s.a), digit_small (x s.b), digit_small (x s.c), digit_small (x s.d)) in
+      ap (λ (k : ℕ). eqb k 1) e ∙ one_digit (x s.d)
 
   step : (p a : ℕ) (here rest : Bool) → here ≡ x a → (eqb p a ≡ false → rest ≡ x p) → pick (eqb p a) here rest ≡ x p
   step p a here rest h g = go (eqb p a) refl
@@ -101,52 +101,52 @@ module _ (s : Spots) (x : ℕ → Bool) where
       go true e = h ∙ ap x (sym (eqb-true p a e))
       go false e = g e
 
-  none-false : (a b c d : Bool) → (a || b || c || d) ≡ true → a ≡ false → b ≡ false → c ≡ false → d ≡ false → ⊥
-  none-false a b c d h ha hb hc hd = let z : ◌≡◌ {A = Bool} false true = (rw (ha, hb, hc, hd) at h) in let y : ◌≡◌ {A = ℕ} 0 1 = cc in omega arith
+  none_false : (a b c d : Bool) → (a || b || c || d) ≡ true → a ≡ false → b ≡ false → c ≡ false → d ≡ false → ⊥
+  none_false a b c d h ha hb hc hd = let z : ◌≡◌ {A = Bool} false true = (rw (ha, hb, hc, hd) at h) in let y : ◌≡◌ {A = ℕ} 0 1 = cc in omega arith
 
-  pub found : (p : ℕ) → among s p ≡ true → lookIn s (row_of x s) p ≡ x p
+  pub found : (p : ℕ) → among s p ≡ true → look_in s (row_of x s) p ≡ x p
   found p h =
       step p s.a _ _ at_a
       (λ ea. step p s.b _ _ at_b
       (λ eb. step p s.c _ _ at_c
-      (λ ec. step p s.d _ _ at-d
-      (λ ed. absurd (none-false (eqb p s.a) (eqb p s.b) (eqb p s.c) (eqb p s.d) h ea eb ec ed)))))
+      (λ ec. step p s.d _ _ at_d
+      (λ ed. absurd (none_false (eqb p s.a) (eqb p s.b) (eqb p s.c) (eqb p s.d) h ea eb ec ed)))))
 
 -- WHAT A TABLE SHOWS
 
 same_row : (a b c d a' b' c' d' : Bool) → a ≡ a' → b ≡ b' → c ≡ c' → d ≡ d' → digit a + 2 * digit b + 4 * digit c + 8 * digit d ≡ digit a' + 2 * digit b' + 4 * digit c' + 8 * digit d'
 same_row a b c d a' b' c' d' ha hb hc hd = cc
 
-flat-at : (t i : ℕ) → flatTable t ≡ true → i < 16 → tableBit t i ≡ eqb t 65535
-flat-at t i h q = go (eqb t 0) refl (eqb t 65535) refl
+flat_at : (t i : ℕ) → flat_table t ≡ true → i < 16 → table_bit t i ≡ eqb t 65535
+flat_at t i h q = go (eqb t 0) refl (eqb t 65535) refl
   where
-    go : (b : Bool) → eqb t 0 ≡ b → (d : Bool) → eqb t 65535 ≡ d → tableBit t i ≡ eqb t 65535
+    go : (b : Bool) → eqb t 0 ≡ b → (d : Bool) → eqb t 65535 ≡ d → table_bit t i ≡ eqb t 65535
     go true e d f =
         let z : t ≡ 0 = eqb-true t 0 e in
-        ap (λ (n : ℕ). tableBit n i) z ∙ bit-none i ∙ ap (λ (n : ℕ). eqb n 65535) (sym z)
+        ap (λ (n : ℕ). table_bit n i) z ∙ bit_none i ∙ ap (λ (n : ℕ). eqb n 65535) (sym z)
     go false e true f =
         let z : t ≡ 65535 = eqb-true t 65535 f in
-        ap (λ (n : ℕ). tableBit n i) z ∙ bit-ones 16 i q ∙ sym f
+        ap (λ (n : ℕ). table_bit n i) z ∙ bit_ones 16 i q ∙ sym f
     go false e false f = absurd (let z : ◌≡◌ {A = Bool} false true = (rw (e, f) at h) in let y : ◌≡◌ {A = ℕ} 0 1 = cc in omega arith)
 
 module _ (s : Spots) (v : Lut) where
-  pub covers-flat : flatTable v.table ≡ true → Covers s v
-  covers-flat h = record {
-    covers = λ x. flat-at v.table (row (lookIn s (row_of x s)) (form_of v)) h (row_under (lookIn s (row_of x s)) (form_of v)) ∙ sym (flat-at v.table (row x (form_of v)) h (row_under x (form_of v)));
+  pub covers_flat : flat_table v.table ≡ true → Covers s v
+  covers_flat h = record {
+    covers = λ x. flat_at v.table (row (look_in s (row_of x s)) (form_of v)) h (row_under (look_in s (row_of x s)) (form_of v)) ∙ sym (flat_at v.table (row x (form_of v)) h (row_under x (form_of v)));
   }
 
-  pub covers-all : among s v.a ≡ true → among s v.b ≡ true → among s v.c ≡ true → among s v.d ≡ true → Covers s v
-  covers-all ha hb hc hd = record {
-    covers = λ x. ap (tableBit v.table) (same_row _ _ _ _ _ _ _ _ (found s x v.a ha) (found s x v.b hb) (found s x v.c hc) (found s x v.d hd));
+  pub covers_all : among s v.a ≡ true → among s v.b ≡ true → among s v.c ≡ true → among s v.d ≡ true → Covers s v
+  covers_all ha hb hc hd = record {
+    covers = λ x. ap (table_bit v.table) (same_row _ _ _ _ _ _ _ _ (found s x v.a ha) (found s x v.b hb) (found s x v.c hc) (found s x v.d hd));
   }
 
-alone-bit : (b : Bool) → tableBit 43690 (digit b + 2 * digit b + 4 * digit b + 8 * digit b) ≡ b
-alone-bit true = refl
-alone-bit false = refl
+alone_bit : (b : Bool) → table_bit 43690 (digit b + 2 * digit b + 4 * digit b + 8 * digit b) ≡ b
+alone_bit true = refl
+alone_bit false = refl
 
-pub is-alone : (p : ℕ) (v : Lut) → v.table ≡ 43690 → v.a ≡ p → v.b ≡ p → v.c ≡ p → v.d ≡ p → Alone p v
-is-alone p v t a b c d = record {
-  alone = λ x. ap₂ tableBit t (same_row _ _ _ _ _ _ _ _ (ap x a) (ap x b) (ap x c) (ap x d)) ∙ alone-bit (x p);
+pub is_alone : (p : ℕ) (v : Lut) → v.table ≡ 43690 → v.a ≡ p → v.b ≡ p → v.c ≡ p → v.d ≡ p → Alone p v
+is_alone p v t a b c d = record {
+  alone = λ x. ap₂ table_bit t (same_row _ _ _ _ _ _ _ _ (ap x a) (ap x b) (ap x c) (ap x d)) ∙ alone_bit (x p);
 }
 
 -- A TABLE, ROW BY ROW FROM THE LAST
@@ -154,79 +154,79 @@ is-alone p v t a b c d = record {
 pub tabled_start : (f : ℕ → Bool) → Tabled f 0 16
 tabled_start f = record { rows = λ j h. absurd (omega arith); small = omega arith }
 
-pub tabled-fits : {f : ℕ → Bool} {t i : ℕ} → Tabled f t i → t < 65536
-tabled-fits {f} {t} {i} h = let k : 2 ^ (16 - i) ≤ 2 ^ 16 = pow_mono {i = 16 - i} {j = 16} (omega arith) in omega (arith, h.small)
+pub tabled_fits : {f : ℕ → Bool} {t i : ℕ} → Tabled f t i → t < 65536
+tabled_fits {f} {t} {i} h = let k : 2 ^ (16 - i) ≤ 2 ^ 16 = pow_mono {i = 16 - i} {j = 16} (omega arith) in omega (arith, h.small)
 
-pub tabled-next : {f : ℕ → Bool} {t i : ℕ} → Tabled f t (suc i) → i < 16 → (u : ℕ) → u ≡ digit (f i) + 2 * t → Tabled f u i
-tabled-next {f} {t} {i} h q u e = record { rows = rows-from; small = still-small }
+pub tabled_next : {f : ℕ → Bool} {t i : ℕ} → Tabled f t (suc i) → i < 16 → (u : ℕ) → u ≡ digit (f i) + 2 * t → Tabled f u i
+tabled_next {f} {t} {i} h q u e = record { rows = rows_from; small = still_small }
   where
     low : u % 2 ≡ digit (f i)
-    low = omega (arith, digit-small (f i))
+    low = omega (arith, digit_small (f i))
 
     high : u / 2 ≡ t
-    high = omega (arith, digit-small (f i))
+    high = omega (arith, digit_small (f i))
 
-    rows-from : (j : ℕ) → i + j < 16 → tableBit u j ≡ f (i + j)
-    rows-from zero k = bit-first u ∙ ap (λ (n : ℕ). eqb n 1) low ∙ one-digit (f i) ∙ ap f (sym (add-zero i))
-    rows-from (suc j) k =
+    rows_from : (j : ℕ) → i + j < 16 → table_bit u j ≡ f (i + j)
+    rows_from zero k = bit_first u ∙ ap (λ (n : ℕ). eqb n 1) low ∙ one_digit (f i) ∙ ap f (sym (add-zero i))
+    rows_from (suc j) k =
         let z : suc i + j ≡ i + suc j = omega arith in
-        bit-next u j ∙ ap (λ (n : ℕ). tableBit n j) high ∙ h.rows j (omega arith) ∙ ap f z
+        bit_next u j ∙ ap (λ (n : ℕ). table_bit n j) high ∙ h.rows j (omega arith) ∙ ap f z
 
-    still-small : u < 2 ^ (16 - i)
-    still-small =
+    still_small : u < 2 ^ (16 - i)
+    still_small =
         let z : 16 - i ≡ suc (16 - suc i) = omega arith in
-        subst (λ (n : ℕ). u < 2 ^ n) (sym z) (omega (arith, h.small, digit-small (f i), pow-succ' 2 (16 - suc i)))
+        subst (λ (n : ℕ). u < 2 ^ n) (sym z) (omega (arith, h.small, digit_small (f i), pow-succ' 2 (16 - suc i)))
 
 -- the row below
-pub tabled-below : {f : ℕ → Bool} {t i : ℕ} → Tabled f t i → i ≤ 16 → 0 < i → (u : ℕ) (b : Bool) → b ≡ f (i - 1) → u ≡ digit b + 2 * t → Tabled f u (i - 1)
-tabled-below {f} {t} {i} h q k u b hb hu =
+pub tabled_below : {f : ℕ → Bool} {t i : ℕ} → Tabled f t i → i ≤ 16 → 0 < i → (u : ℕ) (b : Bool) → b ≡ f (i - 1) → u ≡ digit b + 2 * t → Tabled f u (i - 1)
+tabled_below {f} {t} {i} h q k u b hb hu =
     let z : i ≡ suc (i - 1) = omega arith in
-    tabled-next (subst (λ (n : ℕ). Tabled f t n) z h) (omega arith) u (hu ∙ ap (λ (y : Bool). digit y + 2 * t) hb)
+    tabled_next (subst (λ (n : ℕ). Tabled f t n) z h) (omega arith) u (hu ∙ ap (λ (y : Bool). digit y + 2 * t) hb)
 
-pub tabled-done : {f : ℕ → Bool} {t i : ℕ} → Tabled f t i → i ≤ 0 → Tabled f t 0
-tabled-done {f} {t} {i} h q =
+pub tabled_done : {f : ℕ → Bool} {t i : ℕ} → Tabled f t i → i ≤ 0 → Tabled f t 0
+tabled_done {f} {t} {i} h q =
     let z : i ≡ 0 = omega arith in
     subst (λ (n : ℕ). Tabled f t n) z h
 
-pub tabled-joins : (kind : ℕ) (s : Spots) (p q r z : Lut) → Tabled (rowBit kind s p q r) z.table 0 → Covers s p → Covers s q → Covers s r → z.a ≡ s.a → z.b ≡ s.b → z.c ≡ s.c → z.d ≡ s.d → Joins kind p q r z
-tabled-joins kind s p q r z t cp cq cr ha hb hc hd = record {
+pub tabled_joins : (kind : ℕ) (s : Spots) (p q r z : Lut) → Tabled (row_bit kind s p q r) z.table 0 → Covers s p → Covers s q → Covers s r → z.a ≡ s.a → z.b ≡ s.b → z.c ≡ s.c → z.d ≡ s.d → Joins kind p q r z
+tabled_joins kind s p q r z t cp cq cr ha hb hc hd = record {
   joins = λ small x.
-      ap (tableBit z.table) (same_row _ _ _ _ _ _ _ _ (ap x ha) (ap x hb) (ap x hc) (ap x hd))
+      ap (table_bit z.table) (same_row _ _ _ _ _ _ _ _ (ap x ha) (ap x hb) (ap x hc) (ap x hd))
       ∙ t.rows (row_of x s) (omega (arith, row_small (x s.a) (x s.b) (x s.c) (x s.d)))
-      ∙ ap (rowBit kind s p q r) (zero-add (row_of x s))
-      ∙ ap₂ (λ (a b : Bool). gateBit kind a b (formBit (lookIn s (row_of x s)) (form_of r))) (cp.covers x) (cq.covers x)
-      ∙ ap (λ (c : Bool). gateBit kind (formBit x (form_of p)) (formBit x (form_of q)) c) (cr.covers x);
+      ∙ ap (row_bit kind s p q r) (zero-add (row_of x s))
+      ∙ ap₂ (λ (a b : Bool). gate_bit kind a b (form_bit (look_in s (row_of x s)) (form_of r))) (cp.covers x) (cq.covers x)
+      ∙ ap (λ (c : Bool). gate_bit kind (form_bit x (form_of p)) (form_bit x (form_of q)) c) (cr.covers x);
 }
 
-pub none-joins : (kind : ℕ) (p q r z : Lut) → z.table ≡ 65536 → Joins kind p q r z
-none-joins kind p q r z e = record { joins = λ small x. absurd (omega arith) }
+pub none_joins : (kind : ℕ) (p q r z : Lut) → z.table ≡ 65536 → Joins kind p q r z
+none_joins kind p q r z e = record { joins = λ small x. absurd (omega arith) }
 
 -- ONE FUNCTION'S STEPS
 
-pub among-a : (s : Spots) (p : ℕ) → p ≡ s.a → true ≡ among s p
-among-a s p h = rw (eq-eqb p s.a h)
+pub among_a : (s : Spots) (p : ℕ) → p ≡ s.a → true ≡ among s p
+among_a s p h = rw (eq-eqb p s.a h)
 
-pub among-b : (s : Spots) (p : ℕ) → (p ≡ s.a → ⊥) → p ≡ s.b → true ≡ among s p
-among-b s p na h = rw (ne_eqb p s.a na, eq-eqb p s.b h)
+pub among_b : (s : Spots) (p : ℕ) → (p ≡ s.a → ⊥) → p ≡ s.b → true ≡ among s p
+among_b s p na h = rw (ne_eqb p s.a na, eq-eqb p s.b h)
 
-pub among-c : (s : Spots) (p : ℕ) → (p ≡ s.a → ⊥) → (p ≡ s.b → ⊥) → p ≡ s.c → true ≡ among s p
-among-c s p na nb h = rw (ne_eqb p s.a na, ne_eqb p s.b nb, eq-eqb p s.c h)
+pub among_c : (s : Spots) (p : ℕ) → (p ≡ s.a → ⊥) → (p ≡ s.b → ⊥) → p ≡ s.c → true ≡ among s p
+among_c s p na nb h = rw (ne_eqb p s.a na, ne_eqb p s.b nb, eq-eqb p s.c h)
 
-pub among-d : (s : Spots) (p : ℕ) → (p ≡ s.a → ⊥) → (p ≡ s.b → ⊥) → (p ≡ s.c → ⊥) → eqb p s.d ≡ among s p
-among-d s p na nb nc = rw (ne_eqb p s.a na, ne_eqb p s.b nb, ne_eqb p s.c nc)
+pub among_d : (s : Spots) (p : ℕ) → (p ≡ s.a → ⊥) → (p ≡ s.b → ⊥) → (p ≡ s.c → ⊥) → eqb p s.d ≡ among s p
+among_d s p na nb nc = rw (ne_eqb p s.a na, ne_eqb p s.b nb, ne_eqb p s.c nc)
 
-pub flat-zero : (t : ℕ) → t ≡ 0 → true ≡ flatTable t
-flat-zero t h = rw (eq-eqb t 0 h)
+pub flat_zero : (t : ℕ) → t ≡ 0 → true ≡ flat_table t
+flat_zero t h = rw (eq-eqb t 0 h)
 
-pub flat-ones : (t : ℕ) → (t ≡ 0 → ⊥) → eqb t 65535 ≡ flatTable t
-flat-ones t h = rw (ne_eqb t 0 h)
+pub flat_ones : (t : ℕ) → (t ≡ 0 → ⊥) → eqb t 65535 ≡ flat_table t
+flat_ones t h = rw (ne_eqb t 0 h)
 
 -- what row i shows, from what it has at the four positions
-pub shown : (x : ℕ → Bool) (v : Lut) (a b c d : ℕ) (z : Bool) → a ≡ digit (x v.a) → b ≡ digit (x v.b) → c ≡ digit (x v.c) → d ≡ digit (x v.d) → z ≡ tableBit v.table (a + 2 * b + 4 * c + 8 * d) → z ≡ formBit x (form_of v)
-shown x v a b c d z ha hb hc hd hz = hz ∙ ap (tableBit v.table) (cc)
+pub shown : (x : ℕ → Bool) (v : Lut) (a b c d : ℕ) (z : Bool) → a ≡ digit (x v.a) → b ≡ digit (x v.b) → c ≡ digit (x v.c) → d ≡ digit (x v.d) → z ≡ table_bit v.table (a + 2 * b + 4 * c + 8 * d) → z ≡ form_bit x (form_of v)
+shown x v a b c d z ha hb hc hd hz = hz ∙ ap (table_bit v.table) (cc)
 
-pub row_is : (kind : ℕ) (s : Spots) (p q r : Lut) (i : ℕ) (x y z w : Bool) → x ≡ formBit (lookIn s i) (form_of p) → y ≡ formBit (lookIn s i) (form_of q) → z ≡ formBit (lookIn s i) (form_of r) → w ≡ gateBit kind x y z → w ≡ rowBit kind s p q r i
-row_is kind s p q r i x y z w hx hy hz hw = hw ∙ ap₂ (λ (a b : Bool). gateBit kind a b z) hx hy ∙ ap (gateBit kind (formBit (lookIn s i) (form_of p)) (formBit (lookIn s i) (form_of q))) hz
+pub row_is : (kind : ℕ) (s : Spots) (p q r : Lut) (i : ℕ) (x y z w : Bool) → x ≡ form_bit (look_in s i) (form_of p) → y ≡ form_bit (look_in s i) (form_of q) → z ≡ form_bit (look_in s i) (form_of r) → w ≡ gate_bit kind x y z → w ≡ row_bit kind s p q r i
+row_is kind s p q r i x y z w hx hy hz hw = hw ∙ ap₂ (λ (a b : Bool). gate_bit kind a b z) hx hy ∙ ap (gate_bit kind (form_bit (look_in s i) (form_of p)) (form_bit (look_in s i) (form_of q))) hz
 
 -- A COMPARISON WITH A NUMBER
 
@@ -240,18 +240,18 @@ both2 f = both (λ a. both (f a))
 abbrev both4 : (Bool → Bool → Bool → Bool → Bool) → Bool
 both4 f = both2 (λ a b. both2 (f a b))
 
-for-each : (f : Bool → Bool) → both f ≡ true → (b : Bool) → f b ≡ true
-for-each f h true = and_left (f true) (f false) h
-for-each f h false = and_right (f true) (f false) h
+for_each : (f : Bool → Bool) → both f ≡ true → (b : Bool) → f b ≡ true
+for_each f h true = and_left (f true) (f false) h
+for_each f h false = and_right (f true) (f false) h
 
-for-each2 : (f : Bool → Bool → Bool) → both2 f ≡ true → (a b : Bool) → f a b ≡ true
-for-each2 f h a b = for-each (f a) (for-each (λ (x : Bool). both (f x)) h a) b
+for_each2 : (f : Bool → Bool → Bool) → both2 f ≡ true → (a b : Bool) → f a b ≡ true
+for_each2 f h a b = for_each (f a) (for_each (λ (x : Bool). both (f x)) h a) b
 
-for-each4 : (f : Bool → Bool → Bool → Bool → Bool) → both4 f ≡ true → (a b c d : Bool) → f a b c d ≡ true
-for-each4 f h a b c d = for-each2 (f a b) (for-each2 (λ (x y : Bool). both2 (f x y)) h a b) c d
+for_each4 : (f : Bool → Bool → Bool → Bool → Bool) → both4 f ≡ true → (a b c d : Bool) → f a b c d ≡ true
+for_each4 f h a b c d = for_each2 (f a b) (for_each2 (λ (x y : Bool). both2 (f x y)) h a b) c d
 
-for-each8 : (f : Bool → Bool → Bool → Bool → Bool → Bool → Bool → Bool → Bool) → both4 (λ p q r s. both4 (f p q r s)) ≡ true → (p q r s a b c d : Bool) → f p q r s a b c d ≡ true
-for-each8 f h p q r s a b c d = for-each4 (f p q r s) (for-each4 (λ (p q r s : Bool). both4 (f p q r s)) h p q r s) a b c d
+for_each8 : (f : Bool → Bool → Bool → Bool → Bool → Bool → Bool → Bool → Bool) → both4 (λ p q r s. both4 (f p q r s)) ≡ true → (p q r s a b c d : Bool) → f p q r s a b c d ≡ true
+for_each8 f h p q r s a b c d = for_each4 (f p q r s) (for_each4 (λ (p q r s : Bool). both4 (f p q r s)) h p q r s) a b c d
 
 agree : (x y : Bool) → same x y ≡ true → x ≡ y
 agree true true h = refl
@@ -261,23 +261,23 @@ agree false false h = refl
 
 -- row a b c d of the table t moved up by a number of bits
 abbrev moved : ℕ → ℕ → Bool → Bool → Bool → Bool → Bool
-moved t n a b c d = tableBit (t * 2 ^ n % 2 ^ 32) (digit a + 2 * digit b + 4 * digit c + 8 * digit d)
+moved t n a b c d = table_bit (t * 2 ^ n % 2 ^ 32) (digit a + 2 * digit b + 4 * digit c + 8 * digit d)
 
-two-rows : (p q a b c d : Bool) → moved 4369 (digit p + 2 * digit q) a b c d ≡ sameBits (a ∷ b ∷ []) (p ∷ q ∷ [])
-two-rows p q a b c d = agree _ _ (for-each8 (λ (p q r s a b c d : Bool). same (moved 4369 (digit p + 2 * digit q) a b c d) (sameBits (a ∷ b ∷ []) (p ∷ q ∷ []))) refl p q true true a b c d)
+two_rows : (p q a b c d : Bool) → moved 4369 (digit p + 2 * digit q) a b c d ≡ same_bits (a ∷ b ∷ []) (p ∷ q ∷ [])
+two_rows p q a b c d = agree _ _ (for_each8 (λ (p q r s a b c d : Bool). same (moved 4369 (digit p + 2 * digit q) a b c d) (same_bits (a ∷ b ∷ []) (p ∷ q ∷ []))) refl p q true true a b c d)
 
-three-rows : (p q r a b c d : Bool) → moved 257 (digit p + 2 * digit q + 4 * digit r) a b c d ≡ sameBits (a ∷ b ∷ c ∷ []) (p ∷ q ∷ r ∷ [])
-three-rows p q r a b c d = agree _ _ (for-each8 (λ (p q r s a b c d : Bool). same (moved 257 (digit p + 2 * digit q + 4 * digit r) a b c d) (sameBits (a ∷ b ∷ c ∷ []) (p ∷ q ∷ r ∷ []))) refl p q r true a b c d)
+three_rows : (p q r a b c d : Bool) → moved 257 (digit p + 2 * digit q + 4 * digit r) a b c d ≡ same_bits (a ∷ b ∷ c ∷ []) (p ∷ q ∷ r ∷ [])
+three_rows p q r a b c d = agree _ _ (for_each8 (λ (p q r s a b c d : Bool). same (moved 257 (digit p + 2 * digit q + 4 * digit r) a b c d) (same_bits (a ∷ b ∷ c ∷ []) (p ∷ q ∷ r ∷ []))) refl p q r true a b c d)
 
-four-rows : (p q r s a b c d : Bool) → moved 1 (digit p + 2 * digit q + 4 * digit r + 8 * digit s) a b c d ≡ sameBits (a ∷ b ∷ c ∷ d ∷ []) (p ∷ q ∷ r ∷ s ∷ [])
-four-rows p q r s a b c d = agree _ _ (for-each8 (λ (p q r s a b c d : Bool). same (moved 1 (digit p + 2 * digit q + 4 * digit r + 8 * digit s) a b c d) (sameBits (a ∷ b ∷ c ∷ d ∷ []) (p ∷ q ∷ r ∷ s ∷ []))) refl p q r s a b c d)
+four_rows : (p q r s a b c d : Bool) → moved 1 (digit p + 2 * digit q + 4 * digit r + 8 * digit s) a b c d ≡ same_bits (a ∷ b ∷ c ∷ d ∷ []) (p ∷ q ∷ r ∷ s ∷ [])
+four_rows p q r s a b c d = agree _ _ (for_each8 (λ (p q r s a b c d : Bool). same (moved 1 (digit p + 2 * digit q + 4 * digit r + 8 * digit s) a b c d) (same_bits (a ∷ b ∷ c ∷ d ∷ []) (p ∷ q ∷ r ∷ s ∷ []))) refl p q r s a b c d)
 
 module _ (w v p : ℕ) (z : Lut) where
   abbrev bit : ℕ → Bool
   bit n = eqb (n % 2) 1
 
-  pub matches-none : z.table ≡ 65536 → Matches w v p z
-  matches-none e = record { matches = λ s x. absurd (omega arith) }
+  pub matches_none : z.table ≡ 65536 → Matches w v p z
+  matches_none e = record { matches = λ s x. absurd (omega arith) }
 
   module _ (ha : z.a ≡ p) (hb : z.b ≡ p + 1) where
     at_first : (x : ℕ → Bool) → x z.a ≡ x p
@@ -286,39 +286,39 @@ module _ (w v p : ℕ) (z : Lut) where
     at_second : (x : ℕ → Bool) → x z.b ≡ x (suc p)
     at_second x = let e : z.b ≡ suc p = omega arith in ap x e
 
-    pub matches-two : w ≡ 2 → z.table ≡ 4369 * 2 ^ (v % 4) % 2 ^ 32 → Matches w v p z
-    matches-two hw ht = record {
+    pub matches_two : w ≡ 2 → z.table ≡ 4369 * 2 ^ (v % 4) % 2 ^ 32 → Matches w v p z
+    matches_two hw ht = record {
       matches = λ s x.
           let n : v % 4 ≡ digit (bit v) + 2 * digit (bit (v / 2)) = omega (arith, low_bit v, low_bit (v / 2)) in
-          ap (λ (t : ℕ). tableBit t (row x (form_of z))) (ht ∙ ap (λ (k : ℕ). 4369 * 2 ^ k % 2 ^ 32) n)
-          ∙ two-rows (bit v) (bit (v / 2)) (x z.a) (x z.b) (x z.c) (x z.d)
-          ∙ ap₂ (λ (a b : Bool). sameBits (a ∷ b ∷ []) (binary 2 v)) (at_first x) (at_second x)
-          ∙ ap (λ (k : ℕ). sameBits (bitsFrom x p k) (binary k v)) (sym hw);
+          ap (λ (t : ℕ). table_bit t (row x (form_of z))) (ht ∙ ap (λ (k : ℕ). 4369 * 2 ^ k % 2 ^ 32) n)
+          ∙ two_rows (bit v) (bit (v / 2)) (x z.a) (x z.b) (x z.c) (x z.d)
+          ∙ ap₂ (λ (a b : Bool). same_bits (a ∷ b ∷ []) (binary 2 v)) (at_first x) (at_second x)
+          ∙ ap (λ (k : ℕ). same_bits (bits_from x p k) (binary k v)) (sym hw);
     }
 
     module _ (hc : z.c ≡ p + 2) where
-      at-third : (x : ℕ → Bool) → x z.c ≡ x (suc (suc p))
-      at-third x = let e : z.c ≡ suc (suc p) = omega arith in ap x e
+      at_third : (x : ℕ → Bool) → x z.c ≡ x (suc (suc p))
+      at_third x = let e : z.c ≡ suc (suc p) = omega arith in ap x e
 
-      pub matches-three : w ≡ 3 → z.table ≡ 257 * 2 ^ (v % 8) % 2 ^ 32 → Matches w v p z
-      matches-three hw ht = record {
+      pub matches_three : w ≡ 3 → z.table ≡ 257 * 2 ^ (v % 8) % 2 ^ 32 → Matches w v p z
+      matches_three hw ht = record {
         matches = λ s x.
             let n : v % 8 ≡ digit (bit v) + 2 * digit (bit (v / 2)) + 4 * digit (bit (v / 2 / 2)) = omega (arith, low_bit v, low_bit (v / 2), low_bit (v / 2 / 2)) in
-            ap (λ (t : ℕ). tableBit t (row x (form_of z))) (ht ∙ ap (λ (k : ℕ). 257 * 2 ^ k % 2 ^ 32) n)
-            ∙ three-rows (bit v) (bit (v / 2)) (bit (v / 2 / 2)) (x z.a) (x z.b) (x z.c) (x z.d)
-            ∙ ap₂ (λ (a b : Bool). sameBits (a ∷ b ∷ x z.c ∷ []) (binary 3 v)) (at_first x) (at_second x)
-            ∙ ap (λ (c : Bool). sameBits (x p ∷ x (suc p) ∷ c ∷ []) (binary 3 v)) (at-third x)
-            ∙ ap (λ (k : ℕ). sameBits (bitsFrom x p k) (binary k v)) (sym hw);
+            ap (λ (t : ℕ). table_bit t (row x (form_of z))) (ht ∙ ap (λ (k : ℕ). 257 * 2 ^ k % 2 ^ 32) n)
+            ∙ three_rows (bit v) (bit (v / 2)) (bit (v / 2 / 2)) (x z.a) (x z.b) (x z.c) (x z.d)
+            ∙ ap₂ (λ (a b : Bool). same_bits (a ∷ b ∷ x z.c ∷ []) (binary 3 v)) (at_first x) (at_second x)
+            ∙ ap (λ (c : Bool). same_bits (x p ∷ x (suc p) ∷ c ∷ []) (binary 3 v)) (at_third x)
+            ∙ ap (λ (k : ℕ). same_bits (bits_from x p k) (binary k v)) (sym hw);
       }
 
-      pub matches-four : z.d ≡ p + 3 → w ≡ 4 → z.table ≡ 1 * 2 ^ (v % 16) % 2 ^ 32 → Matches w v p z
-      matches-four hd hw ht = record {
+      pub matches_four : z.d ≡ p + 3 → w ≡ 4 → z.table ≡ 1 * 2 ^ (v % 16) % 2 ^ 32 → Matches w v p z
+      matches_four hd hw ht = record {
         matches = λ s x.
             let n : v % 16 ≡ digit (bit v) + 2 * digit (bit (v / 2)) + 4 * digit (bit (v / 2 / 2)) + 8 * digit (bit (v / 2 / 2 / 2)) = omega (arith, low_bit v, low_bit (v / 2), low_bit (v / 2 / 2), low_bit (v / 2 / 2 / 2)) in
             let e : z.d ≡ suc (suc (suc p)) = omega arith in
-            ap (λ (t : ℕ). tableBit t (row x (form_of z))) (ht ∙ ap (λ (k : ℕ). 1 * 2 ^ k % 2 ^ 32) n)
-            ∙ four-rows (bit v) (bit (v / 2)) (bit (v / 2 / 2)) (bit (v / 2 / 2 / 2)) (x z.a) (x z.b) (x z.c) (x z.d)
-            ∙ ap₂ (λ (a b : Bool). sameBits (a ∷ b ∷ x z.c ∷ x z.d ∷ []) (binary 4 v)) (at_first x) (at_second x)
-            ∙ ap₂ (λ (c d : Bool). sameBits (x p ∷ x (suc p) ∷ c ∷ d ∷ []) (binary 4 v)) (at-third x) (ap x e)
-            ∙ ap (λ (k : ℕ). sameBits (bitsFrom x p k) (binary k v)) (sym hw);
+            ap (λ (t : ℕ). table_bit t (row x (form_of z))) (ht ∙ ap (λ (k : ℕ). 1 * 2 ^ k % 2 ^ 32) n)
+            ∙ four_rows (bit v) (bit (v / 2)) (bit (v / 2 / 2)) (bit (v / 2 / 2 / 2)) (x z.a) (x z.b) (x z.c) (x z.d)
+            ∙ ap₂ (λ (a b : Bool). same_bits (a ∷ b ∷ x z.c ∷ x z.d ∷ []) (binary 4 v)) (at_first x) (at_second x)
+            ∙ ap₂ (λ (c d : Bool). same_bits (x p ∷ x (suc p) ∷ c ∷ d ∷ []) (binary 4 v)) (at_third x) (ap x e)
+            ∙ ap (λ (k : ℕ). same_bits (bits_from x p k) (binary k v)) (sym hw);
       }

@@ -3,26 +3,26 @@ use Rattle.std.specs.Prelude.{ℕ, ◌+◌, ◌*◌, ◌%◌, ◌≤◌, ◌<◌
 use Rattle.std.proofs.Math.Option.{Option, none, some}
 use Rattle.std.proofs.lemmas.List.Edits.{sets}
 use Rattle.simulation.specs.Tick.{given, assigns}
-use Rattle.simulation.specs.Index.{recordsIn, offset, clipped, stmtsIn, Indexed, Starts, Driven}
+use Rattle.simulation.specs.Index.{records_in, offset, clipped, stmts_in, Indexed, Starts, Driven}
 use Rattle.evaluation.specs.Ready.{Prepared}
 use Rattle.fusing.specs.declared.join.Lut.{Lut}
-use Rattle.fusing.specs.Form.{formBit, formAt, Means, Formed}
-use Rattle.fusing.specs.Join.{form_of, gateBit, Alone, Matches}
+use Rattle.fusing.specs.Form.{form_bit, form_at, Means, Formed}
+use Rattle.fusing.specs.Join.{form_of, gate_bit, Alone, Matches}
 
 -- WHAT IS ASSUMED
 
 -- a model without a fault, and its tables
-pub record Known (signals exprs stmts starts exprTable signalTable driverTable : List ℕ) : Type 0 where
-  pub prepared : Prepared signals exprs stmts exprTable signalTable
+pub record Known (signals exprs stmts starts expr_table signal_table driver_table : List ℕ) : Type 0 where
+  pub prepared : Prepared signals exprs stmts expr_table signal_table
   pub started : Starts exprs starts
-  pub driven : Driven stmts driverTable
+  pub driven : Driven stmts driver_table
 
 -- all of its n expressions have room for their forms
-pub record Formable (signals exprs stmts starts exprTable signalTable driverTable : List ℕ) (n from : ℕ) (forms : List ℕ) : Type 0 where
-  pub prepared : Prepared signals exprs stmts exprTable signalTable
+pub record Formable (signals exprs stmts starts expr_table signal_table driver_table : List ℕ) (n from : ℕ) (forms : List ℕ) : Type 0 where
+  pub prepared : Prepared signals exprs stmts expr_table signal_table
   pub started : Starts exprs starts
-  pub driven : Driven stmts driverTable
-  pub count : n ≡ length (recordsIn exprs)
+  pub driven : Driven stmts driver_table
+  pub count : n ≡ length (records_in exprs)
   pub room : from + 6 * n ≤ length forms
 
 -- WHERE A BIT STANDS
@@ -37,52 +37,52 @@ abbrev pub spot_of : List ℕ → List ℕ → ℕ → ℕ → Option ℕ → �
 spot_of ew sw s l none = offset ew (length ew) + offset sw s + l
 spot_of ew sw s l (some d) = offset ew d + l
 
-pub record Spotted (stmts exprTable signalTable driverTable : List ℕ) (base s l r : ℕ) : Type 0 where
-  pub spotted : (ew sw : List ℕ) → Indexed ew exprTable → Indexed sw signalTable → Driven stmts driverTable → base ≡ clipped (offset ew (length ew)) → s ≤ length sw → ((d : ℕ) → given assigns (stmtsIn stmts) s ≡ some d → d ≤ length ew) → r < 4294967295 → r ≡ spot_of ew sw s l (given assigns (stmtsIn stmts) s)
+pub record Spotted (stmts expr_table signal_table driver_table : List ℕ) (base s l r : ℕ) : Type 0 where
+  pub spotted : (ew sw : List ℕ) → Indexed ew expr_table → Indexed sw signal_table → Driven stmts driver_table → base ≡ clipped (offset ew (length ew)) → s ≤ length sw → ((d : ℕ) → given assigns (stmts_in stmts) s ≡ some d → d ≤ length ew) → r < 4294967295 → r ≡ spot_of ew sw s l (given assigns (stmts_in stmts) s)
 
 -- BY KIND
 
 -- a constant of one bit, whose record begins at a word
 pub record OneBit (exprs : List ℕ) (at : ℕ) (z : Lut) : Type 0 where
   pub one_bit : get_or exprs (at + 2) 0 ≡ 1
-  pub bit : (x : ℕ → Bool) → formBit x (form_of z) ≡ eqb (get_or exprs (at + 3) 0 % 2) 1
+  pub bit : (x : ℕ → Bool) → form_bit x (form_of z) ≡ eqb (get_or exprs (at + 3) 0 % 2) 1
 
 -- one bit of a signal
-pub record OneSpot (exprs stmts exprTable signalTable driverTable : List ℕ) (base at : ℕ) (z : Lut) : Type 0 where
+pub record OneSpot (exprs stmts expr_table signal_table driver_table : List ℕ) (base at : ℕ) (z : Lut) : Type 0 where
   pub one_bit : get_or exprs (at + 2) 0 ≡ 1
   pub spot : ℕ
   pub small : spot < 4294967295
-  pub spotted : Spotted stmts exprTable signalTable driverTable base (get_or exprs (at + 3) 0) (get_or exprs (at + 4) 0) spot
+  pub spotted : Spotted stmts expr_table signal_table driver_table base (get_or exprs (at + 3) 0) (get_or exprs (at + 4) 0) spot
   pub alone : Alone spot z
 
 -- the bit at the own position of o is what its form shows
 abbrev pub Own : (ℕ → Bool) → List ℕ → ℕ → Type 0
-Own x forms o = x (get_or forms (6 * o + 1) 0) ≡ formBit x (formAt forms o)
+Own x forms o = x (get_or forms (6 * o + 1) 0) ≡ form_bit x (form_at forms o)
 
 -- a gate of three operands that have forms
 pub record Fused (forms : List ℕ) (kind a b c : ℕ) (z : Lut) : Type 0 where
   pub first : get_or forms (6 * a) 0 < 65536
   pub second : get_or forms (6 * b) 0 < 65536
   pub third : get_or forms (6 * c) 0 < 65536
-  pub shows : (x : ℕ → Bool) → Own x forms a → Own x forms b → Own x forms c → formBit x (form_of z) ≡ gateBit kind (formBit x (formAt forms a)) (formBit x (formAt forms b)) (formBit x (formAt forms c))
+  pub shows : (x : ℕ → Bool) → Own x forms a → Own x forms b → Own x forms c → form_bit x (form_of z) ≡ gate_bit kind (form_bit x (form_at forms a)) (form_bit x (form_at forms b)) (form_bit x (form_at forms c))
 
 pub record Fuses (forms : List ℕ) (kind a b c : ℕ) (z : Lut) : Type 0 where
   pub fuses : z.table < 65536 → Fused forms kind a b c z
 
 -- operand a has the value of b, a constant whose record begins at a word
-pub record Compared (exprs starts exprTable : List ℕ) (a b : ℕ) (z : Lut) : Type 0 where
+pub record Compared (exprs starts expr_table : List ℕ) (a b : ℕ) (z : Lut) : Type 0 where
   pub begin : ℕ
   pub begins : Entry starts b begin
   pub there : begin < 4294967295
   pub constant : get_or exprs (begin + 1) 0 ≡ 0
   pub own : ℕ
-  pub owned : Entry exprTable a own
+  pub owned : Entry expr_table a own
   pub small : own < 4294967295
   pub matches : Matches (get_or exprs (begin + 2) 0) (get_or exprs (begin + 3) 0) own z
 
 -- a comparison, by the operands' forms or with a constant
-pub record Equates (exprs starts exprTable forms : List ℕ) (a b : ℕ) (z : Lut) : Type 0 where
-  pub equates : z.table < 65536 → Fused forms 8 a b b z ⊎ Compared exprs starts exprTable a b z
+pub record Equates (exprs starts expr_table forms : List ℕ) (a b : ℕ) (z : Lut) : Type 0 where
+  pub equates : z.table < 65536 → Fused forms 8 a b b z ⊎ Compared exprs starts expr_table a b z
 
 -- ALL OF THEM
 
@@ -94,8 +94,8 @@ pub record Finds (signals exprs stmts forms : List ℕ) (e : ℕ) (z : Lut) : Ty
 pub record Puts (e own : ℕ) (z : Lut) (forms forms' : List ℕ) : Type 0 where
   pub table : ℕ
   pub stored : forms' ≡ sets forms (6 * e) (table ∷ own ∷ z.a ∷ z.b ∷ z.c ∷ z.d ∷ [])
-  pub as-found : table < 65536 → table ≡ z.table
-  pub with-own : table < 65536 → own < 4294967295
+  pub as_found : table < 65536 → table ≡ z.table
+  pub with_own : table < 65536 → own < 4294967295
 
 -- from word n on a list is as it was
 pub record Behind (n : ℕ) (l l' : List ℕ) : Type 0 where
@@ -103,8 +103,8 @@ pub record Behind (n : ℕ) (l l' : List ℕ) : Type 0 where
 
 -- WHAT IS FILLED IN, for any words: from a word on six for each of n expressions, if there is room; all others are kept. Which forms there are is
 -- left open, but each that is there is right, where model and tables are
-pub record Fills (signals exprs stmts starts exprTable signalTable driverTable : List ℕ) (n from : ℕ) (forms forms' : List ℕ) : Type 0 where
+pub record Fills (signals exprs stmts starts expr_table signal_table driver_table : List ℕ) (n from : ℕ) (forms forms' : List ℕ) : Type 0 where
   pub before : take from forms' ≡ take from forms
   pub behind : Behind (from + 6 * n) forms forms'
   pub no_room : length forms < from + 6 * n → forms' ≡ forms
-  pub formed : Formable signals exprs stmts starts exprTable signalTable driverTable n from forms → Formed signals exprs stmts (drop from forms') n
+  pub formed : Formable signals exprs stmts starts expr_table signal_table driver_table n from forms → Formed signals exprs stmts (drop from forms') n

@@ -1,7 +1,7 @@
 // The form of one expression, from its record and the forms of its operands.
 ghost use Rattle.std.specs.Prelude.{◌≡◌, List, ℕ, ◌+◌, ◌*◌, ◌<◌, length, get_or};
-ghost use Rattle.simulation.specs.Index.{recordsIn, widthsIn, offset, clipped};
-ghost use Rattle.fusing.specs.Form.{formAt, Formed};
+ghost use Rattle.simulation.specs.Index.{records_in, widths_in, offset, clipped};
+ghost use Rattle.fusing.specs.Form.{form_at, Formed};
 ghost use Rattle.fusing.specs.Join.{form_of, Alone, Matches};
 ghost use Rattle.fusing.specs.Finding.{Entry, Spotted, OneBit, OneSpot, Fuses, Compared, Equates, Known, Finds};
 
@@ -112,7 +112,7 @@ fn read_form(
 
 // The form of an operand.
 fn view(forms: &[u32], o: u32) -> Lut
-    ensures { form_of result ≡ formAt forms.now o }
+    ensures { form_of result ≡ form_at forms.now o }
 {
     let at = 6 * wide(o);
     let table = word(forms, at, 0);
@@ -243,7 +243,7 @@ pub fn form_of(
     e: usize,
     forms: &[u32],
 ) -> Lut
-    ensures { (signals : List ℕ) → Known signals exprs.now stmts.now starts.now expr_table.now signal_table.now driver_table.now → e < length (recordsIn exprs.now) → base ≡ clipped (offset (widthsIn exprs.now) (length (recordsIn exprs.now))) → Finds signals exprs.now stmts.now forms.now e result }
+    ensures { (signals : List ℕ) → Known signals exprs.now stmts.now starts.now expr_table.now signal_table.now driver_table.now → e < length (records_in exprs.now) → base ≡ clipped (offset (widths_in exprs.now) (length (records_in exprs.now))) → Finds signals exprs.now stmts.now forms.now e result }
 {
     let begin = entry(starts, e);
     if begin == 4294967295 {

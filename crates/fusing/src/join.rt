@@ -1,8 +1,8 @@
 // The table of a gate whose operands are tables.
 ghost use Rattle.std.specs.Prelude.{◌≡◌, true, ◌+◌, ◌*◌, ◌<◌};
-ghost use Rattle.bits.specs.Bits.{digit, tableBit};
-ghost use Rattle.fusing.specs.Form.{formBit};
-ghost use Rattle.fusing.specs.Join.{form_of, gateBit, lookIn, rowBit, among, flatTable, Tabled, Covers, Joins, Alone};
+ghost use Rattle.bits.specs.Bits.{digit, table_bit};
+ghost use Rattle.fusing.specs.Form.{form_bit};
+ghost use Rattle.fusing.specs.Join.{form_of, gate_bit, look_in, row_bit, among, flat_table, Tabled, Covers, Joins, Alone};
 
 // A table of 16 bits and the positions of its four inputs. A table from 65,536 on is none.
 #[derive(Drop)]
@@ -53,14 +53,14 @@ pub fn alone(p: u32) -> Lut
 
 fn bit_at(table: u32, i: u32) -> bool
     requires { i < 32 }
-    ensures { result ≡ tableBit table i }
+    ensures { result ≡ table_bit table i }
 {
     (table >> i) % 2 == 1
 }
 
 // What row i has at position p.
 fn look(s: Spots, i: u32, p: u32) -> u32
-    ensures { (result ≡ digit (lookIn s i p)) × (result < 2) }
+    ensures { (result ≡ digit (look_in s i p)) × (result < 2) }
 {
     if p == s.a {
         return i % 2;
@@ -79,7 +79,7 @@ fn look(s: Spots, i: u32, p: u32) -> u32
 
 // What a table shows in row i.
 fn bit(s: Spots, v: Lut, i: u32) -> bool
-    ensures { result ≡ formBit (lookIn s i) (form_of v) }
+    ensures { result ≡ form_bit (look_in s i) (form_of v) }
 {
     let a = look(s, i, v.a);
     let b = look(s, i, v.b);
@@ -90,7 +90,7 @@ fn bit(s: Spots, v: Lut, i: u32) -> bool
 
 // Gates by the kinds of expressions, on single bits.
 fn gate(kind: u32, p: bool, q: bool, r: bool) -> bool
-    ensures { result ≡ gateBit kind p q r }
+    ensures { result ≡ gate_bit kind p q r }
 {
     match kind {
         4 => if p { q } else { false },
@@ -103,7 +103,7 @@ fn gate(kind: u32, p: bool, q: bool, r: bool) -> bool
 }
 
 fn row(kind: u32, s: Spots, p: Lut, q: Lut, r: Lut, i: u32) -> bool
-    ensures { result ≡ rowBit kind s p q r i }
+    ensures { result ≡ row_bit kind s p q r i }
 {
     let x = bit(s, p, i);
     let y = bit(s, q, i);
@@ -121,7 +121,7 @@ fn above(b: bool, t: u32) -> u32
 
 // All 16 rows, the last first.
 fn table(kind: u32, s: Spots, p: Lut, q: Lut, r: Lut) -> u32
-    ensures { Tabled (rowBit kind s p q r) result 0 }
+    ensures { Tabled (row_bit kind s p q r) result 0 }
 {
     let mut t: u32 = 0;
     let mut i: u32 = 16;
@@ -149,7 +149,7 @@ fn has(s: Spots, p: u32) -> bool
 
 // It shows the same in every row.
 fn flat(v: Lut) -> bool
-    ensures { result ≡ flatTable v.table }
+    ensures { result ≡ flat_table v.table }
 {
     if v.table == 0 {
         return true;

@@ -6,7 +6,7 @@ mod find; // find.rt: the form of one expression
 mod join; // join.rt: the table of a gate of tables
 
 ghost use Rattle.std.specs.Prelude.{◌≡◌, List, ℕ, ◌+◌, ◌*◌, ◌≤◌, ◌<◌, length};
-ghost use Rattle.simulation.specs.Index.{recordsIn};
+ghost use Rattle.simulation.specs.Index.{records_in};
 ghost use Rattle.fusing.specs.Form.{Formed};
 ghost use Rattle.fusing.specs.Finding.{Known, Puts, Behind, Fills};
 
@@ -51,7 +51,7 @@ fn fill(
 )
     requires { 6 * n ≤ length forms.old }
     ensures behind { Behind (6 * n) forms.old forms.new }
-    ensures formed { (signals : List ℕ) → Known signals exprs.now stmts.now starts.now expr_table.now signal_table.now driver_table.now → n ≡ length (recordsIn exprs.now) → Formed signals exprs.now stmts.now forms.new n }
+    ensures formed { (signals : List ℕ) → Known signals exprs.now stmts.now starts.now expr_table.now signal_table.now driver_table.now → n ≡ length (records_in exprs.now) → Formed signals exprs.now stmts.now forms.new n }
 {
     let base = clip(sum_to(exprs, n));
     let mut e: usize = 0;

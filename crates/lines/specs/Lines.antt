@@ -14,65 +14,65 @@ unfoldable pub field : ℕ → ℕ → List ℕ
 field mark n = (space ∷ pick (eqb mark dash) [] (mark ∷ [])) ++ decimal n
 
 -- each field with its mark; those past the marks have the last
-abbrev pub fieldsText : List ℕ → ℕ → List ℕ → List ℕ
-fieldsText marks last [] = []
-fieldsText [] last (n ∷ f) = field last n ++ fieldsText [] last f
-fieldsText (m ∷ marks) last (n ∷ f) = field m n ++ fieldsText marks last f
+abbrev pub fields_text : List ℕ → ℕ → List ℕ → List ℕ
+fields_text marks last [] = []
+fields_text [] last (n ∷ f) = field last n ++ fields_text [] last f
+fields_text (m ∷ marks) last (n ∷ f) = field m n ++ fields_text marks last f
 
 -- letter and number, the first field by its name, the others as rest writes them
-unfoldable pub recordText : ℕ → List (List ℕ) → (ℕ → List ℕ → List ℕ) → ℕ → List ℕ → List ℕ
-recordText letter names rest n [] = letter ∷ decimal n
-recordText letter names rest n (k ∷ f) = (letter ∷ decimal n) ++ ((space ∷ named names k) ++ rest k f)
+unfoldable pub record_text : ℕ → List (List ℕ) → (ℕ → List ℕ → List ℕ) → ℕ → List ℕ → List ℕ
+record_text letter names rest n [] = letter ∷ decimal n
+record_text letter names rest n (k ∷ f) = (letter ∷ decimal n) ++ ((space ∷ named names k) ++ rest k f)
 
 -- RECORDS
 
 -- the owner's letter: the port of an input or output, the bank of a flip-flop, else the cell
-unfoldable pub ownerMark : ℕ → ℕ
-ownerMark label = pick (ltb label 2) p (pick (eqb label 7) b c)
+unfoldable pub owner_mark : ℕ → ℕ
+owner_mark label = pick (ltb label 2) p (pick (eqb label 7) b c)
 
 -- zero and one belong to nothing, so that only their width is written
 abbrev pub owned : ℕ → List ℕ → List ℕ
 owned label f = pick (eqb label 14) (take 1 f) (pick (eqb label 15) (take 1 f) f)
 
 -- width and owner
-unfoldable pub signalFields : ℕ → List ℕ → List ℕ
-signalFields label f = fieldsText (dash ∷ ownerMark label ∷ []) dash (owned label f)
+unfoldable pub signal_fields : ℕ → List ℕ → List ℕ
+signal_fields label f = fields_text (dash ∷ owner_mark label ∷ []) dash (owned label f)
 
-abbrev pub signalText : ℕ → List ℕ → List ℕ
-signalText = recordText s labels signalFields
+abbrev pub signal_text : ℕ → List ℕ → List ℕ
+signal_text = record_text s labels signal_fields
 
 -- the width; then a const's value, a read's signal and lowest bit, or operands
-unfoldable pub exprFields : ℕ → List ℕ → List ℕ
-exprFields zero f = fieldsText [] dash f
-exprFields (suc zero) f = fieldsText (dash ∷ s ∷ []) dash f
-exprFields (suc (suc k)) f = fieldsText (dash ∷ []) e f
+unfoldable pub expr_fields : ℕ → List ℕ → List ℕ
+expr_fields zero f = fields_text [] dash f
+expr_fields (suc zero) f = fields_text (dash ∷ s ∷ []) dash f
+expr_fields (suc (suc k)) f = fields_text (dash ∷ []) e f
 
-abbrev pub exprText : ℕ → List ℕ → List ℕ
-exprText = recordText e kinds exprFields
+abbrev pub expr_text : ℕ → List ℕ → List ℕ
+expr_text = record_text e kinds expr_fields
 
 -- a flag, and behind a flag of 1 the marks of what it announces
 abbrev pub optional : ℕ → List ℕ → List ℕ
 optional flag marks = dash ∷ pick (eqb flag 1) marks []
 
 -- target, next, clock and edge; the reset's flag, signal, level and value; the enable's flag, signal and level
-abbrev pub regMarks : List ℕ → List ℕ
-regMarks f =
+abbrev pub reg_marks : List ℕ → List ℕ
+reg_marks f =
     (s ∷ e ∷ s ∷ dash ∷ [])
     ++ optional (get_or f 4 0) (s ∷ dash ∷ e ∷ [])
     ++ optional (get_or f (pick (eqb (get_or f 4 0) 1) 8 5) 0) (s ∷ dash ∷ [])
 
 -- an assignment's target and value; any other statement is written as a register
-unfoldable pub stmtFields : ℕ → List ℕ → List ℕ
-stmtFields zero f = fieldsText (s ∷ e ∷ []) dash f
-stmtFields (suc k) f = fieldsText (regMarks f) dash f
+unfoldable pub stmt_fields : ℕ → List ℕ → List ℕ
+stmt_fields zero f = fields_text (s ∷ e ∷ []) dash f
+stmt_fields (suc k) f = fields_text (reg_marks f) dash f
 
-abbrev pub stmtText : ℕ → List ℕ → List ℕ
-stmtText = recordText t statements stmtFields
+abbrev pub stmt_text : ℕ → List ℕ → List ℕ
+stmt_text = record_text t statements stmt_fields
 
 -- THE FIRST LINE, OR THE ONLY ONE
 
-unfoldable pub countsText : ℕ → ℕ → ℕ → List ℕ
-countsText signals exprs stmts = model ++ fieldsText [] dash (signals ∷ exprs ∷ stmts ∷ [])
+unfoldable pub counts_text : ℕ → ℕ → ℕ → List ℕ
+counts_text signals exprs stmts = model ++ fields_text [] dash (signals ∷ exprs ∷ stmts ∷ [])
 
-unfoldable pub refusedText : ℕ → ℕ → List ℕ
-refusedText number place = refused ++ field dash number ++ field dash place
+unfoldable pub refused_text : ℕ → ℕ → List ℕ
+refused_text number place = refused ++ field dash number ++ field dash place

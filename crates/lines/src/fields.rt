@@ -2,7 +2,7 @@
 ghost use Rattle.std.specs.Prelude.{◌≡◌, ◌++◌, get_or};
 ghost use Rattle.text.specs.Text.{Appended};
 ghost use Rattle.text.specs.Decimal.{decimal};
-ghost use Rattle.lines.specs.Lines.{field, fieldsText};
+ghost use Rattle.lines.specs.Lines.{field, fields_text};
 
 use text::{Place, put_decimal, put_text};
 
@@ -35,7 +35,7 @@ fn put_field(out: &mut [u8], at: usize, mark: u8, n: u32) -> Place
 
 // Fields with their marks; those past the marks have the last.
 pub fn put_fields(out: &mut [u8], at: usize, marks: &[u8], last: u8, fields: &[u32]) -> Place
-    ensures { Appended out.old at (fieldsText marks.now last fields.now) result out.new }
+    ensures { Appended out.old at (fields_text marks.now last fields.now) result out.new }
 {
     if out.len() < at {
         return Place::Full;

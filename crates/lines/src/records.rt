@@ -1,7 +1,7 @@
 // One line each, without its end: a record by its number and its fields, the first line of a model, a refusal.
 ghost use Rattle.std.specs.Prelude.{◌≡◌};
 ghost use Rattle.text.specs.Text.{Appended};
-ghost use Rattle.lines.specs.Lines.{ownerMark, signalFields, signalText, exprFields, exprText, stmtFields, stmtText, countsText, refusedText};
+ghost use Rattle.lines.specs.Lines.{owner_mark, signal_fields, signal_text, expr_fields, expr_text, stmt_fields, stmt_text, counts_text, refused_text};
 
 use crate::fields::{put_fields, put_number};
 use crate::names::{put_kind, put_label, put_verb};
@@ -9,7 +9,7 @@ use recorder::read::word;
 use text::{Place, put_text};
 
 fn owner_mark(label: u32) -> u8
-    ensures { result ≡ ownerMark label }
+    ensures { result ≡ owner_mark label }
 {
     if label < 2 {
         b'p'
@@ -22,7 +22,7 @@ fn owner_mark(label: u32) -> u8
 
 // The width, and the owner of what has one.
 fn put_owned(out: &mut [u8], at: usize, label: u32, f: &[u32]) -> Place
-    ensures { Appended out.old at (signalFields label f.now) result out.new }
+    ensures { Appended out.old at (signal_fields label f.now) result out.new }
 {
     let marks = [b'-', owner_mark(label)];
     if f.len() == 0 {
@@ -38,7 +38,7 @@ fn put_owned(out: &mut [u8], at: usize, label: u32, f: &[u32]) -> Place
 }
 
 pub fn put_signal(out: &mut [u8], at: usize, number: u64, fields: &[u32]) -> Place
-    ensures { Appended out.old at (signalText number fields.now) result out.new }
+    ensures { Appended out.old at (signal_text number fields.now) result out.new }
 {
     let r = put_number(out, at, b"s", number);
     let Place::At(a) = r else {
@@ -57,7 +57,7 @@ pub fn put_signal(out: &mut [u8], at: usize, number: u64, fields: &[u32]) -> Pla
 
 // The width, and the operands of a kind.
 fn put_operands(out: &mut [u8], at: usize, kind: u32, f: &[u32]) -> Place
-    ensures { Appended out.old at (exprFields kind f.now) result out.new }
+    ensures { Appended out.old at (expr_fields kind f.now) result out.new }
 {
     if kind == 0 {
         return put_fields(out, at, b"", b'-', f);
@@ -69,7 +69,7 @@ fn put_operands(out: &mut [u8], at: usize, kind: u32, f: &[u32]) -> Place
 }
 
 pub fn put_expression(out: &mut [u8], at: usize, number: u64, fields: &[u32]) -> Place
-    ensures { Appended out.old at (exprText number fields.now) result out.new }
+    ensures { Appended out.old at (expr_text number fields.now) result out.new }
 {
     let r = put_number(out, at, b"e", number);
     let Place::At(a) = r else {
@@ -88,7 +88,7 @@ pub fn put_expression(out: &mut [u8], at: usize, number: u64, fields: &[u32]) ->
 
 // What a statement of a kind sets, and by what.
 fn put_driven(out: &mut [u8], at: usize, kind: u32, f: &[u32]) -> Place
-    ensures { Appended out.old at (stmtFields kind f.now) result out.new }
+    ensures { Appended out.old at (stmt_fields kind f.now) result out.new }
 {
     if kind == 0 {
         return put_fields(out, at, b"se", b'-', f);
@@ -106,7 +106,7 @@ fn put_driven(out: &mut [u8], at: usize, kind: u32, f: &[u32]) -> Place
 }
 
 pub fn put_statement(out: &mut [u8], at: usize, number: u64, fields: &[u32]) -> Place
-    ensures { Appended out.old at (stmtText number fields.now) result out.new }
+    ensures { Appended out.old at (stmt_text number fields.now) result out.new }
 {
     let r = put_number(out, at, b"t", number);
     let Place::At(a) = r else {
@@ -125,7 +125,7 @@ pub fn put_statement(out: &mut [u8], at: usize, number: u64, fields: &[u32]) -> 
 
 // The counts of signals, expressions and statements.
 pub fn put_counts(out: &mut [u8], at: usize, signals: u32, exprs: u32, stmts: u32) -> Place
-    ensures { Appended out.old at (countsText signals exprs stmts) result out.new }
+    ensures { Appended out.old at (counts_text signals exprs stmts) result out.new }
 {
     let r = put_text(out, at, b"model");
     let Place::At(a) = r else {
@@ -136,7 +136,7 @@ pub fn put_counts(out: &mut [u8], at: usize, signals: u32, exprs: u32, stmts: u3
 }
 
 pub fn put_refused(out: &mut [u8], at: usize, number: usize, place: usize) -> Place
-    ensures { Appended out.old at (refusedText number place) result out.new }
+    ensures { Appended out.old at (refused_text number place) result out.new }
 {
     let r = put_text(out, at, b"refused");
     let Place::At(a) = r else {

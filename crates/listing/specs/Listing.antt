@@ -3,13 +3,13 @@ use Rattle.std.specs.Prelude.{List, [], ◌∷◌, ◌++◌, ℕ, suc}
 use Rattle.recorder.specs.Read.{split}
 use Rattle.lines.specs.Ascii.{newline}
 
-abbrev pub lineText : (ℕ → List ℕ → List ℕ) → ℕ → List ℕ → List ℕ
-lineText text n r = text n r ++ (newline ∷ [])
+abbrev pub line_text : (ℕ → List ℕ → List ℕ) → ℕ → List ℕ → List ℕ
+line_text text n r = text n r ++ (newline ∷ [])
 
 -- a line for each record, numbered from n
 abbrev pub lines_from : (ℕ → List ℕ → List ℕ) → ℕ → List (List ℕ) → List ℕ
 lines_from text n [] = []
-lines_from text n (r ∷ rs) = lineText text n r ++ lines_from text (suc n) rs
+lines_from text n (r ∷ rs) = line_text text n r ++ lines_from text (suc n) rs
 
 -- the records of a list of words, as far as they stand whole
 unfoldable pub lines_of : (ℕ → List ℕ → List ℕ) → List ℕ → List ℕ

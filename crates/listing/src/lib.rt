@@ -6,8 +6,8 @@ ghost use Rattle.std.specs.Prelude.{◌≡◌, [], ◌∷◌, ◌++◌};
 ghost use Rattle.recorder.specs.Standing.{size_at};
 ghost use Rattle.text.specs.Text.{Appended};
 ghost use Rattle.lines.specs.Ascii.{newline};
-ghost use Rattle.lines.specs.Lines.{signalText, exprText, stmtText, countsText};
-ghost use Rattle.listing.specs.Listing.{lineText, lines_of};
+ghost use Rattle.lines.specs.Lines.{signal_text, expr_text, stmt_text, counts_text};
+ghost use Rattle.listing.specs.Listing.{line_text, lines_of};
 
 use lines::records::{put_counts, put_expression, put_signal, put_statement};
 use recorder::Cut;
@@ -26,7 +26,7 @@ fn size(list: &[u32], at: usize) -> usize
 }
 
 fn put_signal_line(out: &mut [u8], at: usize, number: u64, fields: &[u32]) -> Place
-    ensures { Appended out.old at (lineText signalText number fields.now) result out.new }
+    ensures { Appended out.old at (line_text signal_text number fields.now) result out.new }
 {
     let r = put_signal(out, at, number, fields);
     let Place::At(a) = r else {
@@ -36,7 +36,7 @@ fn put_signal_line(out: &mut [u8], at: usize, number: u64, fields: &[u32]) -> Pl
 }
 
 fn put_expression_line(out: &mut [u8], at: usize, number: u64, fields: &[u32]) -> Place
-    ensures { Appended out.old at (lineText exprText number fields.now) result out.new }
+    ensures { Appended out.old at (line_text expr_text number fields.now) result out.new }
 {
     let r = put_expression(out, at, number, fields);
     let Place::At(a) = r else {
@@ -46,7 +46,7 @@ fn put_expression_line(out: &mut [u8], at: usize, number: u64, fields: &[u32]) -
 }
 
 fn put_statement_line(out: &mut [u8], at: usize, number: u64, fields: &[u32]) -> Place
-    ensures { Appended out.old at (lineText stmtText number fields.now) result out.new }
+    ensures { Appended out.old at (line_text stmt_text number fields.now) result out.new }
 {
     let r = put_statement(out, at, number, fields);
     let Place::At(a) = r else {
@@ -57,7 +57,7 @@ fn put_statement_line(out: &mut [u8], at: usize, number: u64, fields: &[u32]) ->
 
 // The counts of signals, expressions and statements, with the line's end.
 pub fn put_first_line(out: &mut [u8], at: usize, signals: u32, exprs: u32, stmts: u32) -> Place
-    ensures { Appended out.old at (countsText signals exprs stmts ++ (newline ∷ [])) result out.new }
+    ensures { Appended out.old at (counts_text signals exprs stmts ++ (newline ∷ [])) result out.new }
 {
     let r = put_counts(out, at, signals, exprs, stmts);
     let Place::At(a) = r else {
@@ -67,7 +67,7 @@ pub fn put_first_line(out: &mut [u8], at: usize, signals: u32, exprs: u32, stmts
 }
 
 pub fn put_signals(out: &mut [u8], at: usize, list: &[u32]) -> Place
-    ensures { Appended out.old at (lines_of signalText list.now) result out.new }
+    ensures { Appended out.old at (lines_of signal_text list.now) result out.new }
 {
     if out.len() < at {
         return Place::Full;
@@ -91,7 +91,7 @@ pub fn put_signals(out: &mut [u8], at: usize, list: &[u32]) -> Place
 }
 
 pub fn put_expressions(out: &mut [u8], at: usize, list: &[u32]) -> Place
-    ensures { Appended out.old at (lines_of exprText list.now) result out.new }
+    ensures { Appended out.old at (lines_of expr_text list.now) result out.new }
 {
     if out.len() < at {
         return Place::Full;
@@ -115,7 +115,7 @@ pub fn put_expressions(out: &mut [u8], at: usize, list: &[u32]) -> Place
 }
 
 pub fn put_statements(out: &mut [u8], at: usize, list: &[u32]) -> Place
-    ensures { Appended out.old at (lines_of stmtText list.now) result out.new }
+    ensures { Appended out.old at (lines_of stmt_text list.now) result out.new }
 {
     if out.len() < at {
         return Place::Full;

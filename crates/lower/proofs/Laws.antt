@@ -13,12 +13,12 @@ use Rattle.recorder.specs.Lists.{Lists, lists}
 use Rattle.recorder.specs.Words.{zeroed}
 use Rattle.lowering.specs.Lower.{Lowered, Lowering}
 use Rattle.converter.specs.declared.Lowered as c
-use Rattle.converter.specs.Entry.{answer_of, blankOf}
+use Rattle.converter.specs.Entry.{answer_of, blank_of}
 use Rattle.words.specs.Words.{words_of, Laid}
-use Rattle.words.proofs.Laws.{words-length}
-use Rattle.lower.specs.Entry.{wholeWords, lowerLent, unread, LowersWords, Unread, LowersBytes}
+use Rattle.words.proofs.Laws.{words_length}
+use Rattle.lower.specs.Entry.{whole_words, lower_lent, unread, LowersWords, Unread, LowersBytes}
 
-blanked : (l l' : Lists) → l'.signals ≡ zeroed l.signals → l'.exprs ≡ zeroed l.exprs → l'.stmts ≡ zeroed l.stmts → l' ≡ blankOf l
+blanked : (l l' : Lists) → l'.signals ≡ zeroed l.signals → l'.exprs ≡ zeroed l.exprs → l'.stmts ≡ zeroed l.stmts → l' ≡ blank_of l
 blanked l l' p q s =
     ap (λ (x : List ℕ). lists x l'.exprs l'.stmts) p
     ∙ ap (λ (x : List ℕ). lists (zeroed l.signals) x l'.stmts) q
@@ -27,18 +27,18 @@ blanked l l' p q s =
 abbrev lowering : Lowered → Lists → Lowering
 lowering a l = record { answer = a; lists = l }
 
-unread-value : (l l' : Lists) {r : c.Lowered} → Unread l r l' → ◌≡◌ {A = Lowering} (record { answer = answer_of r; lists = l' }) (unread l)
-unread-value l l' u = ap₂ lowering u.said (blanked l l' u.signals u.exprs u.stmts)
+unread_value : (l l' : Lists) {r : c.Lowered} → Unread l r l' → ◌≡◌ {A = Lowering} (record { answer = answer_of r; lists = l' }) (unread l)
+unread_value l l' u = ap₂ lowering u.said (blanked l l' u.signals u.exprs u.stmts)
 
-refused : (bytes : List ℕ) (l : Lists) {r : c.Lowered} {l' : Lists} → wholeWords (length bytes) ≡ false → Unread l r l' → LowersBytes bytes l r l'
-refused bytes l {r} {l'} q u = record { value = unread-value l l' u ∙ sym (ap (λ (b : Bool). pick b (lowerLent (words_of bytes) l) (unread l)) q) }
+refused : (bytes : List ℕ) (l : Lists) {r : c.Lowered} {l' : Lists} → whole_words (length bytes) ≡ false → Unread l r l' → LowersBytes bytes l r l'
+refused bytes l {r} {l'} q u = record { value = unread_value l l' u ∙ sym (ap (λ (b : Bool). pick b (lower_lent (words_of bytes) l) (unread l)) q) }
 
 pub too_long : (bytes : List ℕ) (l : Lists) {r : c.Lowered} {l' : Lists} → 65536 < length bytes → Unread l r l' → LowersBytes bytes l r l'
-unfolding wholeWords
+unfolding whole_words
 too_long bytes l h u = refused bytes l (ap (λ (b : Bool). pick b (eqb (length bytes % 4) 0) false) (lt-leb (length bytes) 65536 h)) u
 
-fits : (n : ℕ) → n ≤ 65536 → wholeWords n ≡ eqb (n % 4) 0
-unfolding wholeWords
+fits : (n : ℕ) → n ≤ 65536 → whole_words n ≡ eqb (n % 4) 0
+unfolding whole_words
 fits n h = ap (λ (b : Bool). pick b (eqb (n % 4) 0) false) (le-leb n 65536 h)
 
 pub part_left : (bytes : List ℕ) (l : Lists) {r : c.Lowered} {l' : Lists} → length bytes ≤ 65536 → (length bytes % 4 ≡ 0 → ⊥) → Unread l r l' → LowersBytes bytes l r l'
@@ -47,7 +47,7 @@ part_left bytes l h p u = refused bytes l (fits (length bytes) h ∙ ne_eqb (len
 -- where there is room for all words, they are what was laid
 all_laid : (bytes out out' : List ℕ) (n : ℕ) → length bytes ≤ 65536 → length out ≡ 16384 → Laid bytes out n out' → take n out' ≡ words_of bytes
 all_laid bytes out out' n h room laid =
-    let ws = words-length bytes in
+    let ws = words_length bytes in
     let k = laid.count in
     let e : n ≡ length (words_of bytes) = omega (arith, h, room, ws, k) in
     let a : take n (words_of bytes) ≡ words_of bytes = take_all n (words_of bytes) (omega (arith, e)) in
@@ -56,5 +56,5 @@ all_laid bytes out out' n h room laid =
 pub whole : (bytes : List ℕ) (l : Lists) (out out' : List ℕ) (n : ℕ) {r : c.Lowered} {l' : Lists} → length bytes ≤ 65536 → length bytes % 4 ≡ 0 → length out ≡ 16384
     → Laid bytes out n out' → LowersWords (take n out') l r l' → LowersBytes bytes l r l'
 whole bytes l out out' n h p room laid w =
-    let q : wholeWords (length bytes) ≡ true = fits (length bytes) h ∙ eq-eqb (length bytes % 4) 0 p in
-    record { value = w.value ∙ ap (λ (ws : List ℕ). lowerLent ws l) (all_laid bytes out out' n h room laid) ∙ sym (ap (λ (b : Bool). pick b (lowerLent (words_of bytes) l) (unread l)) q) }
+    let q : whole_words (length bytes) ≡ true = fits (length bytes) h ∙ eq-eqb (length bytes % 4) 0 p in
+    record { value = w.value ∙ ap (λ (ws : List ℕ). lower_lent ws l) (all_laid bytes out out' n h room laid) ∙ sym (ap (λ (b : Bool). pick b (lower_lent (words_of bytes) l) (unread l)) q) }

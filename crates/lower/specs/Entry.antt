@@ -6,28 +6,28 @@ use Rattle.recorder.specs.Lists.{Lists}
 use Rattle.recorder.specs.Words.{zeroed}
 use Rattle.lowering.specs.Lower.{Refused, Lowering}
 use Rattle.converter.specs.declared.Lowered as c
-use Rattle.converter.specs.Entry.{answer_of, lowerCall, blankOf}
+use Rattle.converter.specs.Entry.{answer_of, lower_call, blank_of}
 use Rattle.words.specs.Words.{words_of}
 
 -- so many bytes are whole words, 16,384 at most
-unfoldable pub wholeWords : ℕ → Bool
-wholeWords n = pick (leb n 65536) (eqb (n % 4) 0) false
+unfoldable pub whole_words : ℕ → Bool
+whole_words n = pick (leb n 65536) (eqb (n % 4) 0) false
 
 -- words, with the program's five works
-abbrev pub lowerLent : List ℕ → Lists → Lowering
-lowerLent words l = lowerCall base words (length l.signals) (length l.exprs) (length l.stmts) (16384 ∷ 16384 ∷ 16384 ∷ 16384 ∷ 16384 ∷ [])
+abbrev pub lower_lent : List ℕ → Lists → Lowering
+lower_lent words l = lower_call base words (length l.signals) (length l.exprs) (length l.stmts) (16384 ∷ 16384 ∷ 16384 ∷ 16384 ∷ 16384 ∷ [])
 
 -- no words are made of the bytes: the refusal, with lists of zeros
 abbrev pub unread : Lists → Lowering
-unread l = record { answer = Refused 3 0; lists = blankOf l }
+unread l = record { answer = Refused 3 0; lists = blank_of l }
 
 -- THE CALL
-abbrev pub lowerBytes : List ℕ → Lists → Lowering
-lowerBytes bytes l = pick (wholeWords (length bytes)) (lowerLent (words_of bytes) l) (unread l)
+abbrev pub lower_bytes : List ℕ → Lists → Lowering
+lower_bytes bytes l = pick (whole_words (length bytes)) (lower_lent (words_of bytes) l) (unread l)
 
 -- words and lists at entry; the answer and the lists at exit
 pub record LowersWords (words : List ℕ) (l : Lists) (r : c.Lowered) (l' : Lists) : Type 0 where
-  pub value : record { answer = answer_of r; lists = l' } ≡ lowerLent words l
+  pub value : record { answer = answer_of r; lists = l' } ≡ lower_lent words l
 
 pub record Unread (l : Lists) (r : c.Lowered) (l' : Lists) : Type 0 where
   pub said : answer_of r ≡ Refused 3 0
@@ -36,4 +36,4 @@ pub record Unread (l : Lists) (r : c.Lowered) (l' : Lists) : Type 0 where
   pub stmts : l'.stmts ≡ zeroed l.stmts
 
 pub record LowersBytes (bytes : List ℕ) (l : Lists) (r : c.Lowered) (l' : Lists) : Type 0 where
-  pub value : record { answer = answer_of r; lists = l' } ≡ lowerBytes bytes l
+  pub value : record { answer = answer_of r; lists = l' } ≡ lower_bytes bytes l

@@ -4,40 +4,40 @@ use Rattle.std.proofs.Math.Option.{Option, none, some}
 use Rattle.bits.specs.Bits.{pick}
 use Rattle.netlist.specs.declared.Limits.{Limits}
 use Rattle.netlist.specs.Netlist.{Netlist}
-use Rattle.netlist.specs.Reader.{Read, netlist, refused, readWords}
-use Rattle.behaviour.specs.Banks.{collectFlipFlopBanks}
+use Rattle.netlist.specs.Reader.{Read, netlist, refused, read_words}
+use Rattle.behaviour.specs.Banks.{collect_flip_flop_banks}
 use Rattle.recorder.specs.Record.{Signal, Expr.const, Stmt, Stmt.assign, target}
 use Rattle.recorder.specs.declared.Tape.{Tape}
 use Rattle.recorder.specs.declared.Tapes.{Tapes}
-use Rattle.recorder.specs.Writer.{Writer, pure, declare, emit, state, ◌>>=◌, ◌>>◌, modelOf}
+use Rattle.recorder.specs.Writer.{Writer, pure, declare, emit, state, ◌>>=◌, ◌>>◌, model_of}
 use Rattle.recorder.specs.Lists.{Lists, tapes, Answer, Answer.Done, Answer.Failed, writing}
 use Rattle.recorder.specs.Words.{blank}
 use Rattle.wires.specs.declared.Constants.{Constants}
-use Rattle.wires.specs.Wires.{Wires, noWires}
-use Rattle.lowering.specs.Reserve.{signalOf, reservePorts, reserveCells, reserveFlipFlopBanks}
-use Rattle.lowering.specs.Emit.{emitCells, emitBanks, emitOutputs}
+use Rattle.wires.specs.Wires.{Wires, no_wires}
+use Rattle.lowering.specs.Reserve.{signal_of, reserve_ports, reserve_cells, reserve_flip_flop_banks}
+use Rattle.lowering.specs.Emit.{emit_cells, emit_banks, emit_outputs}
 
 -- 11: a signal that is driven more than once, or an input that is driven at all
 
-unfoldable pub statementsOn : ℕ → List Stmt → ℕ
-statementsOn s [] = 0
-statementsOn s (t ∷ ts) = pick (eqb (target t) s) 1 0 + statementsOn s ts
+unfoldable pub statements_on : ℕ → List Stmt → ℕ
+statements_on s [] = 0
+statements_on s (t ∷ ts) = pick (eqb (target t) s) 1 0 + statements_on s ts
 
 -- an input may have none, another signal one
 abbrev pub allowed : Signal → ℕ
 allowed s = pick (eqb s.label 0) 0 1
 
 -- the lowest such signal, from number s on
-unfoldable pub overdrivenFrom : ℕ → List Signal → List Stmt → Option ℕ
-overdrivenFrom s [] ts = none
-overdrivenFrom s (x ∷ xs) ts = pick (leb (statementsOn s ts) (allowed x)) (overdrivenFrom (suc s) xs ts) (some s)
+unfoldable pub overdriven_from : ℕ → List Signal → List Stmt → Option ℕ
+overdriven_from s [] ts = none
+overdriven_from s (x ∷ xs) ts = pick (leb (statements_on s ts) (allowed x)) (overdriven_from (suc s) xs ts) (some s)
 
 -- THE STEPS
 
-unfoldable pub emitConstants : Writer Constants
-emitConstants = do
-  z ← declare (signalOf 14 1 0)
-  o ← declare (signalOf 15 1 0)
+unfoldable pub emit_constants : Writer Constants
+emit_constants = do
+  z ← declare (signal_of 14 1 0)
+  o ← declare (signal_of 15 1 0)
   e₀ ← emit (const 1 0)
   e₁ ← emit (const 1 1)
   state (assign z e₀)
@@ -45,24 +45,24 @@ emitConstants = do
   pure (record { zero = record { 0 = z }; one = record { 0 = o } })
 
 -- the wire map
-unfoldable pub reserveNetlist : Netlist → Writer Wires
-reserveNetlist n = do
-  m₁ ← reservePorts noWires 0 n.ports
-  m₂ ← reserveCells m₁ 0 n.cells
-  reserveFlipFlopBanks m₂ 0 (collectFlipFlopBanks n.cells)
+unfoldable pub reserve_netlist : Netlist → Writer Wires
+reserve_netlist n = do
+  m₁ ← reserve_ports no_wires 0 n.ports
+  m₂ ← reserve_cells m₁ 0 n.cells
+  reserve_flip_flop_banks m₂ 0 (collect_flip_flop_banks n.cells)
 
 -- cells share their reads of so many wires, each by itself; with 0 every read is recorded
-unfoldable pub emitNetlist : ℕ → Netlist → Wires → Writer (Unit {0})
-emitNetlist shared n m = do
-  z ← emitConstants
-  emitCells shared m z 0 n.cells
-  emitBanks m z (collectFlipFlopBanks n.cells)
-  emitOutputs m 0 n.ports
+unfoldable pub emit_netlist : ℕ → Netlist → Wires → Writer (Unit {0})
+emit_netlist shared n m = do
+  z ← emit_constants
+  emit_cells shared m z 0 n.cells
+  emit_banks m z (collect_flip_flop_banks n.cells)
+  emit_outputs m 0 n.ports
 
-unfoldable pub lowerNetlist : ℕ → Netlist → Writer (Unit {0})
-lowerNetlist shared n = do
-  m ← reserveNetlist n
-  emitNetlist shared n m
+unfoldable pub lower_netlist : ℕ → Netlist → Writer (Unit {0})
+lower_netlist shared n = do
+  m ← reserve_netlist n
+  emit_netlist shared n m
 
 -- THE CALL: words of a netlist, and three lent lists of these lengths
 
@@ -93,17 +93,17 @@ ended (Failed number place) conflict l zeroed = record { answer = Refused number
 unfoldable pub lowered : ℕ → Netlist → ℕ → ℕ → ℕ → Lowering
 lowered shared n s e t =
     let zeroed = blank s e t in
-    let left = writing zeroed start (lowerNetlist shared n) in
-    let model = modelOf (lowerNetlist shared n (record { signals = 0; exprs = 0; stmts = 0 })).events in
-    ended left.answer (overdrivenFrom 0 model.signals model.stmts) left.lists zeroed
+    let left = writing zeroed start (lower_netlist shared n) in
+    let model = model_of (lower_netlist shared n (record { signals = 0; exprs = 0; stmts = 0 })).events in
+    ended left.answer (overdriven_from 0 model.signals model.stmts) left.lists zeroed
 
-abbrev pub loweredRead : ℕ → Read → ℕ → ℕ → ℕ → Lowering
-loweredRead shared (netlist n) s e t = lowered shared n s e t
-loweredRead shared (refused number place) s e t = record { answer = Refused number place; lists = blank s e t }
+abbrev pub lowered_read : ℕ → Read → ℕ → ℕ → ℕ → Lowering
+lowered_read shared (netlist n) s e t = lowered shared n s e t
+lowered_read shared (refused number place) s e t = record { answer = Refused number place; lists = blank s e t }
 
-abbrev pub lowerSharing : ℕ → Limits → List ℕ → ℕ → ℕ → ℕ → Lowering
-lowerSharing shared limits words s e t = loweredRead shared (readWords limits words) s e t
+abbrev pub lower_sharing : ℕ → Limits → List ℕ → ℕ → ℕ → ℕ → Lowering
+lower_sharing shared limits words s e t = lowered_read shared (read_words limits words) s e t
 
 -- all wires that a netlist can have are shared
-abbrev pub lowerWords : Limits → List ℕ → ℕ → ℕ → ℕ → Lowering
-lowerWords limits words s e t = lowerSharing limits.wires limits words s e t
+abbrev pub lower_words : Limits → List ℕ → ℕ → ℕ → ℕ → Lowering
+lower_words limits words s e t = lower_sharing limits.wires limits words s e t

@@ -15,14 +15,14 @@ use native.Mathlib.Omega.{arith}
 use lib.ListN.{length, get_or}
 use Rattle.netlist.specs.declared.Bit.TheVariants.{Zero, Wire}
 use Rattle.netlist.specs.declared.Limits.{Limits}
-use Rattle.netlist.specs.Netlist.{SecondPort, BlockRam, Netlist, Cell, lut4, pfumx, l6mux21, ccu2c, multiplier, flipFlop, blockRam, distributedRam, io, jtagg, pll}
+use Rattle.netlist.specs.Netlist.{SecondPort, BlockRam, Netlist, Cell, lut4, pfumx, l6mux21, ccu2c, multiplier, flip_flop, block_ram, distributed_ram, io, jtagg, pll}
 use Rattle.netlist.specs.Shape.{Each, FitsCell, FitsOption, FitsSecond}
 use Rattle.recorder.specs.Record.{Signal}
-use Rattle.behaviour.specs.Banks.{collectFlipFlopBanks}
-use Rattle.behaviour.specs.WireMap.{pins, Slot, find, portSlots, together, secondSlot, reserve, reserveAll, bankSlot, slots}
+use Rattle.behaviour.specs.Banks.{collect_flip_flop_banks}
+use Rattle.behaviour.specs.WireMap.{pins, Slot, find, port_slots, together, second_slot, reserve, reserve_all, bank_slot, slots}
 use Rattle.wires.specs.Wires.{WireRef, Wires}
-use Rattle.meaning.specs.Mapped.{refOf, no_slot, entry_of, Mapping}
-use Rattle.meaning.proofs.Placing.{placed, each-mem, all-keeps}
+use Rattle.meaning.specs.Mapped.{ref_of, no_slot, entry_of, Mapping}
+use Rattle.meaning.proofs.Placing.{placed, each_mem, all_keeps}
 
 -- the wires of a read register
 pub record Owned (m : Wires) (width : ℕ) (output : List ℕ) : Type 0 where
@@ -40,9 +40,9 @@ ReadsOwned m (pfumx t f s o) = Unit {0}
 ReadsOwned m (l6mux21 z y s o) = Unit {0}
 ReadsOwned m (ccu2c u) = Unit {0}
 ReadsOwned m (multiplier l r p) = Unit {0}
-ReadsOwned m (flipFlop f) = Unit {0}
-ReadsOwned m (blockRam r) = Owned m r.width r.output × FitsOption (SecondOwned m r) r.second
-ReadsOwned m (distributedRam r) = Unit {0}
+ReadsOwned m (flip_flop f) = Unit {0}
+ReadsOwned m (block_ram r) = Owned m r.width r.output × FitsOption (SecondOwned m r) r.second
+ReadsOwned m (distributed_ram r) = Unit {0}
 ReadsOwned m (io p d i t) = Unit {0}
 ReadsOwned m (jtagg ws) = Unit {0}
 ReadsOwned m (pll p) = Unit {0}
@@ -50,13 +50,13 @@ ReadsOwned m (pll p) = Unit {0}
 -- THEIR SLOTS
 
 -- those of a block RAM among the cells from number c on
-ram-slots : (cells : List Cell) (c : ℕ) (held : List Slot) (r : BlockRam) → Mem (blockRam r) cells → (k : ℕ) × ((x : Slot) → Mem x (together k r.output 0 ++ secondSlot k r.width r.second) → Mem x (reserveAll cells c held))
-ram-slots [] c held r e = absurd (not-nil e)
-ram-slots (y ∷ cells) c held r e = go (cases_cons e) (ram-slots cells (suc c) (reserve c y held) r)
+ram_slots : (cells : List Cell) (c : ℕ) (held : List Slot) (r : BlockRam) → Mem (block_ram r) cells → (k : ℕ) × ((x : Slot) → Mem x (together k r.output 0 ++ second_slot k r.width r.second) → Mem x (reserve_all cells c held))
+ram_slots [] c held r e = absurd (not-nil e)
+ram_slots (y ∷ cells) c held r e = go (cases_cons e) (ram_slots cells (suc c) (reserve c y held) r)
   where
-    go : (blockRam r ≡ y) ⊎ Mem (blockRam r) cells → (Mem (blockRam r) cells → (k : ℕ) × ((x : Slot) → Mem x (together k r.output 0 ++ secondSlot k r.width r.second) → Mem x (reserveAll cells (suc c) (reserve c y held))))
-        → (k : ℕ) × ((x : Slot) → Mem x (together k r.output 0 ++ secondSlot k r.width r.second) → Mem x (reserveAll cells (suc c) (reserve c y held)))
-    go (inl q) f = (c, λ x i. all-keeps cells (suc c) (reserve c y held) x (subst (λ (z : Cell). Mem x (reserve c z held)) q (mem-right held i)))
+    go : (block_ram r ≡ y) ⊎ Mem (block_ram r) cells → (Mem (block_ram r) cells → (k : ℕ) × ((x : Slot) → Mem x (together k r.output 0 ++ second_slot k r.width r.second) → Mem x (reserve_all cells (suc c) (reserve c y held))))
+        → (k : ℕ) × ((x : Slot) → Mem x (together k r.output 0 ++ second_slot k r.width r.second) → Mem x (reserve_all cells (suc c) (reserve c y held)))
+    go (inl q) f = (c, λ x i. all_keeps cells (suc c) (reserve c y held) x (subst (λ (z : Cell). Mem x (reserve c z held)) q (mem-right held i)))
     go (inr q) f = f q
 
 -- the first wire of a cell's pins from k on is the lowest bit of their signal
@@ -74,47 +74,47 @@ pinned {held} {ss} {m} c k (w ∷ ws) h l e =
     record {
       number = p.number;
       source = ap (λ (y : Slot). y.source) p.is;
-      first = λ r q. let z = some-is (sym (ap refOf at) ∙ sym (h.finds w) ∙ q) in (sym (ap (λ (y : WireRef). y.signal) z), sym (ap (λ (y : WireRef). y.lsb) z));
+      first = λ r q. let z = some_is (sym (ap ref_of at) ∙ sym (h.finds w) ∙ q) in (sym (ap (λ (y : WireRef). y.signal) z), sym (ap (λ (y : WireRef). y.lsb) z));
     }
   where
-    some-is : {a b : WireRef} → some a ≡ some b → a ≡ b
-    some-is q = cc
+    some_is : {a b : WireRef} → some a ≡ some b → a ≡ b
+    some_is q = cc
 
-pins-apart : {held : List Slot} {m : Wires} {c k j : ℕ} {ws vs : List ℕ} → Pinned held m c k ws → Pinned held m c j vs → k < j → (q s : WireRef) → m (get_or ws 0 0) ≡ some q → m (get_or vs 0 0) ≡ some s → q.signal ≡ s.signal → ⊥
-pins-apart {held} {c = c} {k} {j} a b l q s e f g =
+pins_apart : {held : List Slot} {m : Wires} {c k j : ℕ} {ws vs : List ℕ} → Pinned held m c k ws → Pinned held m c j vs → k < j → (q s : WireRef) → m (get_or ws 0 0) ≡ some q → m (get_or vs 0 0) ≡ some s → q.signal ≡ s.signal → ⊥
+pins_apart {held} {c = c} {k} {j} a b l q s e f g =
     let n : a.number ≡ b.number = sym (a.first q e).0 ∙ g ∙ (b.first s f).0 in
     let z : pins c k ≡ pins c j = sym a.source ∙ ap (λ (i : ℕ). (get_or held i no_slot).source) n ∙ b.source in
     let d : k ≡ j = cc in
     omega (arith, l, d)
 
 module _ (limits : Limits) (n : Netlist) (fits : Each (FitsCell limits) n.cells) (m : Wires) {ss : List Signal} (mapped : Mapping (slots n) ss m) where
-  one-owned : (x : Cell) → Mem x n.cells → FitsCell limits x → ReadsOwned m x
-  one-owned (lut4 i o t) e f = tt
-  one-owned (pfumx t f s o) e g = tt
-  one-owned (l6mux21 z y s o) e f = tt
-  one-owned (ccu2c u) e f = tt
-  one-owned (multiplier l r p) e f = tt
-  one-owned (flipFlop x) e f = tt
-  one-owned (blockRam r) e f = (record { wide = f.output.0; lowest = λ q i. (first.first q i).1 }, second r.second f.second refl)
+  one_owned : (x : Cell) → Mem x n.cells → FitsCell limits x → ReadsOwned m x
+  one_owned (lut4 i o t) e f = tt
+  one_owned (pfumx t f s o) e g = tt
+  one_owned (l6mux21 z y s o) e f = tt
+  one_owned (ccu2c u) e f = tt
+  one_owned (multiplier l r p) e f = tt
+  one_owned (flip_flop x) e f = tt
+  one_owned (block_ram r) e f = (record { wide = f.output.0; lowest = λ q i. (first.first q i).1 }, second r.second f.second refl)
     where
-      at : (k : ℕ) × ((x : Slot) → Mem x (together k r.output 0 ++ secondSlot k r.width r.second) → Mem x (reserveAll n.cells 0 (portSlots n.ports 0)))
-      at = ram-slots n.cells 0 (portSlots n.ports 0) r e
+      at : (k : ℕ) × ((x : Slot) → Mem x (together k r.output 0 ++ second_slot k r.width r.second) → Mem x (reserve_all n.cells 0 (port_slots n.ports 0)))
+      at = ram_slots n.cells 0 (port_slots n.ports 0) r e
 
-      there-of : (x : Slot) → Mem x (together at.0 r.output 0 ++ secondSlot at.0 r.width r.second) → Mem x (slots n)
-      there-of x i = mem-left (map bankSlot (collectFlipFlopBanks n.cells)) (at.1 x i)
+      there_of : (x : Slot) → Mem x (together at.0 r.output 0 ++ second_slot at.0 r.width r.second) → Mem x (slots n)
+      there_of x i = mem-left (map bank_slot (collect_flip_flop_banks n.cells)) (at.1 x i)
 
       first : Pinned (slots n) m at.0 0 r.output
-      first = pinned at.0 0 r.output mapped (omega (arith, f.output.0, f.width.0)) (there-of _ (here refl))
+      first = pinned at.0 0 r.output mapped (omega (arith, f.output.0, f.width.0)) (there_of _ (here refl))
 
       second : (o : Option SecondPort) → FitsOption (FitsSecond limits r.width) o → r.second ≡ o → FitsOption (SecondOwned m r) o
       second none g q = tt
       second (some p) g q =
-          let own : Pinned (slots n) m at.0 r.width p.output = pinned at.0 r.width p.output mapped (omega (arith, g.output.0, f.width.0)) (there-of _ (there (subst (λ (o : Option SecondPort). Mem (record { source = pins at.0 r.width; bits = map Wire p.output }) (secondSlot at.0 r.width o)) (sym q) (here refl)))) in
-          record { owned = record { wide = g.output.0; lowest = λ s i. (own.first s i).1 }; apart = pins-apart first own (omega (arith, f.width.0)) }
-  one-owned (distributedRam r) e f = tt
-  one-owned (io p d i t) e f = tt
-  one-owned (jtagg ws) e f = tt
-  one-owned (pll p) e f = tt
+          let own : Pinned (slots n) m at.0 r.width p.output = pinned at.0 r.width p.output mapped (omega (arith, g.output.0, f.width.0)) (there_of _ (there (subst (λ (o : Option SecondPort). Mem (record { source = pins at.0 r.width; bits = map Wire p.output }) (second_slot at.0 r.width o)) (sym q) (here refl)))) in
+          record { owned = record { wide = g.output.0; lowest = λ s i. (own.first s i).1 }; apart = pins_apart first own (omega (arith, f.width.0)) }
+  one_owned (distributed_ram r) e f = tt
+  one_owned (io p d i t) e f = tt
+  one_owned (jtagg ws) e f = tt
+  one_owned (pll p) e f = tt
 
-  pub reads-owned : (x : Cell) → Mem x n.cells → ReadsOwned m x
-  reads-owned x e = one-owned x e (each-mem (FitsCell limits) n.cells fits x e)
+  pub reads_owned : (x : Cell) → Mem x n.cells → ReadsOwned m x
+  reads_owned x e = one_owned x e (each_mem (FitsCell limits) n.cells fits x e)

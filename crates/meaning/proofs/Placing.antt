@@ -13,13 +13,13 @@ use native.Mathlib.Omega.{arith}
 use lib.ListN.{length, get_or}
 use Rattle.bits.specs.Bits.{pick}
 use Rattle.netlist.specs.declared.Bit.TheVariants.{Zero, Wire}
-use Rattle.netlist.specs.Netlist.{Netlist, Cell, lut4, pfumx, l6mux21, ccu2c, multiplier, flipFlop, blockRam, distributedRam, io, jtagg, pll}
+use Rattle.netlist.specs.Netlist.{Netlist, Cell, lut4, pfumx, l6mux21, ccu2c, multiplier, flip_flop, block_ram, distributed_ram, io, jtagg, pll}
 use Rattle.netlist.specs.Shape.{Each}
 use Rattle.recorder.specs.Record.{Signal}
-use Rattle.behaviour.specs.WireMap.{Source, Slot, WireRef, find, is_some, single, together, secondSlot, pllWires, reserveFresh, reserve, reserveAll, slots}
-use Rattle.behaviour.proofs.MapLaws.{FoundAt, FoundIs, found-is}
+use Rattle.behaviour.specs.WireMap.{Source, Slot, WireRef, find, is_some, single, together, second_slot, pll_wires, reserve_fresh, reserve, reserve_all, slots}
+use Rattle.behaviour.proofs.MapLaws.{FoundAt, FoundIs, found_is}
 use Rattle.wires.specs.Wires.{Wires, WireRef as Ref}
-use Rattle.meaning.specs.Mapped.{refOf, no_slot, Mapping}
+use Rattle.meaning.specs.Mapped.{ref_of, no_slot, Mapping}
 
 -- FOUND BY NUMBER
 
@@ -36,9 +36,9 @@ placed (y ∷ held) x m = go (cases_cons m) (placed held x)
     go (inl e) f = record { number = 0; inside = omega arith; is = sym e }
     go (inr q) f = let r = f q in record { number = suc r.number; inside = omega (arith, r.inside); is = r.is }
 
-pub each-mem : {A : Type 0} (P : A → Type 0) (xs : List A) → Each P xs → (x : A) → Mem x xs → P x
-each-mem P [] e x h = absurd (not-nil h)
-each-mem P (y ∷ xs) e x h = go (cases_cons h) (each-mem P xs e.1 x)
+pub each_mem : {A : Type 0} (P : A → Type 0) (xs : List A) → Each P xs → (x : A) → Mem x xs → P x
+each_mem P [] e x h = absurd (not-nil h)
+each_mem P (y ∷ xs) e x h = go (cases_cons h) (each_mem P xs e.1 x)
   where
     go : (x ≡ y) ⊎ Mem x xs → (Mem x xs → P x) → P x
     go (inl p) f = subst P (sym p) e.0
@@ -46,30 +46,30 @@ each-mem P (y ∷ xs) e x h = go (cases_cons h) (each-mem P xs e.1 x)
 
 -- STAYING
 
-fresh-keeps : (c : ℕ) (ws : List ℕ) (k : ℕ) (held : List Slot) (x : Slot) → Mem x held → Mem x (reserveFresh c ws k held)
-fresh-keeps c [] k held x m = m
-fresh-keeps c (w ∷ ws) k held x m = fresh-keeps c ws (suc k) (pick (is_some (find w held 0)) held (held ++ single c (w ∷ []) k)) x (go (is_some (find w held 0)))
+fresh_keeps : (c : ℕ) (ws : List ℕ) (k : ℕ) (held : List Slot) (x : Slot) → Mem x held → Mem x (reserve_fresh c ws k held)
+fresh_keeps c [] k held x m = m
+fresh_keeps c (w ∷ ws) k held x m = fresh_keeps c ws (suc k) (pick (is_some (find w held 0)) held (held ++ single c (w ∷ []) k)) x (go (is_some (find w held 0)))
   where
     go : (b : Bool) → Mem x (pick b held (held ++ single c (w ∷ []) k))
     go true = m
     go false = mem-left (single c (w ∷ []) k) m
 
-reserve-keeps : (c : ℕ) (y : Cell) (held : List Slot) (x : Slot) → Mem x held → Mem x (reserve c y held)
-reserve-keeps c (lut4 i o t) held x m = mem-left (single c (o ∷ []) 0) m
-reserve-keeps c (pfumx t f s o) held x m = mem-left (single c (o ∷ []) 0) m
-reserve-keeps c (l6mux21 z y s o) held x m = mem-left (single c (o ∷ []) 0) m
-reserve-keeps c (ccu2c u) held x m = mem-left (single c (u.sum0 ∷ u.sum1 ∷ u.carry ∷ []) 0) m
-reserve-keeps c (multiplier l r p) held x m = mem-left (together c p 0) m
-reserve-keeps c (flipFlop f) held x m = m
-reserve-keeps c (blockRam r) held x m = mem-left (together c r.output 0 ++ secondSlot c r.width r.second) m
-reserve-keeps c (distributedRam r) held x m = mem-left (together c r.output 0) m
-reserve-keeps c (io p d i t) held x m = mem-left (single c (i ∷ []) 0) m
-reserve-keeps c (jtagg ws) held x m = mem-left (single c ws 0) m
-reserve-keeps c (pll p) held x m = fresh-keeps c (pllWires p) 0 held x m
+reserve_keeps : (c : ℕ) (y : Cell) (held : List Slot) (x : Slot) → Mem x held → Mem x (reserve c y held)
+reserve_keeps c (lut4 i o t) held x m = mem-left (single c (o ∷ []) 0) m
+reserve_keeps c (pfumx t f s o) held x m = mem-left (single c (o ∷ []) 0) m
+reserve_keeps c (l6mux21 z y s o) held x m = mem-left (single c (o ∷ []) 0) m
+reserve_keeps c (ccu2c u) held x m = mem-left (single c (u.sum0 ∷ u.sum1 ∷ u.carry ∷ []) 0) m
+reserve_keeps c (multiplier l r p) held x m = mem-left (together c p 0) m
+reserve_keeps c (flip_flop f) held x m = m
+reserve_keeps c (block_ram r) held x m = mem-left (together c r.output 0 ++ second_slot c r.width r.second) m
+reserve_keeps c (distributed_ram r) held x m = mem-left (together c r.output 0) m
+reserve_keeps c (io p d i t) held x m = mem-left (single c (i ∷ []) 0) m
+reserve_keeps c (jtagg ws) held x m = mem-left (single c ws 0) m
+reserve_keeps c (pll p) held x m = fresh_keeps c (pll_wires p) 0 held x m
 
-pub all-keeps : (cells : List Cell) (c : ℕ) (held : List Slot) (x : Slot) → Mem x held → Mem x (reserveAll cells c held)
-all-keeps [] c held x m = m
-all-keeps (y ∷ cells) c held x m = all-keeps cells (suc c) (reserve c y held) x (reserve-keeps c y held x m)
+pub all_keeps : (cells : List Cell) (c : ℕ) (held : List Slot) (x : Slot) → Mem x held → Mem x (reserve_all cells c held)
+all_keeps [] c held x m = m
+all_keeps (y ∷ cells) c held x m = all_keeps cells (suc c) (reserve c y held) x (reserve_keeps c y held x m)
 
 -- WIRES
 
@@ -81,9 +81,9 @@ pub record Located (n : Netlist) (w : ℕ) (r : Ref) : Type 0 where
   pub is : get_or (get_or (slots n) r.signal no_slot).bits r.lsb Zero ≡ Wire w
   pub found : find w (slots n) 0 ≡ some (record { signal = r.signal; lowest = r.lsb; width = r.width; source = (get_or (slots n) r.signal no_slot).source })
 
-located-as : (n : Netlist) (w : ℕ) (q : WireRef) → find w (slots n) 0 ≡ some q → Located n w (record { signal = q.signal; lsb = q.lowest; width = q.width })
-located-as n w q e =
-    let f : FoundAt w (slots n) 0 no_slot q = subst (FoundIs w (slots n) 0 no_slot) e (found-is w (slots n) 0 no_slot) in
+located_as : (n : Netlist) (w : ℕ) (q : WireRef) → find w (slots n) 0 ≡ some q → Located n w (record { signal = q.signal; lsb = q.lowest; width = q.width })
+located_as n w q e =
+    let f : FoundAt w (slots n) 0 no_slot q = subst (FoundIs w (slots n) 0 no_slot) e (found_is w (slots n) 0 no_slot) in
     let z : f.at ≡ q.signal = omega (arith, f.signal) in
     record {
       inside = omega (arith, f.inside, z);
@@ -97,8 +97,8 @@ pub located : (n : Netlist) (m : Wires) (ss : List Signal) → Mapping (slots n)
 located n m ss h w r e = go (find w (slots n) 0) refl
   where
     go : (o : Option WireRef) → find w (slots n) 0 ≡ o → Located n w r
-    go none q = absurd (some-ne-none r (sym e ∙ h.finds w ∙ ap refOf q))
+    go none q = absurd (some-ne-none r (sym e ∙ h.finds w ∙ ap ref_of q))
     go (some x) q =
-        let y : some r ≡ some (record { signal = x.signal; lsb = x.lowest; width = x.width }) = sym e ∙ h.finds w ∙ ap refOf q in
+        let y : some r ≡ some (record { signal = x.signal; lsb = x.lowest; width = x.width }) = sym e ∙ h.finds w ∙ ap ref_of q in
         let z : r ≡ record { signal = x.signal; lsb = x.lowest; width = x.width } = cc in
-        subst (Located n w) (sym z) (located-as n w x q)
+        subst (Located n w) (sym z) (located_as n w x q)

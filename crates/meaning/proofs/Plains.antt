@@ -12,21 +12,21 @@ use Rattle.netlist.specs.declared.Bit.TheVariants.{Zero, One, Wire}
 use Rattle.netlist.specs.declared.Control.{Control}
 use Rattle.recorder.specs.Record.{Expr}
 use Rattle.recorder.specs.Writer.{Event, Event.signal, Event.expr, Event.stmt, Count, further, End, End.ok, End.no, Writer, pure, refuse, emit, after, ◌>>=◌}
-use Rattle.optimize.proofs.Muxes.{by-test}
+use Rattle.optimize.proofs.Muxes.{by_test}
 use Rattle.optimize.specs.declared.optimizer.Rewrite.{Rewrite}
 use Rattle.optimize.specs.declared.optimizer.Rewrite.TheVariants.{Value, Not, And, Or, Xor, AndNot, OrNot, Mux}
-use Rattle.optimize.specs.Rewrite.{expr as exprId, simplifyXor, simplifyMux, emitRewrite, xorOf, muxOf}
-use Rattle.optimize.specs.Lut.{low_of, high_of, fullTable, joinCofactors, lutCofactor}
+use Rattle.optimize.specs.Rewrite.{expr as expr_id, simplify_xor, simplify_mux, emit_rewrite, xor_of, mux_of}
+use Rattle.optimize.specs.Lut.{low_of, high_of, full_table, join_cofactors, lut_cofactor}
 use Rattle.wires.specs.declared.Constants.{Constants}
 use Rattle.wires.specs.Wires.{WireRef, Wires}
-use Rattle.wires.specs.Expressions.{refOf, wireRef, whole, bitSignal, levelled, concatParts}
-use Rattle.address_mux.specs.AddressMux.{Node, muxLevel, muxLevels}
-use Rattle.memories.specs.Memories.{Word, PortExprs, writeWord, writeSecond, candidatesFrom, enableOf, dramSelect}
-use Rattle.meaning.specs.Shared.{readsIn}
+use Rattle.wires.specs.Expressions.{ref_of, wire_ref, whole, bit_signal, levelled, concat_parts}
+use Rattle.address_mux.specs.AddressMux.{Node, mux_level, mux_levels}
+use Rattle.memories.specs.Memories.{Word, PortExprs, write_word, write_second, candidates_from, enable_of, dram_select}
+use Rattle.meaning.specs.Shared.{reads_in}
 
 abbrev pub PlainEvent : Event → Type 0
 PlainEvent (signal s) = ⊥
-PlainEvent (expr x) = readsIn (x ∷ []) ≡ []
+PlainEvent (expr x) = reads_in (x ∷ []) ≡ []
 PlainEvent (stmt t) = ⊥
 
 abbrev pub AllPlain : List Event → Type 0
@@ -38,122 +38,122 @@ pub record Plain {A : Type 0} (w : Writer A) : Type 0 where
 
 -- THE LOGIC
 
-all-append : (xs ys : List Event) → AllPlain xs → AllPlain ys → AllPlain (xs ++ ys)
-all-append [] ys f g = g
-all-append (x ∷ xs) ys f g = (f.0, all-append xs ys f.1 g)
+all_append : (xs ys : List Event) → AllPlain xs → AllPlain ys → AllPlain (xs ++ ys)
+all_append [] ys f g = g
+all_append (x ∷ xs) ys f g = (f.0, all_append xs ys f.1 g)
 
-pub plain-pure : {A : Type 0} {a : A} → Plain (pure a)
-plain-pure = record { plain = λ n. tt }
+pub plain_pure : {A : Type 0} {a : A} → Plain (pure a)
+plain_pure = record { plain = λ n. tt }
 
-pub plain-refuse : {A : Type 0} {a b : ℕ} → Plain (refuse {A = A} a b)
-plain-refuse = record { plain = λ n. tt }
+pub plain_refuse : {A : Type 0} {a b : ℕ} → Plain (refuse {A = A} a b)
+plain_refuse = record { plain = λ n. tt }
 
-pub plain-emit : {x : Expr} → readsIn (x ∷ []) ≡ [] → Plain (emit x)
-plain-emit h = record { plain = λ n. (h, tt) }
+pub plain_emit : {x : Expr} → reads_in (x ∷ []) ≡ [] → Plain (emit x)
+plain_emit h = record { plain = λ n. (h, tt) }
 
-pub plain-bind : {A B : Type 0} {w : Writer A} {k : A → Writer B} → Plain w → ((a : A) → Plain (k a)) → Plain (w >>= k)
+pub plain_bind : {A B : Type 0} {w : Writer A} {k : A → Writer B} → Plain w → ((a : A) → Plain (k a)) → Plain (w >>= k)
 unfolding ◌>>=◌
-plain-bind {A} {B} {w} {k} f g = record { plain = λ n. go n (w n).end }
+plain_bind {A} {B} {w} {k} f g = record { plain = λ n. go n (w n).end }
   where
     go : (n : Count) (y : End A) → AllPlain (after (w n).events y (further n (w n).events) k).events
-    go n (ok a) = all-append (w n).events (k a (further n (w n).events)).events (f.plain n) ((g a).plain (further n (w n).events))
+    go n (ok a) = all_append (w n).events (k a (further n (w n).events)).events (f.plain n) ((g a).plain (further n (w n).events))
     go n (no x y) = f.plain n
 
 -- WIRES
 
 module _ (m : Wires) where
-  pub plain-ref : (w : ℕ) → Plain (wireRef m w)
-  unfolding wireRef
-  plain-ref w = go (m w)
+  pub plain_ref : (w : ℕ) → Plain (wire_ref m w)
+  unfolding wire_ref
+  plain_ref w = go (m w)
     where
-      go : (o : Option WireRef) → Plain (refOf o w)
-      go none = plain-refuse
-      go (some r) = plain-pure
+      go : (o : Option WireRef) → Plain (ref_of o w)
+      go none = plain_refuse
+      go (some r) = plain_pure
 
-  pub plain-signal : (z : Constants) (b : Bit) → Plain (bitSignal m z b)
-  unfolding bitSignal
-  plain-signal z Zero = plain-pure
-  plain-signal z One = plain-pure
-  plain-signal z (Wire w) = plain-bind (plain-ref w) (λ r. by-test (λ (x : Writer ℕ). Plain x) (whole r) (λ q. plain-pure) (λ q. plain-refuse))
+  pub plain_signal : (z : Constants) (b : Bit) → Plain (bit_signal m z b)
+  unfolding bit_signal
+  plain_signal z Zero = plain_pure
+  plain_signal z One = plain_pure
+  plain_signal z (Wire w) = plain_bind (plain_ref w) (λ r. by_test (λ (x : Writer ℕ). Plain x) (whole r) (λ q. plain_pure) (λ q. plain_refuse))
 
-pub plain-levelled : (active e : ℕ) → Plain (levelled active e)
-plain-levelled active e = by-test (λ (x : Writer ℕ). Plain x) (eqb active 1) (λ q. plain-pure) (λ q. plain-emit refl)
+pub plain_levelled : (active e : ℕ) → Plain (levelled active e)
+plain_levelled active e = by_test (λ (x : Writer ℕ). Plain x) (eqb active 1) (λ q. plain_pure) (λ q. plain_emit refl)
 
-pub plain-concat : (ps : List ℕ) → Plain (concatParts ps)
-unfolding concatParts
-plain-concat [] = plain-emit refl
-plain-concat (e ∷ []) = plain-pure
-plain-concat (e ∷ f ∷ es) = plain-emit refl
+pub plain_concat : (ps : List ℕ) → Plain (concat_parts ps)
+unfolding concat_parts
+plain_concat [] = plain_emit refl
+plain_concat (e ∷ []) = plain_pure
+plain_concat (e ∷ f ∷ es) = plain_emit refl
 
 -- REWRITES AND TABLES
 
-plain-rewrite : (r : Rewrite) → Plain (emitRewrite r)
-unfolding emitRewrite
-plain-rewrite (Value v) = plain-pure
-plain-rewrite (Not a) = plain-emit refl
-plain-rewrite (And a b) = plain-emit refl
-plain-rewrite (Or a b) = plain-emit refl
-plain-rewrite (Xor a b) = plain-emit refl
-plain-rewrite (AndNot a b) = plain-bind (plain-emit refl) (λ i. plain-emit refl)
-plain-rewrite (OrNot a b) = plain-bind (plain-emit refl) (λ i. plain-emit refl)
-plain-rewrite (Mux s t f) = plain-emit refl
+plain_rewrite : (r : Rewrite) → Plain (emit_rewrite r)
+unfolding emit_rewrite
+plain_rewrite (Value v) = plain_pure
+plain_rewrite (Not a) = plain_emit refl
+plain_rewrite (And a b) = plain_emit refl
+plain_rewrite (Or a b) = plain_emit refl
+plain_rewrite (Xor a b) = plain_emit refl
+plain_rewrite (AndNot a b) = plain_bind (plain_emit refl) (λ i. plain_emit refl)
+plain_rewrite (OrNot a b) = plain_bind (plain_emit refl) (λ i. plain_emit refl)
+plain_rewrite (Mux s t f) = plain_emit refl
 
-pub plain-mux : (s t f : ℕ) → Plain (muxOf s t f)
-unfolding muxOf
-plain-mux s t f = plain-rewrite (simplifyMux (exprId s) (exprId t) (exprId f))
+pub plain_mux : (s t f : ℕ) → Plain (mux_of s t f)
+unfolding mux_of
+plain_mux s t f = plain_rewrite (simplify_mux (expr_id s) (expr_id t) (expr_id f))
 
-pub plain-xor : (a b : ℕ) → Plain (xorOf a b)
-unfolding xorOf
-plain-xor a b = plain-rewrite (simplifyXor (exprId a) (exprId b))
+pub plain_xor : (a b : ℕ) → Plain (xor_of a b)
+unfolding xor_of
+plain_xor a b = plain_rewrite (simplify_xor (expr_id a) (expr_id b))
 
-pub plain-lut : (xs : List ℕ) (t : ℕ) → Plain (lutCofactor xs t)
-unfolding lutCofactor joinCofactors
-plain-lut [] t = by-test (λ (w : Writer ℕ). Plain w) (eqb t 0) (λ q. plain-pure) (λ q. plain-pure)
-plain-lut (x ∷ xs) t =
-    by-test S (eqb t 0) (λ q. plain-pure) (λ n₁. by-test S (eqb t (fullTable (suc (length xs)))) (λ q. plain-pure) (λ n₂.
-    by-test S (eqb x 0) (λ q. plain-lut xs (low_of t)) (λ n₃. by-test S (eqb x 1) (λ q. plain-lut xs (high_of t)) (λ n₄.
-    plain-bind (plain-lut xs (low_of t)) (λ l. by-test S (eqb (low_of t) (high_of t)) (λ q. plain-pure) (λ n₅.
-    by-test S (eqb (bit_xor (low_of t) (high_of t)) (fullTable (length xs))) (λ q. plain-xor x l) (λ n₆.
-    plain-bind (plain-lut xs (high_of t)) (λ h. plain-mux x h l))))))))
+pub plain_lut : (xs : List ℕ) (t : ℕ) → Plain (lut_cofactor xs t)
+unfolding lut_cofactor join_cofactors
+plain_lut [] t = by_test (λ (w : Writer ℕ). Plain w) (eqb t 0) (λ q. plain_pure) (λ q. plain_pure)
+plain_lut (x ∷ xs) t =
+    by_test S (eqb t 0) (λ q. plain_pure) (λ n₁. by_test S (eqb t (full_table (suc (length xs)))) (λ q. plain_pure) (λ n₂.
+    by_test S (eqb x 0) (λ q. plain_lut xs (low_of t)) (λ n₃. by_test S (eqb x 1) (λ q. plain_lut xs (high_of t)) (λ n₄.
+    plain_bind (plain_lut xs (low_of t)) (λ l. by_test S (eqb (low_of t) (high_of t)) (λ q. plain_pure) (λ n₅.
+    by_test S (eqb (bit_xor (low_of t) (high_of t)) (full_table (length xs))) (λ q. plain_xor x l) (λ n₆.
+    plain_bind (plain_lut xs (high_of t)) (λ h. plain_mux x h l))))))))
   where
     S : Writer ℕ → Type 0
     S w = Plain w
 
 -- MEMORIES
 
-plain-level : (width : ℕ) (ns next : List Node) → Plain (muxLevel width ns next)
-unfolding muxLevel
-plain-level width [] next = plain-pure
-plain-level width (l ∷ []) next = plain-pure
-plain-level width (l ∷ r ∷ ns) next = plain-bind (plain-emit refl) (λ a. plain-bind (plain-emit refl) (λ v. plain-level width ns (next ++ (record { matched = a; value = v } ∷ []))))
+plain_level : (width : ℕ) (ns next : List Node) → Plain (mux_level width ns next)
+unfolding mux_level
+plain_level width [] next = plain_pure
+plain_level width (l ∷ []) next = plain_pure
+plain_level width (l ∷ r ∷ ns) next = plain_bind (plain_emit refl) (λ a. plain_bind (plain_emit refl) (λ v. plain_level width ns (next ++ (record { matched = a; value = v } ∷ []))))
 
-pub plain-levels : (fuel width : ℕ) (ns : List Node) (e : ℕ) → Plain (muxLevels fuel width ns e)
-unfolding muxLevels
-plain-levels zero width [] e = plain-pure
-plain-levels zero width (n ∷ []) e = plain-emit refl
-plain-levels zero width (l ∷ r ∷ ns) e = plain-bind (plain-level width (l ∷ r ∷ ns) []) (λ next. plain-pure)
-plain-levels (suc fuel) width [] e = plain-pure
-plain-levels (suc fuel) width (n ∷ []) e = plain-emit refl
-plain-levels (suc fuel) width (l ∷ r ∷ ns) e = plain-bind (plain-level width (l ∷ r ∷ ns) []) (λ next. plain-levels fuel width next e)
+pub plain_levels : (fuel width : ℕ) (ns : List Node) (e : ℕ) → Plain (mux_levels fuel width ns e)
+unfolding mux_levels
+plain_levels zero width [] e = plain_pure
+plain_levels zero width (n ∷ []) e = plain_emit refl
+plain_levels zero width (l ∷ r ∷ ns) e = plain_bind (plain_level width (l ∷ r ∷ ns) []) (λ next. plain_pure)
+plain_levels (suc fuel) width [] e = plain_pure
+plain_levels (suc fuel) width (n ∷ []) e = plain_emit refl
+plain_levels (suc fuel) width (l ∷ r ∷ ns) e = plain_bind (plain_level width (l ∷ r ∷ ns) []) (λ next. plain_levels fuel width next e)
 
-pub plain_write : (p : PortExprs) (width aw index now : ℕ) → Plain (writeWord p width aw index now)
-unfolding writeWord
-plain_write p width aw index now = plain-bind (plain-emit refl) (λ k. plain-bind (plain-emit refl) (λ e. plain-bind (plain-emit refl) (λ y. plain-emit refl)))
+pub plain_write : (p : PortExprs) (width aw index now : ℕ) → Plain (write_word p width aw index now)
+unfolding write_word
+plain_write p width aw index now = plain_bind (plain_emit refl) (λ k. plain_bind (plain_emit refl) (λ e. plain_bind (plain_emit refl) (λ y. plain_emit refl)))
 
-pub plain-second : (o : Option PortExprs) (width aw index now : ℕ) → Plain (writeSecond o width aw index now)
-plain-second none width aw index now = plain-pure
-plain-second (some p) width aw index now = plain_write p width aw index now
+pub plain_second : (o : Option PortExprs) (width aw index now : ℕ) → Plain (write_second o width aw index now)
+plain_second none width aw index now = plain_pure
+plain_second (some p) width aw index now = plain_write p width aw index now
 
-pub plain-candidates : (address aw index : ℕ) (ws : List Word) (ns : List Node) → Plain (candidatesFrom address aw index ws ns)
-unfolding candidatesFrom
-plain-candidates address aw index [] ns = plain-pure
-plain-candidates address aw index (w ∷ ws) ns = plain-bind (plain-emit refl) (λ k. plain-bind (plain-emit refl) (λ e. plain-candidates address aw (suc index) ws (ns ++ (record { matched = e; value = w.current } ∷ []))))
+pub plain_candidates : (address aw index : ℕ) (ws : List Word) (ns : List Node) → Plain (candidates_from address aw index ws ns)
+unfolding candidates_from
+plain_candidates address aw index [] ns = plain_pure
+plain_candidates address aw index (w ∷ ws) ns = plain_bind (plain_emit refl) (λ k. plain_bind (plain_emit refl) (λ e. plain_candidates address aw (suc index) ws (ns ++ (record { matched = e; value = w.current } ∷ []))))
 
-pub plain-enable : (m : Wires) (z : Constants) (o : Option Control) → Plain (enableOf m z o)
-plain-enable m z none = plain-pure
-plain-enable m z (some c) = plain-bind (plain-signal m z c.signal) (λ s. plain-pure)
+pub plain_enable : (m : Wires) (z : Constants) (o : Option Control) → Plain (enable_of m z o)
+plain_enable m z none = plain_pure
+plain_enable m z (some c) = plain_bind (plain_signal m z c.signal) (λ s. plain_pure)
 
-pub plain-select : (address index : ℕ) (ws : List Word) (now : ℕ) → Plain (dramSelect address index ws now)
-unfolding dramSelect
-plain-select address index [] now = plain-pure
-plain-select address index (w ∷ ws) now = plain-bind (plain-emit refl) (λ k. plain-bind (plain-emit refl) (λ e. plain-bind (plain-emit refl) (λ v. plain-select address (suc index) ws v)))
+pub plain_select : (address index : ℕ) (ws : List Word) (now : ℕ) → Plain (dram_select address index ws now)
+unfolding dram_select
+plain_select address index [] now = plain_pure
+plain_select address index (w ∷ ws) now = plain_bind (plain_emit refl) (λ k. plain_bind (plain_emit refl) (λ e. plain_bind (plain_emit refl) (λ v. plain_select address (suc index) ws v)))

@@ -8,17 +8,17 @@ use Rattle.recorder.specs.Evaluate.{Signals}
 use Rattle.behaviour.specs.Behaviour.{Valuation, value}
 use Rattle.wires.specs.Wires.{WireRef, Wires}
 
-abbrev pub refBit : Signals → Option WireRef → Bool
-refBit σ none = false
-refBit σ (some r) = get_or (σ r.signal) r.lsb false
+abbrev pub ref_bit : Signals → Option WireRef → Bool
+ref_bit σ none = false
+ref_bit σ (some r) = get_or (σ r.signal) r.lsb false
 
 abbrev pub held : Signals → Wires → Valuation
-held σ m w = refBit σ (m w)
+held σ m w = ref_bit σ (m w)
 
 -- k bits from place `at` on; past the end stand zeros
-abbrev pub valuesAt : Valuation → List Bit → ℕ → ℕ → Bits
-valuesAt v bits at zero = []
-valuesAt v bits at (suc k) = valuesAt v bits at k ++ (value v (get_or bits (at + k) Zero) ∷ [])
+abbrev pub values_at : Valuation → List Bit → ℕ → ℕ → Bits
+values_at v bits at zero = []
+values_at v bits at (suc k) = values_at v bits at k ++ (value v (get_or bits (at + k) Zero) ∷ [])
 
 -- the signal of a wire has these bits
 abbrev pub Driven : Signals → Wires → ℕ → Bits → Type 0
@@ -30,6 +30,6 @@ pub record Choice : Type 0 where
   pub word : Bits
 
 -- the word of the last candidate that is the one, or v
-abbrev pub lastChoice : List Choice → Bits → Bits
-lastChoice [] v = v
-lastChoice (c ∷ cs) v = lastChoice cs (pick c.hit c.word v)
+abbrev pub last_choice : List Choice → Bits → Bits
+last_choice [] v = v
+last_choice (c ∷ cs) v = last_choice cs (pick c.hit c.word v)

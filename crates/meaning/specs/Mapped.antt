@@ -5,15 +5,15 @@ use Rattle.bits.specs.Bits.{pick}
 use Rattle.netlist.specs.declared.Bit.TheVariants.{Zero, Wire}
 use Rattle.netlist.specs.Netlist.{Port, Netlist}
 use Rattle.recorder.specs.Record.{Signal}
-use Rattle.recorder.specs.Writer.{Event, signalsOf, exprsOf, stmtsOf}
+use Rattle.recorder.specs.Writer.{Event, signals_of, exprs_of, stmts_of}
 use Rattle.behaviour.specs.WireMap.{Source, inputs, shown, pins, bank, Slot, WireRef, find, slots}
 use Rattle.wires.specs.Wires.{Wires, WireRef as Ref}
-use Rattle.lowering.specs.Reserve.{signalOf}
+use Rattle.lowering.specs.Reserve.{signal_of}
 
 -- an entry of the tick rule's map, as lowering keeps it
-abbrev pub refOf : Option WireRef → Option Ref
-refOf none = none
-refOf (some r) = some (record { signal = r.signal; lsb = r.lowest; width = r.width })
+abbrev pub ref_of : Option WireRef → Option Ref
+ref_of none = none
+ref_of (some r) = some (record { signal = r.signal; lsb = r.lowest; width = r.width })
 
 -- the labels of the signals that a source may have: only an input has 0, and only an output port 1
 abbrev pub LabelFits : Source → ℕ → Type 0
@@ -48,21 +48,21 @@ entry_of held s i = record { signal = s; lowest = i; width = length (get_or held
 
 -- the slots so far, their signals and the map
 pub record Mapping (held : List Slot) (ss : List Signal) (m : Wires) : Type 0 where
-  pub finds : (w : ℕ) → m w ≡ refOf (find w held 0)
+  pub finds : (w : ℕ) → m w ≡ ref_of (find w held 0)
   -- no wire stands twice: each is found where it stands
   pub apart : (s i w : ℕ) → s < length held → i < length (get_or held s no_slot).bits → get_or (get_or held s no_slot).bits i Zero ≡ Wire w → find w held 0 ≡ some (entry_of held s i)
   pub fits : SignalsFit held ss
 
 -- the signals of the ports, from number p on
-abbrev pub portSignals : ℕ → List Port → List Signal
-portSignals p [] = []
-portSignals p (x ∷ xs) = pick (eqb x.direction 1) (signalOf 1 (length x.bits) p) (signalOf 0 (length x.bits) p) ∷ portSignals (suc p) xs
+abbrev pub port_signals : ℕ → List Port → List Signal
+port_signals p [] = []
+port_signals p (x ∷ xs) = pick (eqb x.direction 1) (signal_of 1 (length x.bits) p) (signal_of 0 (length x.bits) p) ∷ port_signals (suc p) xs
 
 -- what reserving a netlist has written, when it ends with the map m
 pub record Reserved (n : Netlist) (m : Wires) (es : List Event) : Type 0 where
   -- the signals of cells and banks, after those of the ports
   pub more : List Signal
-  pub signals : signalsOf es ≡ portSignals 0 n.ports ++ more
-  pub exprs : exprsOf es ≡ []
-  pub stmts : stmtsOf es ≡ []
-  pub mapping : Mapping (slots n) (portSignals 0 n.ports ++ more) m
+  pub signals : signals_of es ≡ port_signals 0 n.ports ++ more
+  pub exprs : exprs_of es ≡ []
+  pub stmts : stmts_of es ≡ []
+  pub mapping : Mapping (slots n) (port_signals 0 n.ports ++ more) m

@@ -11,15 +11,15 @@ use Rattle.netlist.specs.declared.Limits.{Limits}
 use Rattle.netlist.specs.Netlist.{Netlist, Cell, FlipFlop}
 use Rattle.netlist.specs.Shape.{Fits}
 use Rattle.recorder.specs.Record.{Expr, Expr.const, Expr.read, Expr.concat, Expr.not, Expr.and, Expr.or, Expr.xor, Expr.mux, Expr.eq, Expr.mul, Stmt, Stmt.assign, Stmt.reg}
-use Rattle.recorder.specs.Writer.{Count, End.ok, Writer, exprsOf, stmtsOf}
+use Rattle.recorder.specs.Writer.{Count, End.ok, Writer, exprs_of, stmts_of}
 use Rattle.recorder.specs.Meaning.{Ends}
 use Rattle.recorder.specs.Outcome.{none_yet}
 use Rattle.behaviour.specs.WireMap.{slots}
 use Rattle.wires.specs.declared.Constants.{Constants}
 use Rattle.wires.specs.Wires.{WireRef, Wires}
-use Rattle.wires.specs.Expressions.{vectorBit, bitsExpression}
-use Rattle.lowering.specs.Emit.{nextBit, emitCell}
-use Rattle.lowering.specs.Lower.{reserveNetlist}
+use Rattle.wires.specs.Expressions.{vector_bit, bits_expression}
+use Rattle.lowering.specs.Emit.{next_bit, emit_cell}
+use Rattle.lowering.specs.Lower.{reserve_netlist}
 
 -- what a read record says
 pub record Read : Type 0 where
@@ -28,18 +28,18 @@ pub record Read : Type 0 where
   pub lowest : ℕ
 
 -- the reads among records
-abbrev pub readsIn : List Expr → List Read
-readsIn [] = []
-readsIn (const w v ∷ xs) = readsIn xs
-readsIn (read w s l ∷ xs) = record { width = w; signal = s; lowest = l } ∷ readsIn xs
-readsIn (concat w ps ∷ xs) = readsIn xs
-readsIn (not a ∷ xs) = readsIn xs
-readsIn (and a b ∷ xs) = readsIn xs
-readsIn (or a b ∷ xs) = readsIn xs
-readsIn (xor a b ∷ xs) = readsIn xs
-readsIn (mux w s t f ∷ xs) = readsIn xs
-readsIn (eq a b ∷ xs) = readsIn xs
-readsIn (mul a b ∷ xs) = readsIn xs
+abbrev pub reads_in : List Expr → List Read
+reads_in [] = []
+reads_in (const w v ∷ xs) = reads_in xs
+reads_in (read w s l ∷ xs) = record { width = w; signal = s; lowest = l } ∷ reads_in xs
+reads_in (concat w ps ∷ xs) = reads_in xs
+reads_in (not a ∷ xs) = reads_in xs
+reads_in (and a b ∷ xs) = reads_in xs
+reads_in (or a b ∷ xs) = reads_in xs
+reads_in (xor a b ∷ xs) = reads_in xs
+reads_in (mux w s t f ∷ xs) = reads_in xs
+reads_in (eq a b ∷ xs) = reads_in xs
+reads_in (mul a b ∷ xs) = reads_in xs
 
 -- no two are equal
 abbrev pub NoTwo : List Read → Type 0
@@ -48,14 +48,14 @@ NoTwo (x ∷ xs) = (Mem x xs → ⊥) × NoTwo xs
 
 -- in the map of a netlist each wire has a place of its own
 abbrev pub WiresApart : Type 0
-WiresApart = (n : Netlist) (m : Wires) → (reserveNetlist n none_yet).end ≡ ok m → (v w : ℕ) (q r : WireRef) → m v ≡ some q → m w ≡ some r → q.signal ≡ r.signal → q.lsb ≡ r.lsb → v ≡ w
+WiresApart = (n : Netlist) (m : Wires) → (reserve_netlist n none_yet).end ≡ ok m → (v w : ℕ) (q r : WireRef) → m v ≡ some q → m w ≡ some r → q.signal ≡ r.signal → q.lsb ≡ r.lsb → v ≡ w
 
 -- a cell of a netlist, emitted once the signals of all slots are declared, records no read twice
 abbrev pub ReadOnceEach : Type 0
 ReadOnceEach =
-    (limits : Limits) (n : Netlist) → Fits limits n → (m : Wires) → (reserveNetlist n none_yet).end ≡ ok m
+    (limits : Limits) (n : Netlist) → Fits limits n → (m : Wires) → (reserve_netlist n none_yet).end ≡ ok m
     → (shared : ℕ) → limits.wires ≤ shared → (z : Constants) (owner : ℕ) (x : Cell) → Mem x n.cells
-    → (count : Count) → length (slots n) ≤ count.signals → NoTwo (readsIn (exprsOf (emitCell shared m z owner x count).events))
+    → (count : Count) → length (slots n) ≤ count.signals → NoTwo (reads_in (exprs_of (emit_cell shared m z owner x count).events))
 
 -- NOTHING FROM OTHERS: a cell's records work on the constants and on its own records alone, so a read is shared within one cell
 
@@ -97,38 +97,38 @@ Take first (t ∷ ts) = AllOf first (values t) × Take first ts
 abbrev pub NothingFromOthers : Type 0
 NothingFromOthers =
     (shared : ℕ) (m : Wires) (z : Constants) (owner : ℕ) (x : Cell) (count : Count)
-    → let events = (emitCell shared m z owner x count).events in WorkOn count.exprs (exprsOf events) × Take count.exprs (stmtsOf events)
+    → let events = (emit_cell shared m z owner x count).events in WorkOn count.exprs (exprs_of events) × Take count.exprs (stmts_of events)
 
 -- BANKS AND PORTS share nothing: a bank's flip-flop and an output port record a read for each wire that they name
 
-abbrev pub bitReads : Bit → ℕ
-bitReads Zero = 0
-bitReads One = 0
-bitReads (Wire w) = 1
+abbrev pub bit_reads : Bit → ℕ
+bit_reads Zero = 0
+bit_reads One = 0
+bit_reads (Wire w) = 1
 
-abbrev pub enableReads : Option Control → ℕ
-enableReads none = 0
+abbrev pub enable_reads : Option Control → ℕ
+enable_reads none = 0
 -- the bit that is held, and the control's
-enableReads (some c) = 1 + bitReads c.signal
+enable_reads (some c) = 1 + bit_reads c.signal
 
-abbrev pub resetReads : Option Reset → ℕ
-resetReads none = 0
-resetReads (some r) = pick (eqb r.asynchronous 1) 0 (bitReads r.signal)
+abbrev pub reset_reads : Option Reset → ℕ
+reset_reads none = 0
+reset_reads (some r) = pick (eqb r.asynchronous 1) 0 (bit_reads r.signal)
 
-abbrev pub flopReads : FlipFlop → ℕ
-flopReads f = bitReads f.input + (enableReads f.enable + resetReads f.reset)
+abbrev pub flop_reads : FlipFlop → ℕ
+flop_reads f = bit_reads f.input + (enable_reads f.enable + reset_reads f.reset)
 
 -- of k bits from place `at` on
-abbrev pub vectorReads : List Bit → ℕ → ℕ → ℕ
-vectorReads bits at zero = 0
-vectorReads bits at (suc k) = bitReads (vectorBit bits (at + k)) + vectorReads bits at k
+abbrev pub vector_reads : List Bit → ℕ → ℕ → ℕ
+vector_reads bits at zero = 0
+vector_reads bits at (suc k) = bit_reads (vector_bit bits (at + k)) + vector_reads bits at k
 
 -- unless it is refused, a writer records so many reads
 abbrev pub Records : {A : Type 0} → Writer A → ℕ → Type 0
-Records w k = (count : Count) → Ends (w count).end (λ a. length (readsIn (exprsOf (w count).events)) ≡ k)
+Records w k = (count : Count) → Ends (w count).end (λ a. length (reads_in (exprs_of (w count).events)) ≡ k)
 
 abbrev pub BanksReadAnew : Type 0
-BanksReadAnew = (m : Wires) (f : FlipFlop) → Records (nextBit m f) (flopReads f)
+BanksReadAnew = (m : Wires) (f : FlipFlop) → Records (next_bit m f) (flop_reads f)
 
 abbrev pub PortsReadAnew : Type 0
-PortsReadAnew = (m : Wires) (bits : List Bit) → Records (bitsExpression m bits) (vectorReads bits 0 (length bits))
+PortsReadAnew = (m : Wires) (bits : List Bit) → Records (bits_expression m bits) (vector_reads bits 0 (length bits))

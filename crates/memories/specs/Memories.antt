@@ -3,18 +3,18 @@ use Rattle.std.specs.Prelude.{List, [], ◌∷◌, ◌++◌, ℕ, zero, suc, get
 use Rattle.std.proofs.Math.Option.{Option, none, some}
 use Rattle.netlist.specs.declared.Control.{Control}
 use Rattle.netlist.specs.Netlist.{SecondPort, BlockRam, DistributedRam}
-use Rattle.netlist.specs.Reader.{addressWidth, shift_of}
-use Rattle.behaviour.specs.Behaviour.{shiftIn}
+use Rattle.netlist.specs.Reader.{address_width, shift_of}
+use Rattle.behaviour.specs.Behaviour.{shift_in}
 use Rattle.recorder.specs.Record.{Signal, RegEnable, Expr.const, Expr.read, Expr.and, Expr.mux, Expr.eq, Stmt.reg}
 use Rattle.recorder.specs.Writer.{Writer, pure, declare, emit, state, ◌>>=◌, ◌>>◌}
 use Rattle.wires.specs.declared.Constants.{Constants}
 use Rattle.wires.specs.Wires.{Wires}
-use Rattle.wires.specs.Seen.{Seen, standing, Reading, withSeen, keeping}
-use Rattle.wires.specs.Expressions.{wireRef, bitSignal, assertedOnce, vectorOnce, bitsOnce, assignWire}
-use Rattle.address_mux.specs.AddressMux.{Node, balancedAddressMux}
+use Rattle.wires.specs.Seen.{Seen, standing, Reading, with_seen, keeping}
+use Rattle.wires.specs.Expressions.{wire_ref, bit_signal, asserted_once, vector_once, bits_once, assign_wire}
+use Rattle.address_mux.specs.AddressMux.{Node, balanced_address_mux}
 
-abbrev pub wordSignal : ℕ → ℕ → Signal
-wordSignal width owner = record { label = 13; width = width; owner = owner }
+abbrev pub word_signal : ℕ → ℕ → Signal
+word_signal width owner = record { label = 13; width = width; owner = owner }
 
 -- a word of a RAM: its signal, its read, its next value
 pub record Word : Type 0 where
@@ -24,164 +24,164 @@ pub record Word : Type 0 where
 
 -- the expressions of a port
 pub record PortExprs : Type 0 where
-  pub writeAddress : ℕ
-  pub writeData : ℕ
-  pub writeAsserted : ℕ
-  pub readAddress : ℕ
-  pub readData : List ℕ
-  pub readEnable : Option Control
+  pub write_address : ℕ
+  pub write_data : ℕ
+  pub write_asserted : ℕ
+  pub read_address : ℕ
+  pub read_data : List ℕ
+  pub read_enable : Option Control
   -- the clock enable asserted, if there is one
-  pub clockEnabled : Option ℕ
+  pub clock_enabled : Option ℕ
 
 -- what a port's controls give: whether it writes, and its clock enable asserted, if it has one
 pub record Gate : Type 0 where
-  pub writeAsserted : ℕ
-  pub clockEnabled : Option ℕ
+  pub write_asserted : ℕ
+  pub clock_enabled : Option ℕ
 
 -- with a clock enable (request W1) a port writes where both are asserted
 unfoldable pub gate : Wires → Seen → Control → Option Control → Writer (Reading Gate)
 gate m seen write none = do
-  y ← assertedOnce m seen write
-  pure (withSeen (record { writeAsserted = y.value; clockEnabled = none }) y.seen)
+  y ← asserted_once m seen write
+  pure (with_seen (record { write_asserted = y.value; clock_enabled = none }) y.seen)
 gate m seen write (some enable) = do
-  y ← assertedOnce m seen write
-  c ← assertedOnce m y.seen enable
+  y ← asserted_once m seen write
+  c ← asserted_once m y.seen enable
   g ← emit (and y.value c.value)
-  pure (withSeen (record { writeAsserted = g; clockEnabled = some c.value }) c.seen)
+  pure (with_seen (record { write_asserted = g; clock_enabled = some c.value }) c.seen)
 
 -- what a port makes of a word: its width, the address's width, the index, the expression so far
-unfoldable pub writeWord : PortExprs → ℕ → ℕ → ℕ → ℕ → Writer ℕ
-writeWord p width aw index now = do
+unfoldable pub write_word : PortExprs → ℕ → ℕ → ℕ → ℕ → Writer ℕ
+write_word p width aw index now = do
   k ← emit (const aw index)
-  e ← emit (eq p.writeAddress k)
-  y ← emit (and p.writeAsserted e)
-  emit (mux width y p.writeData now)
+  e ← emit (eq p.write_address k)
+  y ← emit (and p.write_asserted e)
+  emit (mux width y p.write_data now)
 
-abbrev pub writeSecond : Option PortExprs → ℕ → ℕ → ℕ → ℕ → Writer ℕ
-writeSecond none width aw index now = pure now
-writeSecond (some p) width aw index now = writeWord p width aw index now
+abbrev pub write_second : Option PortExprs → ℕ → ℕ → ℕ → ℕ → Writer ℕ
+write_second none width aw index now = pure now
+write_second (some p) width aw index now = write_word p width aw index now
 
-unfoldable pub ramWord : PortExprs → Option PortExprs → ℕ → ℕ → ℕ → ℕ → Writer Word
-ramWord a b owner width aw index = do
-  s ← declare (wordSignal width owner)
+unfoldable pub ram_word : PortExprs → Option PortExprs → ℕ → ℕ → ℕ → ℕ → Writer Word
+ram_word a b owner width aw index = do
+  s ← declare (word_signal width owner)
   q ← emit (read width s 0)
-  n ← writeWord a width aw index q
-  n₂ ← writeSecond b width aw index n
+  n ← write_word a width aw index q
+  n₂ ← write_second b width aw index n
   pure (record { signal = s; current = q; next = n₂ })
 
 -- the words that are left, so many, from an index on, after those in `words`
-unfoldable pub ramWords : PortExprs → Option PortExprs → ℕ → ℕ → ℕ → ℕ → ℕ → List Word → Writer (List Word)
-ramWords a b owner width aw zero index words = pure words
-ramWords a b owner width aw (suc left) index words = do
-  w ← ramWord a b owner width aw index
-  ramWords a b owner width aw left (suc index) (words ++ (w ∷ []))
+unfoldable pub ram_words : PortExprs → Option PortExprs → ℕ → ℕ → ℕ → ℕ → ℕ → List Word → Writer (List Word)
+ram_words a b owner width aw zero index words = pure words
+ram_words a b owner width aw (suc left) index words = do
+  w ← ram_word a b owner width aw index
+  ram_words a b owner width aw left (suc index) (words ++ (w ∷ []))
 
 -- the candidates of a read address, for the words from an index on
-unfoldable pub candidatesFrom : ℕ → ℕ → ℕ → List Word → List Node → Writer (List Node)
-candidatesFrom address aw index [] nodes = pure nodes
-candidatesFrom address aw index (w ∷ ws) nodes = do
+unfoldable pub candidates_from : ℕ → ℕ → ℕ → List Word → List Node → Writer (List Node)
+candidates_from address aw index [] nodes = pure nodes
+candidates_from address aw index (w ∷ ws) nodes = do
   k ← emit (const aw index)
   e ← emit (eq address k)
-  candidatesFrom address aw (suc index) ws (nodes ++ (record { matched = e; value = w.current } ∷ []))
+  candidates_from address aw (suc index) ws (nodes ++ (record { matched = e; value = w.current } ∷ []))
 
-abbrev pub enableOf : Wires → Constants → Option Control → Writer (Option RegEnable)
-enableOf m z none = pure none
-enableOf m z (some c) = do
-  s ← bitSignal m z c.signal
+abbrev pub enable_of : Wires → Constants → Option Control → Writer (Option RegEnable)
+enable_of m z none = pure none
+enable_of m z (some c) = do
+  s ← bit_signal m z c.signal
   pure (some (record { signal = s; active = c.active }))
 
 -- the read of a read register's own signal stands already where the cell has read its wire: then its words have one bit, and it holds one wire
-abbrev pub ownRead : Seen → List ℕ → Option ℕ
-ownRead seen [] = none
-ownRead seen (w ∷ []) = standing seen w
-ownRead seen (w ∷ v ∷ ws) = none
+abbrev pub own_read : Seen → List ℕ → Option ℕ
+own_read seen [] = none
+own_read seen (w ∷ []) = standing seen w
+own_read seen (w ∷ v ∷ ws) = none
 
-abbrev pub ownExpression : Option ℕ → ℕ → ℕ → Writer ℕ
-ownExpression (some e) width target = pure e
-ownExpression none width target = emit (read width target 0)
+abbrev pub own_expression : Option ℕ → ℕ → ℕ → Writer ℕ
+own_expression (some e) width target = pure e
+own_expression none width target = emit (read width target 0)
 
 -- what a read register takes: the selected word, and with a clock enable its own where that is not asserted
-abbrev pub nextRead : Option ℕ → Option ℕ → ℕ → ℕ → ℕ → Writer ℕ
-nextRead none own width target word = pure word
-nextRead (some c) own width target word = do
-  o ← ownExpression own width target
+abbrev pub next_read : Option ℕ → Option ℕ → ℕ → ℕ → ℕ → Writer ℕ
+next_read none own width target word = pure word
+next_read (some c) own width target word = do
+  o ← own_expression own width target
   emit (mux width c word o)
 
 -- port, its own read where it stands, words, their width, the address's width, clock signal, edge
-unfoldable pub emitBlockRamReadPort : Wires → Constants → PortExprs → Option ℕ → List Word → ℕ → ℕ → ℕ → ℕ → Writer (Unit {0})
-emitBlockRamReadPort m z p own words width aw clock edge = do
+unfoldable pub emit_block_ram_read_port : Wires → Constants → PortExprs → Option ℕ → List Word → ℕ → ℕ → ℕ → ℕ → Writer (Unit {0})
+emit_block_ram_read_port m z p own words width aw clock edge = do
   e ← emit (const width 0)
-  nodes ← candidatesFrom p.readAddress aw 0 words []
-  v ← balancedAddressMux width nodes e
-  r ← wireRef m (get_or p.readData 0 0)
-  en ← enableOf m z p.readEnable
-  n ← nextRead p.clockEnabled own width r.signal v
+  nodes ← candidates_from p.read_address aw 0 words []
+  v ← balanced_address_mux width nodes e
+  r ← wire_ref m (get_or p.read_data 0 0)
+  en ← enable_of m z p.read_enable
+  n ← next_read p.clock_enabled own width r.signal v
   state (reg r.signal n clock edge none en)
 
-abbrev pub emitSecondReadPort : Wires → Constants → Option PortExprs → Option ℕ → List Word → ℕ → ℕ → ℕ → ℕ → Writer (Unit {0})
-emitSecondReadPort m z none own words width aw clock edge = pure tt
-emitSecondReadPort m z (some p) own words width aw clock edge = emitBlockRamReadPort m z p own words width aw clock edge
+abbrev pub emit_second_read_port : Wires → Constants → Option PortExprs → Option ℕ → List Word → ℕ → ℕ → ℕ → ℕ → Writer (Unit {0})
+emit_second_read_port m z none own words width aw clock edge = pure tt
+emit_second_read_port m z (some p) own words width aw clock edge = emit_block_ram_read_port m z p own words width aw clock edge
 
-unfoldable pub updateWords : List Word → ℕ → ℕ → Writer (Unit {0})
-updateWords [] clock edge = pure tt
-updateWords (w ∷ ws) clock edge = do
+unfoldable pub update_words : List Word → ℕ → ℕ → Writer (Unit {0})
+update_words [] clock edge = pure tt
+update_words (w ∷ ws) clock edge = do
   state (reg w.signal w.next clock edge none none)
-  updateWords ws clock edge
+  update_words ws clock edge
 
 -- the second port, whose address serves both: the shift, the address's width
-abbrev pub secondExprs : Wires → Seen → ℕ → ℕ → Option SecondPort → Writer (Reading (Option PortExprs))
-secondExprs m seen shift aw none = pure (withSeen none seen)
-secondExprs m seen shift aw (some p) = do
-  a ← vectorOnce m seen p.address shift aw
-  d ← bitsOnce m a.seen p.input
-  g ← gate m d.seen p.write p.clockEnable
-  pure (withSeen (some (record { writeAddress = a.value; writeData = d.value; writeAsserted = g.value.writeAsserted; readAddress = a.value; readData = p.output; readEnable = p.readEnable; clockEnabled = g.value.clockEnabled })) g.seen)
+abbrev pub second_exprs : Wires → Seen → ℕ → ℕ → Option SecondPort → Writer (Reading (Option PortExprs))
+second_exprs m seen shift aw none = pure (with_seen none seen)
+second_exprs m seen shift aw (some p) = do
+  a ← vector_once m seen p.address shift aw
+  d ← bits_once m a.seen p.input
+  g ← gate m d.seen p.write p.clock_enable
+  pure (with_seen (some (record { write_address = a.value; write_data = d.value; write_asserted = g.value.write_asserted; read_address = a.value; read_data = p.output; read_enable = p.read_enable; clock_enabled = g.value.clock_enabled })) g.seen)
 
-abbrev pub secondOutput : Option SecondPort → List ℕ
-secondOutput none = []
-secondOutput (some p) = p.output
+abbrev pub second_output : Option SecondPort → List ℕ
+second_output none = []
+second_output (some p) = p.output
 
 -- cell number `owner`, after what it has read so far
-unfoldable pub emitBlockRam : Wires → Constants → Seen → ℕ → BlockRam → Writer (Reading (Unit {0}))
-emitBlockRam m z seen owner r = do
-  let aw = addressWidth r.depth
-  let shift = shiftIn (shift_of r.physical)
-  wa ← vectorOnce m seen r.writeAddress shift aw
-  ra ← vectorOnce m wa.seen r.readAddress shift aw
-  d ← bitsOnce m ra.seen r.input
-  g ← gate m d.seen r.write r.clockEnable
-  b ← secondExprs m g.seen shift aw r.second
-  clock ← bitSignal m z r.clock
-  let a : PortExprs = record { writeAddress = wa.value; writeData = d.value; writeAsserted = g.value.writeAsserted; readAddress = ra.value; readData = r.output; readEnable = r.readEnable; clockEnabled = g.value.clockEnabled }
-  words ← ramWords a b.value owner r.width aw r.depth 0 []
-  emitBlockRamReadPort m z a (ownRead b.seen r.output) words r.width aw clock r.edge
-  emitSecondReadPort m z b.value (ownRead b.seen (secondOutput r.second)) words r.width aw clock r.edge
-  keeping b.seen (updateWords words clock r.edge)
+unfoldable pub emit_block_ram : Wires → Constants → Seen → ℕ → BlockRam → Writer (Reading (Unit {0}))
+emit_block_ram m z seen owner r = do
+  let aw = address_width r.depth
+  let shift = shift_in (shift_of r.physical)
+  wa ← vector_once m seen r.write_address shift aw
+  ra ← vector_once m wa.seen r.read_address shift aw
+  d ← bits_once m ra.seen r.input
+  g ← gate m d.seen r.write r.clock_enable
+  b ← second_exprs m g.seen shift aw r.second
+  clock ← bit_signal m z r.clock
+  let a : PortExprs = record { write_address = wa.value; write_data = d.value; write_asserted = g.value.write_asserted; read_address = ra.value; read_data = r.output; read_enable = r.read_enable; clock_enabled = g.value.clock_enabled }
+  words ← ram_words a b.value owner r.width aw r.depth 0 []
+  emit_block_ram_read_port m z a (own_read b.seen r.output) words r.width aw clock r.edge
+  emit_second_read_port m z b.value (own_read b.seen (second_output r.second)) words r.width aw clock r.edge
+  keeping b.seen (update_words words clock r.edge)
 
 -- the words of a distributed RAM that are left, each with its statement, after those in `words`
-unfoldable pub dramWords : PortExprs → ℕ → ℕ → ℕ → ℕ → ℕ → List Word → Writer (List Word)
-dramWords p owner clock edge zero index words = pure words
-dramWords p owner clock edge (suc left) index words = do
-  w ← ramWord p none owner 4 4 index
+unfoldable pub dram_words : PortExprs → ℕ → ℕ → ℕ → ℕ → ℕ → List Word → Writer (List Word)
+dram_words p owner clock edge zero index words = pure words
+dram_words p owner clock edge (suc left) index words = do
+  w ← ram_word p none owner 4 4 index
   state (reg w.signal w.next clock edge none none)
-  dramWords p owner clock edge left (suc index) (words ++ (w ∷ []))
+  dram_words p owner clock edge left (suc index) (words ++ (w ∷ []))
 
-unfoldable pub dramSelect : ℕ → ℕ → List Word → ℕ → Writer ℕ
-dramSelect address index [] now = pure now
-dramSelect address index (w ∷ ws) now = do
+unfoldable pub dram_select : ℕ → ℕ → List Word → ℕ → Writer ℕ
+dram_select address index [] now = pure now
+dram_select address index (w ∷ ws) now = do
   k ← emit (const 4 index)
   e ← emit (eq address k)
   v ← emit (mux 4 e w.current now)
-  dramSelect address (suc index) ws v
+  dram_select address (suc index) ws v
 
-unfoldable pub emitDistributedRam : Wires → Constants → Seen → ℕ → DistributedRam → Writer (Reading (Unit {0}))
-emitDistributedRam m z seen owner r = do
-  wa ← vectorOnce m seen r.writeAddress 0 4
-  ra ← vectorOnce m wa.seen r.readAddress 0 4
-  d ← vectorOnce m ra.seen r.input 0 4
-  y ← assertedOnce m d.seen r.write
-  clock ← bitSignal m z r.clock
-  words ← dramWords (record { writeAddress = wa.value; writeData = d.value; writeAsserted = y.value; readAddress = ra.value; readData = r.output; readEnable = none; clockEnabled = none }) owner clock r.edge 16 0 []
+unfoldable pub emit_distributed_ram : Wires → Constants → Seen → ℕ → DistributedRam → Writer (Reading (Unit {0}))
+emit_distributed_ram m z seen owner r = do
+  wa ← vector_once m seen r.write_address 0 4
+  ra ← vector_once m wa.seen r.read_address 0 4
+  d ← vector_once m ra.seen r.input 0 4
+  y ← asserted_once m d.seen r.write
+  clock ← bit_signal m z r.clock
+  words ← dram_words (record { write_address = wa.value; write_data = d.value; write_asserted = y.value; read_address = ra.value; read_data = r.output; read_enable = none; clock_enabled = none }) owner clock r.edge 16 0 []
   e ← emit (const 4 0)
-  v ← dramSelect ra.value 0 words e
-  keeping y.seen (assignWire m (get_or r.output 0 0) v)
+  v ← dram_select ra.value 0 words e
+  keeping y.seen (assign_wire m (get_or r.output 0 0) v)

@@ -1,13 +1,13 @@
 // A block RAM.
 ghost use Rattle.std.specs.Prelude.{◌≡◌, ◌+◌, ◌≤◌, max, length};
-ghost use Rattle.netlist.specs.Fields.{word_at, wiresAt, ramAt};
+ghost use Rattle.netlist.specs.Fields.{word_at, wires_at, ram_at};
 ghost use Rattle.recorder.specs.Lists.{lists, Wrote, stated, WroteBoth};
-ghost use Rattle.wires.specs.Once.{seenOf, OnceAll, Cleared};
+ghost use Rattle.wires.specs.Once.{seen_of, OnceAll, Cleared};
 ghost use Rattle.recorder.specs.Words.{zeroed};
-ghost use Rattle.wires.specs.Wires.{wiresOf};
-ghost use Rattle.memories.specs.Memories.{ownRead, secondOutput, emitBlockRam};
-ghost use Rattle.memories.specs.Rams.{ownOf, portOf, second_of, lastOf, words_of, Spaced, addressed, workOf, blockRamIn};
-ghost use Rattle.memories.specs.Steps.{secondAt, ramReads, ramBody};
+ghost use Rattle.wires.specs.Wires.{wires_of};
+ghost use Rattle.memories.specs.Memories.{own_read, second_output, emit_block_ram};
+ghost use Rattle.memories.specs.Rams.{own_of, port_of, second_of, last_of, words_of, Spaced, addressed, work_of, block_ram_in};
+ghost use Rattle.memories.specs.Steps.{second_at, ram_reads, ram_body};
 
 use crate::ports::{first_port, first_size, second_port};
 use crate::ram_words::{ram_words, update_words};
@@ -26,7 +26,7 @@ use wires::{Constants, Controlled};
 
 // The read of the signal that n wires at an offset of a record share, if the cell has read it: it has one bit then.
 fn own_read(seen: &[u32], first: u32, words: &[u32], at: usize, offset: usize, n: u32) -> Own
-    ensures { ownOf result ≡ ownRead (seenOf first seen.now) (wiresAt words.now (at + offset) n) }
+    ensures { own_of result ≡ own_read (seen_of first seen.now) (wires_at words.now (at + offset) n) }
 {
     if n != 1 {
         return Own::Unread;
@@ -40,8 +40,8 @@ fn own_read(seen: &[u32], first: u32, words: &[u32], at: usize, offset: usize, n
 
 // Of both ports of the block RAM at an index.
 fn own_reads(seen: &[u32], first: u32, words: &[u32], at: usize) -> Owns
-    ensures first { ownOf result.first ≡ ownRead (seenOf first seen.now) (ramAt words.now at).output }
-    ensures second { ownOf result.second ≡ ownRead (seenOf first seen.now) (secondOutput (ramAt words.now at).second) }
+    ensures first { own_of result.first ≡ own_read (seen_of first seen.now) (ram_at words.now at).output }
+    ensures second { own_of result.second ≡ own_read (seen_of first seen.now) (second_output (ram_at words.now at).second) }
 {
     let width = field(words, at, 2);
     let a = own_read(seen, first, words, at, 43 + wide(width), width);
@@ -78,7 +78,7 @@ fn reads_and_updates(
     at: usize,
 ) -> Stated
     requires { (made.depth ≤ length parts.old) × (made.depth ≤ length values.old) × Spaced made }
-    ensures { WroteBoth exprs.old stmts.old t (ramReads (wiresOf wires.now places.now) constants (portOf (ramAt words.now at).output (ramAt words.now at).readEnable first) (ownOf owns.first) (second_of (secondAt words.now at).output (secondAt words.now at).readEnable second) (ownOf owns.second) shape.width shape.address shape.clock.0 shape.edge (words_of made)) (stated result) exprs.new stmts.new }
+    ensures { WroteBoth exprs.old stmts.old t (ram_reads (wires_of wires.now places.now) constants (port_of (ram_at words.now at).output (ram_at words.now at).read_enable first) (own_of owns.first) (second_of (second_at words.now at).output (second_at words.now at).read_enable second) (own_of owns.second) shape.width shape.address shape.clock.0 shape.edge (words_of made)) (stated result) exprs.new stmts.new }
 {
     let clock = shape.clock;
     let own_first = owns.first;
@@ -102,7 +102,7 @@ fn reads_and_updates(
 
 // How far a word's next value stands behind its read.
 fn last_of(second: Second) -> u32
-    ensures { result ≡ lastOf second }
+    ensures { result ≡ last_of second }
 {
     match second {
         Second::Absent => 4,
@@ -130,7 +130,7 @@ fn ram_body(
     at: usize,
 ) -> Stated
     requires { (word_at words.now (at + 1) ≤ length parts.old) × (word_at words.now (at + 1) ≤ length values.old) × (word_at words.now (at + 1) ≤ 16384) }
-    ensures { Wrote (lists signals.old exprs.old stmts.old) t (ramBody (wiresOf wires.now places.now) constants owner (portOf (ramAt words.now at).output (ramAt words.now at).readEnable first) (ownOf owns.first) (second_of (secondAt words.now at).output (secondAt words.now at).readEnable second) (ownOf owns.second) shape.width shape.address (word_at words.now (at + 1)) shape.clock.0 shape.edge) (stated result) (lists signals.new exprs.new stmts.new) }
+    ensures { Wrote (lists signals.old exprs.old stmts.old) t (ram_body (wires_of wires.now places.now) constants owner (port_of (ram_at words.now at).output (ram_at words.now at).read_enable first) (own_of owns.first) (second_of (second_at words.now at).output (second_at words.now at).read_enable second) (own_of owns.second) shape.width shape.address (word_at words.now (at + 1)) shape.clock.0 shape.edge) (stated result) (lists signals.new exprs.new stmts.new) }
 {
     let depth = field(words, at, 1);
     let r = ram_words(
@@ -168,7 +168,7 @@ fn larger(a: usize, b: usize) -> usize
 
 // How many words each of the two works must have for the block RAM at an index.
 pub fn block_ram_work(words: &[u32], at: usize) -> usize
-    ensures { result ≡ workOf (ramAt words.now at) }
+    ensures { result ≡ work_of (ram_at words.now at) }
 {
     let depth = wide(field(words, at, 1));
     let width = wide(field(words, at, 2));
@@ -194,8 +194,8 @@ fn with_work(
     read_address: [Bit; 14],
     second_address: [Bit; 14],
 ) -> Stated
-    requires { (workOf (ramAt words.now at) ≤ length parts.old) × (workOf (ramAt words.now at) ≤ length values.old) × (word_at words.now (at + 1) ≤ 16384) }
-    ensures { OnceAll (lists signals.old exprs.old stmts.old) t t.exprs.count seen.old (λ s. emitBlockRam (wiresOf wires.now places.now) constants s owner (addressed (ramAt words.now at) write_address read_address second_address)) (stated result) (lists signals.new exprs.new stmts.new) seen.new }
+    requires { (work_of (ram_at words.now at) ≤ length parts.old) × (work_of (ram_at words.now at) ≤ length values.old) × (word_at words.now (at + 1) ≤ 16384) }
+    ensures { OnceAll (lists signals.old exprs.old stmts.old) t t.exprs.count seen.old (λ s. emit_block_ram (wires_of wires.now places.now) constants s owner (addressed (ram_at words.now at) write_address read_address second_address)) (stated result) (lists signals.new exprs.new stmts.new) seen.new }
 {
     let address = address_width(field(words, at, 1));
     let shift = shift_in(field(words, at, 3));
@@ -277,7 +277,7 @@ fn in_work(
     read_address: [Bit; 14],
     second_address: [Bit; 14],
 ) -> Stated
-    ensures { OnceAll (lists signals.old exprs.old stmts.old) t t.exprs.count seen.old (λ s. blockRamIn parts.old values.old (wiresOf wires.now places.now) constants s owner (addressed (ramAt words.now at) write_address read_address second_address)) (stated result) (lists signals.new exprs.new stmts.new) seen.new }
+    ensures { OnceAll (lists signals.old exprs.old stmts.old) t t.exprs.count seen.old (λ s. block_ram_in parts.old values.old (wires_of wires.now places.now) constants s owner (addressed (ram_at words.now at) write_address read_address second_address)) (stated result) (lists signals.new exprs.new stmts.new) seen.new }
 {
     let work = block_ram_work(words, at);
     if parts.len() < work {
@@ -329,7 +329,7 @@ pub fn emit_block_ram(
     read_address: [Bit; 14],
     second_address: [Bit; 14],
 ) -> Stated
-    ensures wrote { OnceAll (lists signals.old exprs.old stmts.old) t t.exprs.count seen.old (λ s. blockRamIn parts.old values.old (wiresOf wires.now places.now) constants s owner (addressed (ramAt words.now at) write_address read_address second_address)) (stated result) (lists signals.new exprs.new stmts.new) seen.new }
+    ensures wrote { OnceAll (lists signals.old exprs.old stmts.old) t t.exprs.count seen.old (λ s. block_ram_in parts.old values.old (wires_of wires.now places.now) constants s owner (addressed (ram_at words.now at) write_address read_address second_address)) (stated result) (lists signals.new exprs.new stmts.new) seen.new }
     ensures works { (parts.new ≡ zeroed parts.old) × (values.new ≡ zeroed values.old) }
     ensures refused { Cleared (stated result) seen.old seen.new }
 {

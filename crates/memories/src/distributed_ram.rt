@@ -1,11 +1,11 @@
 // A distributed RAM: 16 words of four bits.
 ghost use Rattle.std.specs.Prelude.{[], ℕ, ◌≤◌, length};
 ghost use Rattle.recorder.specs.Lists.{lists, Wrote, WroteExprs, emitted, stated, WroteBoth};
-ghost use Rattle.wires.specs.Wires.{wiresOf};
+ghost use Rattle.wires.specs.Wires.{wires_of};
 ghost use Rattle.wires.specs.Once.{OnceAll, Cleared};
-ghost use Rattle.memories.specs.Memories.{dramWords, dramSelect, emitDistributedRam};
-ghost use Rattle.memories.specs.Rams.{writing, worded, wordsFrom, reach, dramAt, dramAddressed};
-ghost use Rattle.memories.specs.Steps.{dramWord, FilledAll, selectOne, dramRead, dramBody};
+ghost use Rattle.memories.specs.Memories.{dram_words, dram_select, emit_distributed_ram};
+ghost use Rattle.memories.specs.Rams.{writing, worded, words_from, reach, dram_at, dram_addressed};
+ghost use Rattle.memories.specs.Steps.{dram_word, FilledAll, select_one, dram_read, dram_body};
 
 use crate::ports::dram_port;
 use crate::ram_words::ram_word;
@@ -30,7 +30,7 @@ fn dram_word(
     edge: u32,
     index: u32,
 ) -> Worded
-    ensures { Wrote (lists signals.old exprs.old stmts.old) t (dramWord (writing port) owner clock.0 edge index) (worded result) (lists signals.new exprs.new stmts.new) }
+    ensures { Wrote (lists signals.old exprs.old stmts.old) t (dram_word (writing port) owner clock.0 edge index) (worded result) (lists signals.new exprs.new stmts.new) }
 {
     match ram_word(signals, exprs, t, port, Second::Absent, owner, 4, 4, index) {
         Worded::Done(word, t2) => {
@@ -65,7 +65,7 @@ fn dram_words(
     clock: SignalId,
     edge: u32,
 ) -> Stated
-    ensures { FilledAll (lists signals.old exprs.old stmts.old) t (dramWords (writing port) owner clock.0 edge 16 0 []) result (lists signals.new exprs.new stmts.new) }
+    ensures { FilledAll (lists signals.old exprs.old stmts.old) t (dram_words (writing port) owner clock.0 edge 16 0 []) result (lists signals.new exprs.new stmts.new) }
 {
     let mut now = t;
     let mut i = 0;
@@ -90,7 +90,7 @@ fn select_one(
     word: ExprId,
     other: ExprId,
 ) -> Emitted
-    ensures { WroteExprs exprs.old t (selectOne reads.0 index word.0 other.0) (emitted result) exprs.new }
+    ensures { WroteExprs exprs.old t (select_one reads.0 index word.0 other.0) (emitted result) exprs.new }
 {
     let r = match_address(exprs, t, reads, 4, index);
     let Emitted::Done(found, t2) = r else {
@@ -108,7 +108,7 @@ fn dram_select(
     other: ExprId,
 ) -> Emitted
     requires { reach current.0 4 16 ≤ 2147483648 }
-    ensures { (s : ℕ) → WroteExprs exprs.old t (dramSelect reads.0 0 (wordsFrom s current.0 4 16) other.0) (emitted result) exprs.new }
+    ensures { (s : ℕ) → WroteExprs exprs.old t (dram_select reads.0 0 (words_from s current.0 4 16) other.0) (emitted result) exprs.new }
 {
     let mut selected = other.0;
     let mut word = current.0;
@@ -139,7 +139,7 @@ fn dram_read(
     output: u32,
 ) -> Stated
     requires { reach current.0 4 16 ≤ 2147483648 }
-    ensures { (s : ℕ) → WroteBoth exprs.old stmts.old t (dramRead (wiresOf wires.now places.now) reads.0 output (wordsFrom s current.0 4 16)) (stated result) exprs.new stmts.new }
+    ensures { (s : ℕ) → WroteBoth exprs.old stmts.old t (dram_read (wires_of wires.now places.now) reads.0 output (words_from s current.0 4 16)) (stated result) exprs.new stmts.new }
 {
     match builder::constant(exprs, t, 4, 0) {
         Emitted::Done(e, t2) => match dram_select(exprs, t2, reads, current, e) {
@@ -164,7 +164,7 @@ fn dram_body(
     edge: u32,
     output: u32,
 ) -> Stated
-    ensures { Wrote (lists signals.old exprs.old stmts.old) t (dramBody (wiresOf wires.now places.now) owner (writing port) clock.0 edge output) (stated result) (lists signals.new exprs.new stmts.new) }
+    ensures { Wrote (lists signals.old exprs.old stmts.old) t (dram_body (wires_of wires.now places.now) owner (writing port) clock.0 edge output) (stated result) (lists signals.new exprs.new stmts.new) }
 {
     let r = dram_words(signals, exprs, stmts, t, port, owner, clock, edge);
     let Stated::Done(t2) = r else {
@@ -191,7 +191,7 @@ fn dram_cell(
     write_address: [Bit; 4],
     read_address: [Bit; 4],
 ) -> Stated
-    ensures { OnceAll (lists signals.old exprs.old stmts.old) t t.exprs.count seen.old (λ s. emitDistributedRam (wiresOf wires.now places.now) constants s owner (dramAddressed (dramAt words.now at) write_address read_address)) (stated result) (lists signals.new exprs.new stmts.new) seen.new }
+    ensures { OnceAll (lists signals.old exprs.old stmts.old) t t.exprs.count seen.old (λ s. emit_distributed_ram (wires_of wires.now places.now) constants s owner (dram_addressed (dram_at words.now at) write_address read_address)) (stated result) (lists signals.new exprs.new stmts.new) seen.new }
 {
     let begin = t.exprs.count;
     match dram_port(
@@ -239,7 +239,7 @@ pub fn emit_distributed_ram(
     write_address: [Bit; 4],
     read_address: [Bit; 4],
 ) -> Stated
-    ensures wrote { OnceAll (lists signals.old exprs.old stmts.old) t t.exprs.count seen.old (λ s. emitDistributedRam (wiresOf wires.now places.now) constants s owner (dramAddressed (dramAt words.now at) write_address read_address)) (stated result) (lists signals.new exprs.new stmts.new) seen.new }
+    ensures wrote { OnceAll (lists signals.old exprs.old stmts.old) t t.exprs.count seen.old (λ s. emit_distributed_ram (wires_of wires.now places.now) constants s owner (dram_addressed (dram_at words.now at) write_address read_address)) (stated result) (lists signals.new exprs.new stmts.new) seen.new }
     ensures refused { Cleared (stated result) seen.old seen.new }
 {
     let r = dram_cell(

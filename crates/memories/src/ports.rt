@@ -1,14 +1,14 @@
 // The expressions of a RAM's ports. What a refusal leaves of what has been read is not said here: the RAM is refused then.
 ghost use Rattle.std.specs.Prelude.{◌≡◌, [], ◌+◌, ◌≤◌, length};
 ghost use Rattle.std.proofs.Math.Option.{none};
-ghost use Rattle.netlist.specs.Fields.{word_at, bits_at, controlAt, optionalControlAt, firstSize, ramAt};
+ghost use Rattle.netlist.specs.Fields.{word_at, bits_at, control_at, optional_control_at, first_size, ram_at};
 ghost use Rattle.recorder.specs.Lists.{emitted};
-ghost use Rattle.wires.specs.Wires.{wiresOf};
+ghost use Rattle.wires.specs.Wires.{wires_of};
 ghost use Rattle.wires.specs.Once.{OnceAt, Grows};
-ghost use Rattle.wires.specs.Expressions.{assertedOnce, vectorOnce, bitsOnce};
-ghost use Rattle.memories.specs.Memories.{gate, secondExprs};
-ghost use Rattle.memories.specs.Rams.{gated, ported, seconded, firstExprs, dramExprs, dramAt, addressed, secondAddressed, dramAddressed};
-ghost use Rattle.memories.specs.Steps.{secondAt};
+ghost use Rattle.wires.specs.Expressions.{asserted_once, vector_once, bits_once};
+ghost use Rattle.memories.specs.Memories.{gate, second_exprs};
+ghost use Rattle.memories.specs.Rams.{gated, ported, seconded, first_exprs, dram_exprs, dram_at, addressed, second_addressed, dram_addressed};
+ghost use Rattle.memories.specs.Steps.{second_at};
 
 use crate::{ClockEnabled, Gated, Port, Ported, Second, Seconded};
 use address_mux::address::address_once;
@@ -33,7 +33,7 @@ fn data_expression(
     n: u32,
 ) -> Emitted
     requires { (n ≤ length parts.old) × (first ≤ t.exprs.count) }
-    ensures wrote { OnceAt exprs.old t first seen.old (λ s. bitsOnce (wiresOf wires.now places.now) s (bits_at words.now (at + offset) n)) (emitted result) exprs.new seen.new }
+    ensures wrote { OnceAt exprs.old t first seen.old (λ s. bits_once (wires_of wires.now places.now) s (bits_at words.now (at + offset) n)) (emitted result) exprs.new seen.new }
     ensures grows { Grows t (emitted result) }
 {
     let i = ahead(words, at, offset);
@@ -66,7 +66,7 @@ fn address_part(
     width: u32,
 ) -> Emitted
     requires { (width ≤ 33) × (first ≤ t.exprs.count) }
-    ensures wrote { OnceAt exprs.old t first seen.old (λ s. vectorOnce (wiresOf wires.now places.now) s bits shift width) (emitted result) exprs.new seen.new }
+    ensures wrote { OnceAt exprs.old t first seen.old (λ s. vector_once (wires_of wires.now places.now) s bits shift width) (emitted result) exprs.new seen.new }
     ensures grows { Grows t (emitted result) }
 {
     address_once(exprs, seen, wires, places, t, first, bits, shift, width)
@@ -83,7 +83,7 @@ fn four_bits(
     bits: [Bit; 4],
 ) -> Emitted
     requires { first ≤ t.exprs.count }
-    ensures wrote { OnceAt exprs.old t first seen.old (λ s. vectorOnce (wiresOf wires.now places.now) s bits 0 4) (emitted result) exprs.new seen.new }
+    ensures wrote { OnceAt exprs.old t first seen.old (λ s. vector_once (wires_of wires.now places.now) s bits 0 4) (emitted result) exprs.new seen.new }
     ensures grows { Grows t (emitted result) }
 {
     let mut parts = [0u32; 4];
@@ -115,7 +115,7 @@ fn asserted_at(
     offset: usize,
 ) -> Emitted
     requires { first ≤ t.exprs.count }
-    ensures wrote { OnceAt exprs.old t first seen.old (λ s. assertedOnce (wiresOf wires.now places.now) s (controlAt words.now (at + offset))) (emitted result) exprs.new seen.new }
+    ensures wrote { OnceAt exprs.old t first seen.old (λ s. asserted_once (wires_of wires.now places.now) s (control_at words.now (at + offset))) (emitted result) exprs.new seen.new }
     ensures grows { Grows t (emitted result) }
 {
     let write = control(words, at, offset);
@@ -136,7 +136,7 @@ fn gated_at(
     enable_offset: usize,
 ) -> Gated
     requires { first ≤ t.exprs.count }
-    ensures wrote { OnceAt exprs.old t first seen.old (λ s. gate (wiresOf wires.now places.now) s (controlAt words.now (at + write_offset)) (optionalControlAt words.now (at + enable_offset))) (gated result) exprs.new seen.new }
+    ensures wrote { OnceAt exprs.old t first seen.old (λ s. gate (wires_of wires.now places.now) s (control_at words.now (at + write_offset)) (optional_control_at words.now (at + enable_offset))) (gated result) exprs.new seen.new }
     ensures grows { Grows t (gated result) }
 {
     match asserted_at(
@@ -187,8 +187,8 @@ pub fn first_port(
     address: u32,
 ) -> Ported
     requires { (address ≤ 33) × (word_at words.now (at + 2) ≤ length parts.old) × (first ≤ t.exprs.count) }
-    ensures wrote { OnceAt exprs.old t first seen.old (λ s. firstExprs (wiresOf wires.now places.now) s shift address (addressed (ramAt words.now at) write_address read_address [])) (ported (ramAt words.now at).output (ramAt words.now at).readEnable result) exprs.new seen.new }
-    ensures grows { Grows t (ported (ramAt words.now at).output (ramAt words.now at).readEnable result) }
+    ensures wrote { OnceAt exprs.old t first seen.old (λ s. first_exprs (wires_of wires.now places.now) s shift address (addressed (ram_at words.now at) write_address read_address [])) (ported (ram_at words.now at).output (ram_at words.now at).read_enable result) exprs.new seen.new }
+    ensures grows { Grows t (ported (ram_at words.now at).output (ram_at words.now at).read_enable result) }
 {
     let width = field(words, at, 2);
     match address_part(
@@ -243,7 +243,7 @@ pub fn first_port(
 
 // How many words the first port of the block RAM at an index has.
 pub fn first_size(words: &[u32], at: usize) -> usize
-    ensures { result ≡ firstSize words.now (word_at words.now (at + 2)) }
+    ensures { result ≡ first_size words.now (word_at words.now (at + 2)) }
 {
     let width = wide(field(words, at, 2));
     43 + width + width
@@ -265,8 +265,8 @@ pub fn second_port(
     address: u32,
 ) -> Seconded
     requires { (address ≤ 33) × (word_at words.now (at + 2) ≤ length parts.old) × (first ≤ t.exprs.count) }
-    ensures wrote { OnceAt exprs.old t first seen.old (λ s. secondExprs (wiresOf wires.now places.now) s shift address (secondAddressed (ramAt words.now at).second second_address)) (seconded (secondAt words.now at).output (secondAt words.now at).readEnable result) exprs.new seen.new }
-    ensures grows { Grows t (seconded (secondAt words.now at).output (secondAt words.now at).readEnable result) }
+    ensures wrote { OnceAt exprs.old t first seen.old (λ s. second_exprs (wires_of wires.now places.now) s shift address (second_addressed (ram_at words.now at).second second_address)) (seconded (second_at words.now at).output (second_at words.now at).read_enable result) exprs.new seen.new }
+    ensures grows { Grows t (seconded (second_at words.now at).output (second_at words.now at).read_enable result) }
 {
     if field(words, at, 42) == 0 {
         return Seconded::Done(Second::Absent, t);
@@ -345,8 +345,8 @@ pub fn dram_port(
     read_address: [Bit; 4],
 ) -> Ported
     requires { first ≤ t.exprs.count }
-    ensures wrote { OnceAt exprs.old t first seen.old (λ s. dramExprs (wiresOf wires.now places.now) s (dramAddressed (dramAt words.now at) write_address read_address)) (ported (dramAt words.now at).output none result) exprs.new seen.new }
-    ensures grows { Grows t (ported (dramAt words.now at).output none result) }
+    ensures wrote { OnceAt exprs.old t first seen.old (λ s. dram_exprs (wires_of wires.now places.now) s (dram_addressed (dram_at words.now at) write_address read_address)) (ported (dram_at words.now at).output none result) exprs.new seen.new }
+    ensures grows { Grows t (ported (dram_at words.now at).output none result) }
 {
     match four_bits(exprs, seen, wires, places, t, first, write_address) {
         Emitted::Done(writes, t2) => {

@@ -1,8 +1,8 @@
 // The words of a RAM, and their registers.
 ghost use Rattle.std.specs.Prelude.{◌≡◌, []};
 ghost use Rattle.recorder.specs.Lists.{WroteExprs, WroteStmts, emitted, stated};
-ghost use Rattle.memories.specs.Memories.{writeWord, writeSecond, ramWord, ramWords, updateWords};
-ghost use Rattle.memories.specs.Rams.{WroteWords, writing, secondWriting, lastOf, worded, Filled, Spaced, words_of};
+ghost use Rattle.memories.specs.Memories.{write_word, write_second, ram_word, ram_words, update_words};
+ghost use Rattle.memories.specs.Rams.{WroteWords, writing, second_writing, last_of, worded, Filled, Spaced, words_of};
 
 use crate::{Port, RamWord, Second, Worded, Words};
 use address_mux::address::match_address;
@@ -18,7 +18,7 @@ fn write_word(
     index: u32,
     old: ExprId,
 ) -> Emitted
-    ensures { WroteExprs exprs.old t (writeWord (writing port) width address index old.0) (emitted result) exprs.new }
+    ensures { WroteExprs exprs.old t (write_word (writing port) width address index old.0) (emitted result) exprs.new }
 {
     let a = match_address(exprs, t, port.writes, address, index);
     let Emitted::Done(found, t2) = a else {
@@ -41,7 +41,7 @@ fn write_second(
     index: u32,
     old: ExprId,
 ) -> Emitted
-    ensures { WroteExprs exprs.old t (writeSecond (secondWriting second) width address index old.0) (emitted result) exprs.new }
+    ensures { WroteExprs exprs.old t (write_second (second_writing second) width address index old.0) (emitted result) exprs.new }
 {
     match second {
         Second::Absent => Emitted::Done(old, t),
@@ -61,7 +61,7 @@ pub fn ram_word(
     address: u32,
     index: u32,
 ) -> Worded
-    ensures { WroteWords signals.old exprs.old t (ramWord (writing first) (secondWriting second) owner width address index) (worded result) signals.new exprs.new }
+    ensures { WroteWords signals.old exprs.old t (ram_word (writing first) (second_writing second) owner width address index) (worded result) signals.new exprs.new }
 {
     match builder::signal(signals, t, 13, width, owner) {
         Declared::Done(signal, t2) => match builder::read(exprs, t2, width, signal, 0) {
@@ -101,7 +101,7 @@ pub fn ram_words(
     address: u32,
     depth: u32,
 ) -> Stated
-    ensures { Filled signals.old exprs.old t (ramWords (writing first) (secondWriting second) owner width address depth 0 []) (lastOf second) depth result signals.new exprs.new }
+    ensures { Filled signals.old exprs.old t (ram_words (writing first) (second_writing second) owner width address depth 0 []) (last_of second) depth result signals.new exprs.new }
 {
     let mut now = t;
     let mut i = 0;
@@ -120,7 +120,7 @@ pub fn ram_words(
 // The words' registers.
 pub fn update_words(stmts: &mut [u32], t: Tapes, words: Words, clock: SignalId, edge: u32) -> Stated
     requires { Spaced words }
-    ensures { WroteStmts stmts.old t (updateWords (words_of words) clock.0 edge) (stated result) stmts.new }
+    ensures { WroteStmts stmts.old t (update_words (words_of words) clock.0 edge) (stated result) stmts.new }
 {
     let mut signal = words.signal.0;
     let mut current = words.current.0;

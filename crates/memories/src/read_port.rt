@@ -1,12 +1,12 @@
 // A read port: the word at its address is loaded into a register.
 ghost use Rattle.std.specs.Prelude.{◌≡◌, ◌+◌, ◌≤◌, length, get_or};
-ghost use Rattle.netlist.specs.Fields.{wiresAt, ramAt};
+ghost use Rattle.netlist.specs.Fields.{wires_at, ram_at};
 ghost use Rattle.netlist.specs.FieldForms.{presence};
 ghost use Rattle.recorder.specs.Lists.{WroteExprs, emitted, stated, WroteBoth};
-ghost use Rattle.wires.specs.Wires.{wiresOf};
-ghost use Rattle.memories.specs.Memories.{enableOf, ownExpression, nextRead, emitBlockRamReadPort, emitSecondReadPort};
-ghost use Rattle.memories.specs.Rams.{ownOf, enabledOf, readEnabled, reading, second_of, words_of, Spaced, readRegister};
-ghost use Rattle.memories.specs.Steps.{secondAt};
+ghost use Rattle.wires.specs.Wires.{wires_of};
+ghost use Rattle.memories.specs.Memories.{enable_of, own_expression, next_read, emit_block_ram_read_port, emit_second_read_port};
+ghost use Rattle.memories.specs.Rams.{own_of, enabled_of, read_enabled, reading, second_of, words_of, Spaced, read_register};
+ghost use Rattle.memories.specs.Steps.{second_at};
 
 use crate::ports::first_size;
 use crate::select::{select_deep, select_word};
@@ -25,7 +25,7 @@ fn enable_of(
     constants: Constants,
     enable: OptionalControl,
 ) -> ReadEnabled
-    ensures { enableOf (wiresOf wires.now places.now) constants (presence enable) ≡ readEnabled result }
+    ensures { enable_of (wires_of wires.now places.now) constants (presence enable) ≡ read_enabled result }
 {
     match enable {
         OptionalControl::Absent => ReadEnabled::Done(Enable::Absent),
@@ -41,7 +41,7 @@ fn enable_of(
 
 // The read of a read register's own signal: it stands already, or it is recorded.
 fn own_expression(exprs: &mut [u32], t: Tapes, own: Own, width: u32, target: SignalId) -> Emitted
-    ensures { WroteExprs exprs.old t (ownExpression (ownOf own) width target.0) (emitted result) exprs.new }
+    ensures { WroteExprs exprs.old t (own_expression (own_of own) width target.0) (emitted result) exprs.new }
 {
     match own {
         Own::Unread => builder::read(exprs, t, width, target, 0),
@@ -59,7 +59,7 @@ fn next_read(
     target: SignalId,
     value: ExprId,
 ) -> Emitted
-    ensures { WroteExprs exprs.old t (nextRead (enabledOf clock_enabled) (ownOf own) width target.0 value.0) (emitted result) exprs.new }
+    ensures { WroteExprs exprs.old t (next_read (enabled_of clock_enabled) (own_of own) width target.0 value.0) (emitted result) exprs.new }
 {
     match clock_enabled {
         ClockEnabled::Absent => Emitted::Done(value, t),
@@ -85,7 +85,7 @@ fn read_register(
     output: u32,
     enable: OptionalControl,
 ) -> Stated
-    ensures { WroteBoth exprs.old stmts.old t (readRegister (wiresOf wires.now places.now) constants output (presence enable) (enabledOf clock_enabled) (ownOf own) shape.width value.0 shape.clock.0 shape.edge) (stated result) exprs.new stmts.new }
+    ensures { WroteBoth exprs.old stmts.old t (read_register (wires_of wires.now places.now) constants output (presence enable) (enabled_of clock_enabled) (own_of own) shape.width value.0 shape.clock.0 shape.edge) (stated result) exprs.new stmts.new }
 {
     match wire_ref(wires, places, output) {
         Found::At(r) => {
@@ -132,7 +132,7 @@ fn emit_block_ram_read_port(
     enable: OptionalControl,
 ) -> Stated
     requires { (made.depth ≤ length parts.old) × (made.depth ≤ length values.old) × Spaced made × (made.depth ≤ 1024) }
-    ensures { WroteBoth exprs.old stmts.old t (emitBlockRamReadPort (wiresOf wires.now places.now) constants (reading port.reads.0 output (presence enable) port.clock_enabled) (ownOf own) (words_of made) shape.width shape.address shape.clock.0 shape.edge) (stated result) exprs.new stmts.new }
+    ensures { WroteBoth exprs.old stmts.old t (emit_block_ram_read_port (wires_of wires.now places.now) constants (reading port.reads.0 output (presence enable) port.clock_enabled) (own_of own) (words_of made) shape.width shape.address shape.clock.0 shape.edge) (stated result) exprs.new stmts.new }
 {
     let reads = port.reads;
     let clock_enabled = port.clock_enabled;
@@ -182,7 +182,7 @@ fn emit_deep_ram_read_port(
     enable: OptionalControl,
 ) -> Stated
     requires { (made.depth ≤ length parts.old) × (made.depth ≤ length values.old) × Spaced made }
-    ensures { WroteBoth exprs.old stmts.old t (emitBlockRamReadPort (wiresOf wires.now places.now) constants (reading port.reads.0 output (presence enable) port.clock_enabled) (ownOf own) (words_of made) shape.width shape.address shape.clock.0 shape.edge) (stated result) exprs.new stmts.new }
+    ensures { WroteBoth exprs.old stmts.old t (emit_block_ram_read_port (wires_of wires.now places.now) constants (reading port.reads.0 output (presence enable) port.clock_enabled) (own_of own) (words_of made) shape.width shape.address shape.clock.0 shape.edge) (stated result) exprs.new stmts.new }
 {
     let reads = port.reads;
     let clock_enabled = port.clock_enabled;
@@ -216,7 +216,7 @@ fn emit_deep_ram_read_port(
 
 // The first of n wires at an offset of a record.
 fn first_wire(words: &[u32], at: usize, offset: usize, n: u32) -> u32
-    ensures { result ≡ get_or (wiresAt words.now (at + offset) n) 0 0 }
+    ensures { result ≡ get_or (wires_at words.now (at + offset) n) 0 0 }
 {
     if n == 0 {
         return 0;
@@ -242,7 +242,7 @@ pub fn first_read_port(
     at: usize,
 ) -> Stated
     requires { (made.depth ≤ length parts.old) × (made.depth ≤ length values.old) × Spaced made }
-    ensures { WroteBoth exprs.old stmts.old t (emitBlockRamReadPort (wiresOf wires.now places.now) constants (reading port.reads.0 (get_or (ramAt words.now at).output 0 0) (ramAt words.now at).readEnable port.clock_enabled) (ownOf own) (words_of made) shape.width shape.address shape.clock.0 shape.edge) (stated result) exprs.new stmts.new }
+    ensures { WroteBoth exprs.old stmts.old t (emit_block_ram_read_port (wires_of wires.now places.now) constants (reading port.reads.0 (get_or (ram_at words.now at).output 0 0) (ram_at words.now at).read_enable port.clock_enabled) (own_of own) (words_of made) shape.width shape.address shape.clock.0 shape.edge) (stated result) exprs.new stmts.new }
 {
     let width = field(words, at, 2);
     let offset = 43 + wide(width);
@@ -278,7 +278,7 @@ pub fn second_read_port(
     at: usize,
 ) -> Stated
     requires { (made.depth ≤ length parts.old) × (made.depth ≤ length values.old) × Spaced made }
-    ensures { WroteBoth exprs.old stmts.old t (emitSecondReadPort (wiresOf wires.now places.now) constants (second_of (secondAt words.now at).output (secondAt words.now at).readEnable second) (ownOf own) (words_of made) shape.width shape.address shape.clock.0 shape.edge) (stated result) exprs.new stmts.new }
+    ensures { WroteBoth exprs.old stmts.old t (emit_second_read_port (wires_of wires.now places.now) constants (second_of (second_at words.now at).output (second_at words.now at).read_enable second) (own_of own) (words_of made) shape.width shape.address shape.clock.0 shape.edge) (stated result) exprs.new stmts.new }
 {
     match second {
         Second::Absent => Stated::Done(t),

@@ -1,8 +1,8 @@
 // The word at a read port's address: the RAM's words become nodes of an address mux, in an array of the smallest size that holds them.
 ghost use Rattle.std.specs.Prelude.{◌≡◌, ◌≤◌, length};
 ghost use Rattle.recorder.specs.Lists.{WroteExprs, emitted};
-ghost use Rattle.memories.specs.Rams.{words_of, Spaced, selectWord};
-ghost use Rattle.memories.specs.Steps.{pickWord};
+ghost use Rattle.memories.specs.Rams.{words_of, Spaced, select_word};
+ghost use Rattle.memories.specs.Steps.{pick_word};
 
 use crate::Words;
 use address_mux::AddressMuxNode;
@@ -26,7 +26,7 @@ fn select_64(
     zero: ExprId,
 ) -> Emitted
     requires { (made.depth ≤ length parts.old) × (made.depth ≤ length values.old) × Spaced made × (made.depth ≤ 64) }
-    ensures { WroteExprs exprs.old t (pickWord reads.0 (words_of made) width address zero.0) (emitted result) exprs.new }
+    ensures { WroteExprs exprs.old t (pick_word reads.0 (words_of made) width address zero.0) (emitted result) exprs.new }
 {
     let mut nodes = [AddressMuxNode {
         matched: zero,
@@ -67,7 +67,7 @@ fn select_1024(
     zero: ExprId,
 ) -> Emitted
     requires { (made.depth ≤ length parts.old) × (made.depth ≤ length values.old) × Spaced made × (made.depth ≤ 1024) }
-    ensures { WroteExprs exprs.old t (pickWord reads.0 (words_of made) width address zero.0) (emitted result) exprs.new }
+    ensures { WroteExprs exprs.old t (pick_word reads.0 (words_of made) width address zero.0) (emitted result) exprs.new }
 {
     let mut nodes = [AddressMuxNode {
         matched: zero,
@@ -108,7 +108,7 @@ fn select_16384(
     zero: ExprId,
 ) -> Emitted
     requires { (made.depth ≤ length parts.old) × (made.depth ≤ length values.old) × Spaced made × (made.depth ≤ 16384) }
-    ensures { WroteExprs exprs.old t (pickWord reads.0 (words_of made) width address zero.0) (emitted result) exprs.new }
+    ensures { WroteExprs exprs.old t (pick_word reads.0 (words_of made) width address zero.0) (emitted result) exprs.new }
 {
     let mut nodes = [AddressMuxNode {
         matched: zero,
@@ -148,7 +148,7 @@ pub fn select_word(
     address: u32,
 ) -> Emitted
     requires { (made.depth ≤ length parts.old) × (made.depth ≤ length values.old) × Spaced made × (made.depth ≤ 1024) }
-    ensures { WroteExprs exprs.old t (selectWord reads.0 (words_of made) width address) (emitted result) exprs.new }
+    ensures { WroteExprs exprs.old t (select_word reads.0 (words_of made) width address) (emitted result) exprs.new }
 {
     let a = builder::constant(exprs, t, width, 0);
     let Emitted::Done(zero, t2) = a else {
@@ -172,7 +172,7 @@ pub fn select_deep(
     address: u32,
 ) -> Emitted
     requires { (made.depth ≤ length parts.old) × (made.depth ≤ length values.old) × Spaced made }
-    ensures { WroteExprs exprs.old t (selectWord reads.0 (words_of made) width address) (emitted result) exprs.new }
+    ensures { WroteExprs exprs.old t (select_word reads.0 (words_of made) width address) (emitted result) exprs.new }
 {
     let a = builder::constant(exprs, t, width, 0);
     let Emitted::Done(zero, t2) = a else {

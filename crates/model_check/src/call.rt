@@ -6,8 +6,8 @@ ghost use Rattle.recorder.specs.Lists.{lists};
 ghost use Rattle.recorder.specs.Read.{only};
 ghost use Rattle.simulation.specs.Wellformed.{or_else};
 ghost use Rattle.simulation.specs.Index.{fields_at};
-ghost use Rattle.simulation.specs.Run.{answer_of, firedOf, noBit, wrongCount, wrongFired, first_of, zeroed};
-ghost use Rattle.simulation.specs.Fault.{widthTotal, inputField, inputTotal, lengthCauses, tickCauses, bitCauses, callCauses, call_of, checkedBy};
+ghost use Rattle.simulation.specs.Run.{answer_of, fired_of, no_bit, wrong_count, wrong_fired, first_of, zeroed};
+ghost use Rattle.simulation.specs.Fault.{width_total, input_field, input_total, length_causes, tick_causes, bit_causes, call_causes, call_of, checked_by};
 
 use crate::check::malformed;
 use refusal::Refusal;
@@ -35,7 +35,7 @@ fn too_short(n: usize, buffer: &[u8]) -> Ran
 
 // The widths of all records, as far as their sum can be named.
 fn width_total(list: &[u32]) -> usize
-    ensures { result ≡ min (widthTotal list.now) 18446744073709551615 }
+    ensures { result ≡ min (width_total list.now) 18446744073709551615 }
 {
     sum_to(list, list.len())
 }
@@ -49,7 +49,7 @@ pub fn call_lengths(
     work_exprs: &[u8],
     work_signals: &[u8],
 ) -> Ran
-    ensures { answer_of result ≡ first_of (lengthCauses signals.now exprs.now bytes.now work_bits.now work_exprs.now work_signals.now) }
+    ensures { answer_of result ≡ first_of (length_causes signals.now exprs.now bytes.now work_bits.now work_exprs.now work_signals.now) }
 {
     let a = too_short(width_total(signals), bytes);
     let b = too_short(width_total(exprs), work_bits);
@@ -63,7 +63,7 @@ pub fn call_lengths(
 // The first of n bytes that is no bit.
 fn no_bit(bytes: &[u8], n: usize) -> Ran
     requires { n ≤ length bytes.now }
-    ensures { answer_of result ≡ noBit 0 (take n bytes.now) }
+    ensures { answer_of result ≡ no_bit 0 (take n bytes.now) }
 {
     let mut i: usize = 0;
     while i < n {
@@ -77,7 +77,7 @@ fn no_bit(bytes: &[u8], n: usize) -> Ran
 
 // 14 for a signal byte: the first of them, as far as there are any, that is no bit.
 pub fn byte_fault(signals: &[u32], bytes: &[u8]) -> Ran
-    ensures { answer_of result ≡ noBit 0 (take (widthTotal signals.now) bytes.now) }
+    ensures { answer_of result ≡ no_bit 0 (take (width_total signals.now) bytes.now) }
 {
     let n = width_total(signals);
     if bytes.len() < n {
@@ -87,7 +87,7 @@ pub fn byte_fault(signals: &[u32], bytes: &[u8]) -> Ran
 }
 
 fn input_width(list: &[u32], at: usize, size: usize) -> usize
-    ensures { result ≡ inputField (fields_at list.now at size) }
+    ensures { result ≡ input_field (fields_at list.now at size) }
 {
     if field(list, at, size, 0) == 0 {
         return wide(field(list, at, size, 1));
@@ -97,7 +97,7 @@ fn input_width(list: &[u32], at: usize, size: usize) -> usize
 
 // The widths of all inputs, as far as their sum can be named.
 pub fn input_total(signals: &[u32]) -> usize
-    ensures { result ≡ min (inputTotal signals.now) 18446744073709551615 }
+    ensures { result ≡ min (input_total signals.now) 18446744073709551615 }
 {
     let mut at: usize = 0;
     let mut sum: usize = 0;
@@ -113,7 +113,7 @@ pub fn input_total(signals: &[u32]) -> usize
 }
 
 fn wrong_count(n: usize, ticks: &[u8]) -> Ran
-    ensures { answer_of result ≡ wrongCount n ticks.now }
+    ensures { answer_of result ≡ wrong_count n ticks.now }
 {
     if ticks.len() == n {
         return Ran::Done;
@@ -134,7 +134,7 @@ fn wrong_edge(signals: usize, s: usize, edge: u32) -> Ran
 }
 
 fn wrong_fired(signals: usize, fired: Fired) -> Ran
-    ensures { answer_of result ≡ wrongFired signals (firedOf fired) }
+    ensures { answer_of result ≡ wrong_fired signals (fired_of fired) }
 {
     match fired {
         Fired::Nothing => Ran::Done,
@@ -144,7 +144,7 @@ fn wrong_fired(signals: usize, fired: Fired) -> Ran
 
 // 14 for one tick on a model of so many signals and input bits: a wrong count of tick bits, the first that is no bit, an edge that is none.
 pub fn tick_fault(count: usize, bits: usize, ticks: &[u8], fired: Fired) -> Ran
-    ensures { answer_of result ≡ first_of (tickCauses count bits ticks.now (firedOf fired)) }
+    ensures { answer_of result ≡ first_of (tick_causes count bits ticks.now (fired_of fired)) }
 {
     let a = wrong_count(bits, ticks);
     let b = no_bit(ticks, ticks.len());
@@ -154,8 +154,8 @@ pub fn tick_fault(count: usize, bits: usize, ticks: &[u8], fired: Fired) -> Ran
 
 // Refusal 14, for bytes that are enough.
 fn bits(signals: &[u32], bytes: &[u8], ticks: &[u8], fired: Fired) -> Ran
-    requires { widthTotal signals.now ≤ length bytes.now }
-    ensures { answer_of result ≡ first_of (bitCauses signals.now bytes.now ticks.now (firedOf fired)) }
+    requires { width_total signals.now ≤ length bytes.now }
+    ensures { answer_of result ≡ first_of (bit_causes signals.now bytes.now ticks.now (fired_of fired)) }
 {
     let s = count(signals);
     let a = byte_fault(signals, bytes);
@@ -174,7 +174,7 @@ fn call_fault(
     work_exprs: &[u8],
     work_signals: &[u8],
 ) -> Ran
-    ensures { answer_of result ≡ callCauses (call_of (lists signals.now exprs.now []) bytes.now ticks.now (firedOf fired) work_bits.now work_exprs.now work_signals.now) }
+    ensures { answer_of result ≡ call_causes (call_of (lists signals.now exprs.now []) bytes.now ticks.now (fired_of fired) work_bits.now work_exprs.now work_signals.now) }
 {
     let a = call_lengths(signals, exprs, bytes, work_bits, work_exprs, work_signals);
     let Ran::Done = a else {
@@ -198,7 +198,7 @@ pub fn check_call(
     work_signals: &mut [u8],
     widest: u32,
 ) -> Ran
-    ensures answer { answer_of result ≡ checkedBy widest (call_of (lists signals.now exprs.now stmts.now) bytes.now ticks.now (firedOf fired) work_bits.now work_exprs.now work_signals.old) }
+    ensures answer { answer_of result ≡ checked_by widest (call_of (lists signals.now exprs.now stmts.now) bytes.now ticks.now (fired_of fired) work_bits.now work_exprs.now work_signals.old) }
     ensures zeros { (signal_table.new ≡ zeroed signal_table.old) × (expr_table.new ≡ zeroed expr_table.old) × (work_signals.new ≡ zeroed work_signals.old) }
 {
     let f = malformed(

@@ -3,11 +3,11 @@ ghost use Rattle.std.specs.Prelude.{◌≡◌, Bool, true, false, ◌&&◌, ℕ,
 ghost use Rattle.std.proofs.Math.Option.{none, some};
 ghost use Rattle.bits.specs.Bits.{pick};
 ghost use Rattle.recorder.specs.Lists.{lists};
-ghost use Rattle.recorder.specs.Read.{split, readSignal, readExpr, readStmt};
-ghost use Rattle.simulation.specs.Wellformed.{drives, count_of, fits, signalFits, unsplitAll, in_range, earlier, widthSum, wide as wider, broad, suits, or_else, behind, malformed as malformedBy};
-ghost use Rattle.simulation.specs.Index.{fields_at, recordsIn, widthsIn, Listed};
+ghost use Rattle.recorder.specs.Read.{split, read_signal, read_expr, read_stmt};
+ghost use Rattle.simulation.specs.Wellformed.{drives, count_of, fits, signal_fits, unsplit_all, in_range, earlier, width_sum, wide as wider, broad, suits, or_else, behind, malformed as malformed_by};
+ghost use Rattle.simulation.specs.Index.{fields_at, records_in, widths_in, Listed};
 ghost use Rattle.simulation.specs.Run.{zeroed};
-ghost use Rattle.simulation.specs.Fault.{faultOf, stands, Tallied, signalFaultOf, allWide, constTest, readTest, concatTest, fixedTest, muxTest, eqTest, exprTest, exprFaultOf, Widths, headTest, resetTest, enableTest, regTest, stmtTest, stmtFaultOf};
+ghost use Rattle.simulation.specs.Fault.{fault_of, stands, Tallied, signal_fault_of, all_wide, const_test, read_test, concat_test, fixed_test, mux_test, eq_test, expr_test, expr_fault_of, Widths, head_test, reset_test, enable_test, reg_test, stmt_test, stmt_fault_of};
 
 use crate::widths::{fill, width};
 use simulation::Fault;
@@ -16,8 +16,8 @@ use simulation::zero::{zero_bytes, zero_words};
 
 // The first record that does not stand whole, with the signals and the expressions counted.
 fn unsplit(signals: &[u32], s: Counted, exprs: &[u32], e: Counted, stmts: &[u32]) -> Fault
-    requires { (s.count ≡ length (recordsIn signals.now)) × (s.whole ≡ (split signals.now).whole) × (e.count ≡ length (recordsIn exprs.now)) × (e.whole ≡ (split exprs.now).whole) }
-    ensures { faultOf result ≡ unsplitAll (lists signals.now exprs.now stmts.now) }
+    requires { (s.count ≡ length (records_in signals.now)) × (s.whole ≡ (split signals.now).whole) × (e.count ≡ length (records_in exprs.now)) × (e.whole ≡ (split exprs.now).whole) }
+    ensures { fault_of result ≡ unsplit_all (lists signals.now exprs.now stmts.now) }
 {
     if !s.whole {
         return Fault::At(s.count);
@@ -60,7 +60,7 @@ fn bump(table: &mut [u8], i: usize)
 
 // How many statements stand on each signal, as far as the table goes.
 fn tally(stmts: &[u32], table: &mut [u8])
-    ensures { Tallied (recordsIn stmts.now) table.new }
+    ensures { Tallied (records_in stmts.now) table.new }
 {
     zero_bytes(table);
     let mut at: usize = 0;
@@ -94,7 +94,7 @@ fn count_if(k: u8, t: usize, n: usize) -> u8
 }
 
 fn count_drivers(stmts: &[u32], n: usize) -> u8
-    ensures { result ≡ min (count_of (drives n) (recordsIn stmts.now)) 2 }
+    ensures { result ≡ min (count_of (drives n) (records_in stmts.now)) 2 }
 {
     let none = other(n);
     let mut k: u8 = 0;
@@ -112,8 +112,8 @@ fn count_drivers(stmts: &[u32], n: usize) -> u8
 
 // How many statements stand on signal n: none, one, or more, which 2 stands for.
 fn drivers(stmts: &[u32], table: &[u8], n: usize) -> u8
-    requires { Tallied (recordsIn stmts.now) table.now }
-    ensures { result ≡ min (count_of (drives n) (recordsIn stmts.now)) 2 }
+    requires { Tallied (records_in stmts.now) table.now }
+    ensures { result ≡ min (count_of (drives n) (records_in stmts.now)) 2 }
 {
     if n < table.len() {
         table[n]
@@ -125,7 +125,7 @@ fn drivers(stmts: &[u32], table: &[u8], n: usize) -> u8
 // The signal at an index, on which k statements stand.
 fn signal_fits(list: &[u32], at: usize, size: usize, k: u8, widest: u32) -> bool
     requires { at + size ≤ length list.now }
-    ensures { result ≡ fits (signalFits widest k) (readSignal (fields_at list.now at size)) }
+    ensures { result ≡ fits (signal_fits widest k) (read_signal (fields_at list.now at size)) }
 {
     if size != 4 {
         return false;
@@ -149,8 +149,8 @@ fn signal_fits(list: &[u32], at: usize, size: usize, k: u8, widest: u32) -> bool
 
 // The first faulty signal.
 fn signal_fault(signals: &[u32], stmts: &[u32], table: &[u8], widest: u32) -> Fault
-    requires { Tallied (recordsIn stmts.now) table.now }
-    ensures { faultOf result ≡ signalFaultOf widest (recordsIn signals.now) (recordsIn stmts.now) }
+    requires { Tallied (records_in stmts.now) table.now }
+    ensures { fault_of result ≡ signal_fault_of widest (records_in signals.now) (records_in stmts.now) }
 {
     let mut at: usize = 0;
     let mut n: usize = 0;
@@ -190,8 +190,8 @@ fn in_range(w: u32, widest: u32) -> bool
 
 // An operand: it comes before expression n and is w wide.
 fn operand(exprs: &[u32], table: &[u32], n: usize, a: u32, w: u32) -> bool
-    requires { Listed (widthsIn exprs.now) table.now × (n ≤ length (recordsIn exprs.now)) }
-    ensures { result ≡ wider (widthsIn exprs.now) n a w }
+    requires { Listed (widths_in exprs.now) table.now × (n ≤ length (records_in exprs.now)) }
+    ensures { result ≡ wider (widths_in exprs.now) n a w }
 {
     let i = wide(a);
     if i < n {
@@ -202,8 +202,8 @@ fn operand(exprs: &[u32], table: &[u32], n: usize, a: u32, w: u32) -> bool
 
 // All operands from the second field on.
 fn each_operand(exprs: &[u32], table: &[u32], at: usize, size: usize, n: usize, w: u32) -> bool
-    requires { Listed (widthsIn exprs.now) table.now × (n ≤ length (recordsIn exprs.now)) × (at + size ≤ length exprs.now) }
-    ensures { result ≡ allWide (widthsIn exprs.now) n w (drop 2 (fields_at exprs.now at size)) }
+    requires { Listed (widths_in exprs.now) table.now × (n ≤ length (records_in exprs.now)) × (at + size ≤ length exprs.now) }
+    ensures { result ≡ all_wide (widths_in exprs.now) n w (drop 2 (fields_at exprs.now at size)) }
 {
     if size == 0 {
         return true;
@@ -221,8 +221,8 @@ fn each_operand(exprs: &[u32], table: &[u32], at: usize, size: usize, n: usize, 
 
 // All parts come before expression n, and their widths have the sum w.
 fn parts_fit(exprs: &[u32], table: &[u32], at: usize, size: usize, n: usize, w: u32) -> bool
-    requires { Listed (widthsIn exprs.now) table.now × (n ≤ length (recordsIn exprs.now)) × (at + size ≤ length exprs.now) }
-    ensures { result ≡ (earlier n (drop 2 (fields_at exprs.now at size)) && eqb (widthSum (widthsIn exprs.now) (drop 2 (fields_at exprs.now at size))) w) }
+    requires { Listed (widths_in exprs.now) table.now × (n ≤ length (records_in exprs.now)) × (at + size ≤ length exprs.now) }
+    ensures { result ≡ (earlier n (drop 2 (fields_at exprs.now at size)) && eqb (width_sum (widths_in exprs.now) (drop 2 (fields_at exprs.now at size))) w) }
 {
     let total = wide(w);
     if size == 0 {
@@ -247,7 +247,7 @@ fn parts_fit(exprs: &[u32], table: &[u32], at: usize, size: usize, n: usize, w: 
 
 fn const_fits(exprs: &[u32], at: usize, size: usize, widest: u32) -> bool
     requires { at + size ≤ length exprs.now }
-    ensures { result ≡ constTest widest (fields_at exprs.now at size) }
+    ensures { result ≡ const_test widest (fields_at exprs.now at size) }
 {
     if size != 4 {
         return false;
@@ -268,8 +268,8 @@ fn read_fits(
     count: usize,
     widest: u32,
 ) -> bool
-    requires { (at + size ≤ length exprs.now) × Listed (widthsIn signals.now) table.now × (count ≡ length (recordsIn signals.now)) }
-    ensures { result ≡ readTest widest (widthsIn signals.now) (fields_at exprs.now at size) }
+    requires { (at + size ≤ length exprs.now) × Listed (widths_in signals.now) table.now × (count ≡ length (records_in signals.now)) }
+    ensures { result ≡ read_test widest (widths_in signals.now) (fields_at exprs.now at size) }
 {
     if size != 5 {
         return false;
@@ -287,8 +287,8 @@ fn read_fits(
 }
 
 fn concat_fits(exprs: &[u32], table: &[u32], at: usize, size: usize, n: usize, widest: u32) -> bool
-    requires { Listed (widthsIn exprs.now) table.now × (n ≤ length (recordsIn exprs.now)) × (at + size ≤ length exprs.now) }
-    ensures { result ≡ concatTest widest (widthsIn exprs.now) n (fields_at exprs.now at size) }
+    requires { Listed (widths_in exprs.now) table.now × (n ≤ length (records_in exprs.now)) × (at + size ≤ length exprs.now) }
+    ensures { result ≡ concat_test widest (widths_in exprs.now) n (fields_at exprs.now at size) }
 {
     if size < 3 {
         return false;
@@ -310,8 +310,8 @@ fn fixed_fits(
     fields: usize,
     w: u32,
 ) -> bool
-    requires { Listed (widthsIn exprs.now) table.now × (n ≤ length (recordsIn exprs.now)) × (at + size ≤ length exprs.now) × (0 < size) }
-    ensures { result ≡ fixedTest (widthsIn exprs.now) n fields w (fields_at exprs.now at size) }
+    requires { Listed (widths_in exprs.now) table.now × (n ≤ length (records_in exprs.now)) × (at + size ≤ length exprs.now) × (0 < size) }
+    ensures { result ≡ fixed_test (widths_in exprs.now) n fields w (fields_at exprs.now at size) }
 {
     if size - 1 != fields {
         return false;
@@ -323,8 +323,8 @@ fn fixed_fits(
 }
 
 fn mux_fits(exprs: &[u32], table: &[u32], at: usize, size: usize, n: usize, widest: u32) -> bool
-    requires { Listed (widthsIn exprs.now) table.now × (n ≤ length (recordsIn exprs.now)) × (at + size ≤ length exprs.now) }
-    ensures { result ≡ muxTest widest (widthsIn exprs.now) n (fields_at exprs.now at size) }
+    requires { Listed (widths_in exprs.now) table.now × (n ≤ length (records_in exprs.now)) × (at + size ≤ length exprs.now) }
+    ensures { result ≡ mux_test widest (widths_in exprs.now) n (fields_at exprs.now at size) }
 {
     if size != 6 {
         return false;
@@ -343,8 +343,8 @@ fn mux_fits(exprs: &[u32], table: &[u32], at: usize, size: usize, n: usize, wide
 }
 
 fn eq_fits(exprs: &[u32], table: &[u32], at: usize, size: usize, n: usize) -> bool
-    requires { Listed (widthsIn exprs.now) table.now × (n ≤ length (recordsIn exprs.now)) × (at + size ≤ length exprs.now) }
-    ensures { result ≡ eqTest (widthsIn exprs.now) n (fields_at exprs.now at size) }
+    requires { Listed (widths_in exprs.now) table.now × (n ≤ length (records_in exprs.now)) × (at + size ≤ length exprs.now) }
+    ensures { result ≡ eq_test (widths_in exprs.now) n (fields_at exprs.now at size) }
 {
     if size != 5 {
         return false;
@@ -377,8 +377,8 @@ fn expr_fits(
     count: usize,
     widest: u32,
 ) -> bool
-    requires { Listed (widthsIn exprs.now) table.now × (n ≤ length (recordsIn exprs.now)) × (at + size ≤ length exprs.now) × (0 < size) × Listed (widthsIn signals.now) signal_table.now × (count ≡ length (recordsIn signals.now)) }
-    ensures { result ≡ exprTest widest (widthsIn signals.now) (widthsIn exprs.now) n (fields_at exprs.now at size) }
+    requires { Listed (widths_in exprs.now) table.now × (n ≤ length (records_in exprs.now)) × (at + size ≤ length exprs.now) × (0 < size) × Listed (widths_in signals.now) signal_table.now × (count ≡ length (records_in signals.now)) }
+    ensures { result ≡ expr_test widest (widths_in signals.now) (widths_in exprs.now) n (fields_at exprs.now at size) }
 {
     match field(exprs, at, size, 0) {
         0 => const_fits(exprs, at, size, widest),
@@ -404,8 +404,8 @@ fn expr_fault(
     count: usize,
     widest: u32,
 ) -> Fault
-    requires { Listed (widthsIn exprs.now) table.now × Listed (widthsIn signals.now) signal_table.now × (count ≡ length (recordsIn signals.now)) }
-    ensures { faultOf result ≡ exprFaultOf widest (recordsIn signals.now) (recordsIn exprs.now) }
+    requires { Listed (widths_in exprs.now) table.now × Listed (widths_in signals.now) signal_table.now × (count ≡ length (records_in signals.now)) }
+    ensures { fault_of result ≡ expr_fault_of widest (records_in signals.now) (records_in exprs.now) }
 {
     let mut at: usize = 0;
     let mut n: usize = 0;
@@ -435,8 +435,8 @@ fn expr_fault(
 
 // Signal s is there and has one bit.
 fn control(signals: &[u32], table: &[u32], count: usize, s: u32) -> bool
-    requires { Listed (widthsIn signals.now) table.now × (count ≡ length (recordsIn signals.now)) }
-    ensures { result ≡ broad (widthsIn signals.now) s 1 }
+    requires { Listed (widths_in signals.now) table.now × (count ≡ length (records_in signals.now)) }
+    ensures { result ≡ broad (widths_in signals.now) s 1 }
 {
     let i = wide(s);
     if i < count {
@@ -457,7 +457,7 @@ fn suited(
     e: u32,
 ) -> bool
     requires { Widths signals.now signal_table.now count exprs.now table.now n }
-    ensures { result ≡ suits (widthsIn signals.now) (widthsIn exprs.now) t e }
+    ensures { result ≡ suits (widths_in signals.now) (widths_in exprs.now) t e }
 {
     let i = wide(t);
     if i < count {
@@ -476,8 +476,8 @@ fn enable_fits(
     signal_table: &[u32],
     count: usize,
 ) -> bool
-    requires { (at + size ≤ length stmts.now) × (from < 100) × Listed (widthsIn signals.now) signal_table.now × (count ≡ length (recordsIn signals.now)) }
-    ensures { result ≡ enableTest (widthsIn signals.now) (drop from (fields_at stmts.now at size)) }
+    requires { (at + size ≤ length stmts.now) × (from < 100) × Listed (widths_in signals.now) signal_table.now × (count ≡ length (records_in signals.now)) }
+    ensures { result ≡ enable_test (widths_in signals.now) (drop from (fields_at stmts.now at size)) }
 {
     if size <= from + 1 {
         return false;
@@ -517,7 +517,7 @@ fn head_fits(
     n: usize,
 ) -> bool
     requires { Widths signals.now signal_table.now count exprs.now table.now n }
-    ensures { result ≡ headTest (widthsIn signals.now) (widthsIn exprs.now) (fields_at stmts.now at size) }
+    ensures { result ≡ head_test (widths_in signals.now) (widths_in exprs.now) (fields_at stmts.now at size) }
 {
     if !suited(
         signals,
@@ -550,7 +550,7 @@ fn reset_fits(
     n: usize,
 ) -> bool
     requires { Widths signals.now signal_table.now count exprs.now table.now n }
-    ensures { result ≡ resetTest (widthsIn signals.now) (widthsIn exprs.now) (fields_at stmts.now at size) }
+    ensures { result ≡ reset_test (widths_in signals.now) (widths_in exprs.now) (fields_at stmts.now at size) }
 {
     if !control(signals, signal_table, count, field(stmts, at, size, 6)) {
         return false;
@@ -583,7 +583,7 @@ fn reg_fits(
     n: usize,
 ) -> bool
     requires { (at + size ≤ length stmts.now) × Widths signals.now signal_table.now count exprs.now table.now n }
-    ensures { result ≡ regTest (widthsIn signals.now) (widthsIn exprs.now) (fields_at stmts.now at size) }
+    ensures { result ≡ reg_test (widths_in signals.now) (widths_in exprs.now) (fields_at stmts.now at size) }
 {
     if size < 8 {
         return false;
@@ -640,7 +640,7 @@ fn stmt_fits(
     n: usize,
 ) -> bool
     requires { (at + size ≤ length stmts.now) × Widths signals.now signal_table.now count exprs.now table.now n × (0 < size) }
-    ensures { result ≡ stmtTest (widthsIn signals.now) (widthsIn exprs.now) (fields_at stmts.now at size) }
+    ensures { result ≡ stmt_test (widths_in signals.now) (widths_in exprs.now) (fields_at stmts.now at size) }
 {
     let kind = field(stmts, at, size, 0);
     if kind == 1 {
@@ -685,7 +685,7 @@ fn stmt_fault(
     n: usize,
 ) -> Fault
     requires { Widths signals.now signal_table.now count exprs.now table.now n }
-    ensures { faultOf result ≡ stmtFaultOf (recordsIn signals.now) (recordsIn exprs.now) (recordsIn stmts.now) }
+    ensures { fault_of result ≡ stmt_fault_of (records_in signals.now) (records_in exprs.now) (records_in stmts.now) }
 {
     let mut at: usize = 0;
     let mut k: usize = 0;
@@ -715,8 +715,8 @@ fn stmt_fault(
 
 // The first fault, or else the second, behind k records.
 fn first(a: Fault, k: usize, b: Fault) -> Fault
-    requires { (n : ℕ) → faultOf b ≡ some n → k + n < 18446744073709551616 }
-    ensures { faultOf result ≡ or_else (faultOf a) (behind k (faultOf b)) }
+    requires { (n : ℕ) → fault_of b ≡ some n → k + n < 18446744073709551616 }
+    ensures { fault_of result ≡ or_else (fault_of a) (behind k (fault_of b)) }
 {
     match a {
         Fault::At(n) => Fault::At(n),
@@ -737,8 +737,8 @@ fn first_fault(
     bytes: &[u8],
     widest: u32,
 ) -> Fault
-    requires { Listed (widthsIn signals.now) signal_table.now × Listed (widthsIn exprs.now) expr_table.now × Tallied (recordsIn stmts.now) bytes.now }
-    ensures { faultOf result ≡ malformedBy widest (lists signals.now exprs.now stmts.now) }
+    requires { Listed (widths_in signals.now) signal_table.now × Listed (widths_in exprs.now) expr_table.now × Tallied (records_in stmts.now) bytes.now }
+    ensures { fault_of result ≡ malformed_by widest (lists signals.now exprs.now stmts.now) }
 {
     let signals_counted = count(signals);
     let s = signals_counted.count;
@@ -762,7 +762,7 @@ pub fn malformed(
     bytes: &mut [u8],
     widest: u32,
 ) -> Fault
-    ensures fault { faultOf result ≡ malformedBy widest (lists signals.now exprs.now stmts.now) }
+    ensures fault { fault_of result ≡ malformed_by widest (lists signals.now exprs.now stmts.now) }
     ensures zeros { (signal_table.new ≡ zeroed signal_table.old) × (expr_table.new ≡ zeroed expr_table.old) × (bytes.new ≡ zeroed bytes.old) }
 {
     fill(signals, signal_table);

@@ -1,12 +1,12 @@
 // The widths of a list's records. A table holds the first; for the others the list is walked.
 ghost use Rattle.std.specs.Prelude.{◌≡◌, ◌<◌, length, get_or};
-ghost use Rattle.simulation.specs.Index.{recordsIn, widthsIn, widthTable, Listed};
+ghost use Rattle.simulation.specs.Index.{records_in, widths_in, width_table, Listed};
 
 use simulation::index::{field, size};
 
 // The width of record i, 0 if there is none.
 fn walk_to(list: &[u32], i: usize) -> u32
-    ensures { result ≡ get_or (widthsIn list.now) i 0 }
+    ensures { result ≡ get_or (widths_in list.now) i 0 }
 {
     let mut at: usize = 0;
     let mut k: usize = 0;
@@ -26,8 +26,8 @@ fn walk_to(list: &[u32], i: usize) -> u32
 
 // The width of record i, from the table or else from the list.
 pub fn width(list: &[u32], table: &[u32], i: usize) -> u32
-    requires { Listed (widthsIn list.now) table.now × (i < length (recordsIn list.now)) }
-    ensures { result ≡ get_or (widthsIn list.now) i 0 }
+    requires { Listed (widths_in list.now) table.now × (i < length (records_in list.now)) }
+    ensures { result ≡ get_or (widths_in list.now) i 0 }
 {
     if i < table.len() {
         table[i]
@@ -38,7 +38,7 @@ pub fn width(list: &[u32], table: &[u32], i: usize) -> u32
 
 // Fills the table with the first widths.
 pub fn fill(list: &[u32], table: &mut [u32])
-    ensures { table.new ≡ widthTable list.now table.old }
+    ensures { table.new ≡ width_table list.now table.old }
 {
     let mut at: usize = 0;
     let mut k: usize = 0;

@@ -4,8 +4,8 @@ use Rattle.std.proofs.Math.Option.{none, some}
 use Rattle.netlist.specs.ReaderChecks.{reading, Row}
 
 -- a block RAM alone, of this depth and physical width, one bit wide, with one port; its read wire is 7
-abbrev pub ramOf : ℕ → ℕ → List ℕ
-ramOf depth physical =
+abbrev pub ram_of : ℕ → ℕ → List ℕ
+ram_of depth physical =
     6 ∷ depth ∷ 1 ∷ physical ∷
     -- write address; write control; read address
     0 ∷ 0 ∷ 0 ∷ 0 ∷ 0 ∷ 0 ∷ 0 ∷ 0 ∷ 0 ∷ 0 ∷ 0 ∷ 0 ∷ 0 ∷ 0 ∷
@@ -17,23 +17,23 @@ ramOf depth physical =
     0 ∷ 0 ∷ 0 ∷ 1 ∷ []
 
 -- a LUT4 alone, with this output wire
-abbrev pub lutTo : ℕ → List ℕ
-lutTo wire = 0 ∷ 0 ∷ 0 ∷ 0 ∷ 0 ∷ wire ∷ 0 ∷ 0 ∷ 0 ∷ 0 ∷ 1 ∷ []
+abbrev pub lut_to : ℕ → List ℕ
+lut_to wire = 0 ∷ 0 ∷ 0 ∷ 0 ∷ 0 ∷ wire ∷ 0 ∷ 0 ∷ 0 ∷ 0 ∷ 1 ∷ []
 
 abbrev pub cases : List Row
 cases =
     -- no ports, no cells
     record { words = 0 ∷ 0 ∷ 0 ∷ 0 ∷ []; refused = none } ∷
     -- depth 0; depth 1
-    record { words = ramOf 0 1; refused = some (5, 1) } ∷
-    record { words = ramOf 1 1; refused = none } ∷
+    record { words = ram_of 0 1; refused = some (5, 1) } ∷
+    record { words = ram_of 1 1; refused = none } ∷
     -- physical 18: depth 1,024 and 1,025; the fault is the physical width's
-    record { words = ramOf 1024 18; refused = none } ∷
-    record { words = ramOf 1025 18; refused = some (5, 3) } ∷
+    record { words = ram_of 1024 18; refused = none } ∷
+    record { words = ram_of 1025 18; refused = some (5, 3) } ∷
     -- wire 16,383 and 16,384
-    record { words = lutTo 16383; refused = none } ∷
-    record { words = lutTo 16384; refused = some (5, 5) } ∷
+    record { words = lut_to 16383; refused = none } ∷
+    record { words = lut_to 16384; refused = some (5, 5) } ∷
     []
 
-pub cases-hold : map (λ (r : Row). reading r.words) cases ≡ map (λ (r : Row). r.refused) cases
-cases-hold = refl
+pub cases_hold : map (λ (r : Row). reading r.words) cases ≡ map (λ (r : Row). r.refused) cases
+cases_hold = refl

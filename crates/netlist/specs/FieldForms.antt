@@ -10,10 +10,10 @@ abbrev pub presence : oc.OptionalControl → Option Control
 presence oc.TheVariants.Absent = none
 presence (oc.TheVariants.Present c) = some c
 
-abbrev pub resetPresence : orr.OptionalReset → Option Reset
-resetPresence orr.TheVariants.Absent = none
-resetPresence (orr.TheVariants.Present r) = some r
+abbrev pub reset_presence : orr.OptionalReset → Option Reset
+reset_presence orr.TheVariants.Absent = none
+reset_presence (orr.TheVariants.Present r) = some r
 
-abbrev pub shiftGiven : sh.Shift → Option ℕ
-shiftGiven sh.TheVariants.NotAllowed = none
-shiftGiven (sh.TheVariants.By n) = some n
+abbrev pub shift_given : sh.Shift → Option ℕ
+shift_given sh.TheVariants.NotAllowed = none
+shift_given (sh.TheVariants.By n) = some n

@@ -4,7 +4,7 @@ use Rattle.std.specs.Prelude.{◌≡◌, refl, List, [], ◌∷◌, map, ℕ}
 use Rattle.std.proofs.Math.Option.{Option, none, some}
 use Rattle.netlist.specs.declared.Bit.TheVariants.{Zero, Wire}
 use Rattle.netlist.specs.Netlist.{lut4}
-use Rattle.netlist.specs.Reader.{Read, netlist, refused, readWords, base, addressWidth}
+use Rattle.netlist.specs.Reader.{Read, netlist, refused, read_words, base, address_width}
 
 -- a refusal's number and place
 abbrev pub refusal : Read → Option (ℕ × ℕ)
@@ -12,17 +12,17 @@ refusal (netlist n) = none
 refusal (refused k p) = some (k, p)
 
 abbrev pub reading : List ℕ → Option (ℕ × ℕ)
-reading words = refusal (readWords base words)
+reading words = refusal (read_words base words)
 
 -- document 01's netlist
-worked-example : readWords base (0 ∷ 2 ∷ 2 ∷ 3 ∷ 1 ∷ 1 ∷ 4 ∷ 0 ∷ 2 ∷ 3 ∷ 0 ∷ 0 ∷ 2 ∷ 8 ∷ 0 ∷ 2 ∷ 7 ∷ 1 ∷ []) ≡ netlist (record {
+worked_example : read_words base (0 ∷ 2 ∷ 2 ∷ 3 ∷ 1 ∷ 1 ∷ 4 ∷ 0 ∷ 2 ∷ 3 ∷ 0 ∷ 0 ∷ 2 ∷ 8 ∷ 0 ∷ 2 ∷ 7 ∷ 1 ∷ []) ≡ netlist (record {
   ports = record { direction = 0; bits = Wire 0 ∷ Wire 1 ∷ [] } ∷ record { direction = 1; bits = Wire 2 ∷ [] } ∷ [];
   cells = lut4 (Wire 0 ∷ Wire 1 ∷ Zero ∷ Zero ∷ []) 2 8 ∷ [];
 })
-worked-example = refl
+worked_example = refl
 
 -- address width by depth
-widths : map addressWidth (1 ∷ 2 ∷ 3 ∷ 4 ∷ 5 ∷ 1024 ∷ 1025 ∷ 16384 ∷ []) ≡ (1 ∷ 1 ∷ 2 ∷ 2 ∷ 3 ∷ 10 ∷ 11 ∷ 14 ∷ [])
+widths : map address_width (1 ∷ 2 ∷ 3 ∷ 4 ∷ 5 ∷ 1024 ∷ 1025 ∷ 16384 ∷ []) ≡ (1 ∷ 1 ∷ 2 ∷ 2 ∷ 3 ∷ 10 ∷ 11 ∷ 14 ∷ [])
 widths = refl
 
 -- words, and the refusal's number and place, or none
@@ -144,5 +144,5 @@ rows =
     record { words = 0 ∷ 1 ∷ 2 ∷ 10 ∷ 2 ∷ 1 ∷ 2 ∷ 3 ∷ 2 ∷ 1 ∷ 2 ∷ 0 ∷ 1 ∷ 3 ∷ 1 ∷ []; refused = none } ∷
     []
 
-pub rows-hold : map (λ (r : Row). reading r.words) rows ≡ map (λ (r : Row). r.refused) rows
-rows-hold = refl
+pub rows_hold : map (λ (r : Row). reading r.words) rows ≡ map (λ (r : Row). r.refused) rows
+rows_hold = refl

@@ -2,8 +2,8 @@
 // Nothing is checked here: what the words of an unchecked netlist say is read all the same, and past the last word all is 0.
 ghost use Rattle.std.specs.Prelude.{◌≡◌, [], ◌∷◌, ◌+◌, min, length};
 ghost use Rattle.netlist.specs.Netlist.{bit_of};
-ghost use Rattle.netlist.specs.Fields.{word_at, bit_at, bits_at, controlAt, optionalControlAt, optionalResetAt, blockRamSize, cellSize, cellEnd, portEnd};
-ghost use Rattle.netlist.specs.FieldForms.{presence, resetPresence};
+ghost use Rattle.netlist.specs.Fields.{word_at, bit_at, bits_at, control_at, optional_control_at, optional_reset_at, block_ram_size, cell_size, cell_end, port_end};
+ghost use Rattle.netlist.specs.FieldForms.{presence, reset_presence};
 
 use super::{Bit, Control, Reset};
 
@@ -94,7 +94,7 @@ pub fn ccu2c_inputs(words: &[u32], at: usize) -> [[Bit; 4]; 2]
 }
 
 pub fn control(words: &[u32], at: usize, offset: usize) -> Control
-    ensures { result ≡ controlAt words.now (at + offset) }
+    ensures { result ≡ control_at words.now (at + offset) }
 {
     let i = ahead(words, at, offset);
     let s = bit_at(words, i, 0);
@@ -113,7 +113,7 @@ pub enum OptionalControl {
 }
 
 pub fn optional_control(words: &[u32], at: usize, offset: usize) -> OptionalControl
-    ensures { presence result ≡ optionalControlAt words.now (at + offset) }
+    ensures { presence result ≡ optional_control_at words.now (at + offset) }
 {
     let i = ahead(words, at, offset);
     if field(words, i, 0) == 0 {
@@ -130,7 +130,7 @@ pub enum OptionalReset {
 }
 
 pub fn optional_reset(words: &[u32], at: usize, offset: usize) -> OptionalReset
-    ensures { resetPresence result ≡ optionalResetAt words.now (at + offset) }
+    ensures { reset_presence result ≡ optional_reset_at words.now (at + offset) }
 {
     let i = ahead(words, at, offset);
     if field(words, i, 0) == 0 {
@@ -150,13 +150,13 @@ pub fn optional_reset(words: &[u32], at: usize, offset: usize) -> OptionalReset
 
 // The index after a port, or the number of words if that is past them.
 pub fn port_end(words: &[u32], at: usize) -> usize
-    ensures { result ≡ min (portEnd words.now at) (length words.now) }
+    ensures { result ≡ min (port_end words.now at) (length words.now) }
 {
     ahead(words, at, 2 + wide(field(words, at, 1)))
 }
 
 fn block_ram_size(words: &[u32], at: usize) -> usize
-    ensures { result ≡ blockRamSize words.now at }
+    ensures { result ≡ block_ram_size words.now at }
 {
     let width = wide(field(words, at, 2));
     let first = 43 + width + width;
@@ -168,7 +168,7 @@ fn block_ram_size(words: &[u32], at: usize) -> usize
 
 // How many words a cell has.
 pub fn cell_size(words: &[u32], at: usize) -> usize
-    ensures { result ≡ cellSize words.now at }
+    ensures { result ≡ cell_size words.now at }
 {
     match field(words, at, 0) {
         0 => 7,
@@ -187,7 +187,7 @@ pub fn cell_size(words: &[u32], at: usize) -> usize
 
 // The index after a cell, or the number of words if that is past them.
 pub fn cell_end(words: &[u32], at: usize) -> usize
-    ensures { result ≡ min (cellEnd words.now at) (length words.now) }
+    ensures { result ≡ min (cell_end words.now at) (length words.now) }
 {
     ahead(words, at, cell_size(words, at))
 }

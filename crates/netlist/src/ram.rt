@@ -1,7 +1,7 @@
 // A block RAM's shape.
 ghost use Rattle.std.specs.Prelude.{◌≡◌, ◌+◌};
-ghost use Rattle.netlist.specs.Reader.{addressWidth, shift_of, shiftFits};
-ghost use Rattle.netlist.specs.FieldForms.{shiftGiven};
+ghost use Rattle.netlist.specs.Reader.{address_width, shift_of, shift_fits};
+ghost use Rattle.netlist.specs.FieldForms.{shift_given};
 
 use super::fields::wide;
 
@@ -14,7 +14,7 @@ pub enum Shift {
 
 // The address shift of a physical width.
 pub fn address_shift(physical: u32) -> Shift
-    ensures { shiftGiven result ≡ shift_of physical }
+    ensures { shift_given result ≡ shift_of physical }
 {
     match physical {
         1 => Shift::By(0),
@@ -28,7 +28,7 @@ pub fn address_shift(physical: u32) -> Shift
 
 // How many bits number the words, one at least.
 pub fn address_width(depth: u32) -> u32
-    ensures { result ≡ addressWidth depth }
+    ensures { result ≡ address_width depth }
 {
     let n = wide(depth);
     let mut width: u32 = 1;
@@ -41,7 +41,7 @@ pub fn address_width(depth: u32) -> u32
 }
 
 pub fn shift_fits(depth: u32, physical: u32) -> bool
-    ensures { result ≡ shiftFits depth (shift_of physical) }
+    ensures { result ≡ shift_fits depth (shift_of physical) }
 {
     let s = address_shift(physical);
     let Shift::By(n) = s else {

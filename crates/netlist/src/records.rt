@@ -1,8 +1,8 @@
 // The fields of a cell by kind, but for its vectors, which start at fixed offsets: fields.rt reads those.
 // `at` is the index of the kind; that the kind fits is the caller's to know.
 ghost use Rattle.std.specs.Prelude.{◌≡◌, ◌+◌, min, length};
-ghost use Rattle.netlist.specs.Fields.{word_at, firstSize, pfumxAt, l6mux21At, ccu2cAt, ioAt};
-ghost use Rattle.netlist.specs.Records.{pfumxOf, l6mux21Of, ccu2cWith, ioOf};
+ghost use Rattle.netlist.specs.Fields.{word_at, first_size, pfumx_at, l6mux21_at, ccu2c_at, io_at};
+ghost use Rattle.netlist.specs.Records.{pfumx_of, l6mux21_of, ccu2c_with, io_of};
 
 use super::Bit;
 use super::fields::{ahead, bit_at, field, wide};
@@ -17,7 +17,7 @@ pub struct Pfumx {
 }
 
 pub fn pfumx_at(words: &[u32], at: usize) -> Pfumx
-    ensures { pfumxOf result ≡ pfumxAt words.now at }
+    ensures { pfumx_of result ≡ pfumx_at words.now at }
 {
     let lut_true = bit_at(words, at, 1);
     let lut_false = bit_at(words, at, 2);
@@ -41,7 +41,7 @@ pub struct L6mux21 {
 }
 
 pub fn l6mux21_at(words: &[u32], at: usize) -> L6mux21
-    ensures { l6mux21Of result ≡ l6mux21At words.now at }
+    ensures { l6mux21_of result ≡ l6mux21_at words.now at }
 {
     let data_zero = bit_at(words, at, 1);
     let data_one = bit_at(words, at, 2);
@@ -70,7 +70,7 @@ pub struct Ccu2c {
 }
 
 pub fn ccu2c_at(words: &[u32], at: usize) -> Ccu2c
-    ensures { ccu2cWith words.now at result ≡ ccu2cAt words.now at }
+    ensures { ccu2c_with words.now at result ≡ ccu2c_at words.now at }
 {
     let carry_in = bit_at(words, at, 9);
     let sum0 = field(words, at, 10);
@@ -94,7 +94,7 @@ pub fn ccu2c_at(words: &[u32], at: usize) -> Ccu2c
 
 // Where the second port of the block RAM at an index begins, or the number of words if that is past them.
 pub fn second_start(words: &[u32], at: usize) -> usize
-    ensures { result ≡ min (at + firstSize words.now (word_at words.now (at + 2))) (length words.now) }
+    ensures { result ≡ min (at + first_size words.now (word_at words.now (at + 2))) (length words.now) }
 {
     let width = wide(field(words, at, 2));
     ahead(words, at, 43 + width + width)
@@ -110,7 +110,7 @@ pub struct Io {
 }
 
 pub fn io_at(words: &[u32], at: usize) -> Io
-    ensures { ioOf result ≡ ioAt words.now at }
+    ensures { io_of result ≡ io_at words.now at }
 {
     let pad = field(words, at, 1);
     let fabric_output = bit_at(words, at, 2);

@@ -7,7 +7,7 @@ ghost use Rattle.std.specs.Prelude.{◌≡◌, ◌≤◌, take};
 ghost use Rattle.recorder.specs.Lists.{WroteExprs, emitted};
 ghost use Rattle.recorder.specs.Words.{zeroed};
 ghost use Rattle.address_mux.specs.Address.{at_most};
-ghost use Rattle.nodes.specs.Nodes.{muxOfNodes, toCopy};
+ghost use Rattle.nodes.specs.Nodes.{mux_of_nodes, to_copy};
 
 use address_mux::{AddressMuxNode, balanced_address_mux};
 use recorder::words::zero_words;
@@ -16,7 +16,7 @@ use refusal::Refusal;
 
 // How many of n nodes are copied: all, if both slices have room for them, or none.
 fn to_copy(n: usize, a: usize, b: usize) -> usize
-    ensures { result ≡ toCopy n a b }
+    ensures { result ≡ to_copy n a b }
 {
     if a < n {
         return 0;
@@ -37,7 +37,7 @@ pub fn balanced_address_mux_of_nodes(
     width: u32,
     zero: ExprId,
 ) -> Emitted
-    ensures { WroteExprs exprs.old t (muxOfNodes parts.old values.old width nodes.now zero.0) (emitted result) exprs.new × ((parts.new ≡ zeroed parts.old) × (values.new ≡ zeroed values.old)) }
+    ensures { WroteExprs exprs.old t (mux_of_nodes parts.old values.old width nodes.now zero.0) (emitted result) exprs.new × ((parts.new ≡ zeroed parts.old) × (values.new ≡ zeroed values.old)) }
 {
     let n = nodes.len();
     let m = to_copy(n, parts.len(), values.len());
@@ -62,7 +62,7 @@ fn lend_64(
     zero: ExprId,
 ) -> Emitted
     requires { n ≤ 64 }
-    ensures { WroteExprs exprs.old t (muxOfNodes parts.old values.old width (take n nodes) zero.0) (emitted result) exprs.new × ((parts.new ≡ zeroed parts.old) × (values.new ≡ zeroed values.old)) }
+    ensures { WroteExprs exprs.old t (mux_of_nodes parts.old values.old width (take n nodes) zero.0) (emitted result) exprs.new × ((parts.new ≡ zeroed parts.old) × (values.new ≡ zeroed values.old)) }
 {
     balanced_address_mux_of_nodes(exprs, &nodes[..n], parts, values, t, width, zero)
 }
@@ -78,7 +78,7 @@ pub fn balanced_address_mux_of_64(
     width: u32,
     zero: ExprId,
 ) -> Emitted
-    ensures { WroteExprs exprs.old t (at_most 64 n (muxOfNodes parts.old values.old width (take n nodes) zero.0)) (emitted result) exprs.new × ((parts.new ≡ zeroed parts.old) × (values.new ≡ zeroed values.old)) }
+    ensures { WroteExprs exprs.old t (at_most 64 n (mux_of_nodes parts.old values.old width (take n nodes) zero.0)) (emitted result) exprs.new × ((parts.new ≡ zeroed parts.old) × (values.new ≡ zeroed values.old)) }
 {
     if n > 64 {
         zero_words(parts);
@@ -99,7 +99,7 @@ fn lend_1024(
     zero: ExprId,
 ) -> Emitted
     requires { n ≤ 1024 }
-    ensures { WroteExprs exprs.old t (muxOfNodes parts.old values.old width (take n nodes) zero.0) (emitted result) exprs.new × ((parts.new ≡ zeroed parts.old) × (values.new ≡ zeroed values.old)) }
+    ensures { WroteExprs exprs.old t (mux_of_nodes parts.old values.old width (take n nodes) zero.0) (emitted result) exprs.new × ((parts.new ≡ zeroed parts.old) × (values.new ≡ zeroed values.old)) }
 {
     balanced_address_mux_of_nodes(exprs, &nodes[..n], parts, values, t, width, zero)
 }
@@ -115,7 +115,7 @@ pub fn balanced_address_mux_of_1024(
     width: u32,
     zero: ExprId,
 ) -> Emitted
-    ensures { WroteExprs exprs.old t (at_most 1024 n (muxOfNodes parts.old values.old width (take n nodes) zero.0)) (emitted result) exprs.new × ((parts.new ≡ zeroed parts.old) × (values.new ≡ zeroed values.old)) }
+    ensures { WroteExprs exprs.old t (at_most 1024 n (mux_of_nodes parts.old values.old width (take n nodes) zero.0)) (emitted result) exprs.new × ((parts.new ≡ zeroed parts.old) × (values.new ≡ zeroed values.old)) }
 {
     if n > 1024 {
         zero_words(parts);
@@ -136,7 +136,7 @@ fn lend_16384(
     zero: ExprId,
 ) -> Emitted
     requires { n ≤ 16384 }
-    ensures { WroteExprs exprs.old t (muxOfNodes parts.old values.old width (take n nodes) zero.0) (emitted result) exprs.new × ((parts.new ≡ zeroed parts.old) × (values.new ≡ zeroed values.old)) }
+    ensures { WroteExprs exprs.old t (mux_of_nodes parts.old values.old width (take n nodes) zero.0) (emitted result) exprs.new × ((parts.new ≡ zeroed parts.old) × (values.new ≡ zeroed values.old)) }
 {
     balanced_address_mux_of_nodes(exprs, &nodes[..n], parts, values, t, width, zero)
 }
@@ -152,7 +152,7 @@ pub fn balanced_address_mux_of_16384(
     width: u32,
     zero: ExprId,
 ) -> Emitted
-    ensures { WroteExprs exprs.old t (at_most 16384 n (muxOfNodes parts.old values.old width (take n nodes) zero.0)) (emitted result) exprs.new × ((parts.new ≡ zeroed parts.old) × (values.new ≡ zeroed values.old)) }
+    ensures { WroteExprs exprs.old t (at_most 16384 n (mux_of_nodes parts.old values.old width (take n nodes) zero.0)) (emitted result) exprs.new × ((parts.new ≡ zeroed parts.old) × (values.new ≡ zeroed values.old)) }
 {
     if n > 16384 {
         zero_words(parts);

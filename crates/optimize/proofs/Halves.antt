@@ -16,16 +16,16 @@ eight : (t : ℕ) → evens 8 t ≡ t % 2 + 2 * (t / 4 % 2 + 2 * (t / 4 / 4 % 2 
 unfolding evens
 eight t = refl
 
-four-of : (t : ℕ) → evens 4 t ≡ t % 2 + 2 * (t / 4 % 2 + 2 * (t / 4 / 4 % 2 + 2 * (t / 4 / 4 / 4 % 2 + 2 * 0)))
+four_of : (t : ℕ) → evens 4 t ≡ t % 2 + 2 * (t / 4 % 2 + 2 * (t / 4 / 4 % 2 + 2 * (t / 4 / 4 / 4 % 2 + 2 * 0)))
 unfolding evens
-four-of t = refl
+four_of t = refl
 
 -- an even part does not count in the lowest digit
 digit : (m n q : ℕ) → n ≡ 2 * q + m → m % 2 ≡ n % 2
 digit m n q e = omega arith
 
-low-digits : (t e : ℕ) → four t e ≡ four (t % 256) 0 + 16 * e
-low-digits t e =
+low_digits : (t e : ℕ) → four t e ≡ four (t % 256) 0 + 16 * e
+low_digits t e =
     let d0 : t % 256 % 2 ≡ t % 2 = omega arith in
     let d1 : t % 256 / 4 % 2 ≡ t / 4 % 2 = digit (t % 256 / 4) (t / 4) (32 * (t / 256)) (omega arith) in
     let d2 : t % 256 / 16 % 2 ≡ t / 16 % 2 = digit (t % 256 / 16) (t / 16) (8 * (t / 256)) (omega arith) in
@@ -36,9 +36,9 @@ low-digits t e =
     linear a b c d e = omega arith
 
 back : (m : ℕ) → m % 2 + 2 * (m / 4 % 2 + 2 * (m / 4 / 4 % 2 + 2 * (m / 4 / 4 / 4 % 2 + 2 * 0))) ≡ evens 4 m
-back m = sym (four-of m)
+back m = sym (four_of m)
 
-pub evens-split : (t : ℕ) → evens 8 t ≡ evens 4 (t % 256) + 16 * evens 4 (t / 256)
-evens-split t =
-    eight t ∙ rw ((divs t).2, (divs t).1, (divs t).0) (low-digits t (evens 4 (t / 256)))
+pub evens_split : (t : ℕ) → evens 8 t ≡ evens 4 (t % 256) + 16 * evens 4 (t / 256)
+evens_split t =
+    eight t ∙ rw ((divs t).2, (divs t).1, (divs t).0) (low_digits t (evens 4 (t / 256)))
     ∙ ap (λ (x : ℕ). x + 16 * evens 4 (t / 256)) (rw ((divs (t % 256)).1, (divs (t % 256)).0) at (back (t % 256)))

@@ -11,8 +11,8 @@ abbrev pub expr : ℕ → ExprId
 expr n = record { 0 = n }
 
 -- the constants are expressions 0 and 1
-abbrev pub simplifyXor : ExprId → ExprId → Rewrite
-simplifyXor a b =
+abbrev pub simplify_xor : ExprId → ExprId → Rewrite
+simplify_xor a b =
     pick (eqb a.0 b.0) (Value (expr 0))
     (pick (eqb a.0 0) (Value b)
     (pick (eqb b.0 0) (Value a)
@@ -21,8 +21,8 @@ simplifyXor a b =
     (Xor a b)))))
 
 -- select, true arm, false arm
-abbrev pub simplifyMux : ExprId → ExprId → ExprId → Rewrite
-simplifyMux s t f =
+abbrev pub simplify_mux : ExprId → ExprId → ExprId → Rewrite
+simplify_mux s t f =
     pick (eqb s.0 0) (Value f)
     (pick (eqb s.0 1 || eqb t.0 f.0) (Value t)
     (pick (eqb f.0 0 && eqb t.0 1) (Value s)
@@ -34,22 +34,22 @@ simplifyMux s t f =
     (Mux s t f))))))))
 
 -- no record for a value, two for an operation on a negated operand, one for the others
-unfoldable pub emitRewrite : Rewrite → Writer ℕ
-emitRewrite (Value v) = pure v.0
-emitRewrite (Not a) = emit (complement a.0)
-emitRewrite (And a b) = emit (and a.0 b.0)
-emitRewrite (Or a b) = emit (or a.0 b.0)
-emitRewrite (Xor a b) = emit (xor a.0 b.0)
-emitRewrite (AndNot a b) = do
+unfoldable pub emit_rewrite : Rewrite → Writer ℕ
+emit_rewrite (Value v) = pure v.0
+emit_rewrite (Not a) = emit (complement a.0)
+emit_rewrite (And a b) = emit (and a.0 b.0)
+emit_rewrite (Or a b) = emit (or a.0 b.0)
+emit_rewrite (Xor a b) = emit (xor a.0 b.0)
+emit_rewrite (AndNot a b) = do
   i ← emit (complement a.0)
   emit (and i b.0)
-emitRewrite (OrNot a b) = do
+emit_rewrite (OrNot a b) = do
   i ← emit (complement a.0)
   emit (or i b.0)
-emitRewrite (Mux s t f) = emit (mux 1 s.0 t.0 f.0)
+emit_rewrite (Mux s t f) = emit (mux 1 s.0 t.0 f.0)
 
-unfoldable pub xorOf : ℕ → ℕ → Writer ℕ
-xorOf a b = emitRewrite (simplifyXor (expr a) (expr b))
+unfoldable pub xor_of : ℕ → ℕ → Writer ℕ
+xor_of a b = emit_rewrite (simplify_xor (expr a) (expr b))
 
-unfoldable pub muxOf : ℕ → ℕ → ℕ → Writer ℕ
-muxOf s t f = emitRewrite (simplifyMux (expr s) (expr t) (expr f))
+unfoldable pub mux_of : ℕ → ℕ → ℕ → Writer ℕ
+mux_of s t f = emit_rewrite (simplify_mux (expr s) (expr t) (expr f))

@@ -1,13 +1,13 @@
 // Two-state bitwise identities. (bitwise.rs of the Rust.)
 ghost use Rattle.std.specs.Prelude.{◌≡◌};
-ghost use Rattle.optimize.specs.Rewrite.{simplifyXor};
+ghost use Rattle.optimize.specs.Rewrite.{simplify_xor};
 
 use crate::optimizer::Rewrite;
 use recorder::ExprId;
 
 // The first rule that fits.
 pub fn simplify_xor(lhs: ExprId, rhs: ExprId) -> Rewrite
-    ensures { result ≡ simplifyXor lhs rhs }
+    ensures { result ≡ simplify_xor lhs rhs }
 {
     if lhs.0 == rhs.0 {
         Rewrite::Value(ExprId::ZERO)

@@ -1,7 +1,7 @@
 // Truth tables by cofactors, before expressions are recorded. (lut.rs of the Rust.)
 ghost use Rattle.std.specs.Prelude.{◌≡◌, ◌≤◌, ◌<◌, ◌-◌, ◌/◌, drop};
 ghost use Rattle.recorder.specs.Lists.{WroteExprs, emitted};
-ghost use Rattle.optimize.specs.Lut.{evens, fullTable, numbers, lutCofactor};
+ghost use Rattle.optimize.specs.Lut.{evens, full_table, numbers, lut_cofactor};
 
 use crate::optimizer::{mux, xor};
 use recorder::{Emitted, ExprId, Tapes};
@@ -53,7 +53,7 @@ fn cofactors(table: u16) -> Halves
 // The table of so many inputs that is 1 everywhere.
 fn full_table(inputs: usize) -> u16
     requires { inputs ≤ 4 }
-    ensures { result ≡ fullTable inputs }
+    ensures { result ≡ full_table inputs }
 {
     match inputs {
         0 => 1,
@@ -73,7 +73,7 @@ fn lut_cofactor(
     table: u16,
 ) -> Emitted
     requires { left ≤ 4 }
-    ensures { WroteExprs exprs.old t (lutCofactor (numbers (drop (4 - left) inputs)) table) (emitted result) exprs.new }
+    ensures { WroteExprs exprs.old t (lut_cofactor (numbers (drop (4 - left) inputs)) table) (emitted result) exprs.new }
 {
     if table == 0 {
         return Emitted::Done(ExprId::ZERO, t);
@@ -116,7 +116,7 @@ fn lut_cofactor(
 
 // A truth table of four inputs, the first the lowest.
 pub fn lut(exprs: &mut [u32], t: Tapes, inputs: [ExprId; 4], table: u16) -> Emitted
-    ensures { WroteExprs exprs.old t (lutCofactor (numbers inputs) table) (emitted result) exprs.new }
+    ensures { WroteExprs exprs.old t (lut_cofactor (numbers inputs) table) (emitted result) exprs.new }
 {
     lut_cofactor(exprs, t, inputs, 4, table)
 }

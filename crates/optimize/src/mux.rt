@@ -1,6 +1,6 @@
 // Ordered identities of a one-bit mux: more specific rules precede general ones. (mux.rs of the Rust.)
 ghost use Rattle.std.specs.Prelude.{◌≡◌, ◌&&◌, eqb};
-ghost use Rattle.optimize.specs.Rewrite.{simplifyMux};
+ghost use Rattle.optimize.specs.Rewrite.{simplify_mux};
 
 use crate::optimizer::Rewrite;
 use recorder::ExprId;
@@ -14,7 +14,7 @@ fn both_are(a: ExprId, x: ExprId, b: ExprId, y: ExprId) -> bool
 
 // The first rule that fits.
 pub fn simplify(select: ExprId, when_true: ExprId, when_false: ExprId) -> Rewrite
-    ensures { result ≡ simplifyMux select when_true when_false }
+    ensures { result ≡ simplify_mux select when_true when_false }
 {
     if select.0 == ExprId::ZERO.0 {
         Rewrite::Value(when_false)

@@ -4,7 +4,7 @@
 // expression numbers, the two constants and truth tables alone: it looks into no expression, and must not be used for
 // muxes of words.
 ghost use Rattle.recorder.specs.Lists.{WroteExprs, emitted};
-ghost use Rattle.optimize.specs.Rewrite.{emitRewrite, xorOf, muxOf};
+ghost use Rattle.optimize.specs.Rewrite.{emit_rewrite, xor_of, mux_of};
 
 use crate::{bitwise, mux};
 use recorder::{Emitted, ExprId, Tapes, builder};
@@ -31,7 +31,7 @@ pub fn mux(
     when_true: ExprId,
     when_false: ExprId,
 ) -> Emitted
-    ensures { WroteExprs exprs.old t (muxOf select.0 when_true.0 when_false.0) (emitted result) exprs.new }
+    ensures { WroteExprs exprs.old t (mux_of select.0 when_true.0 when_false.0) (emitted result) exprs.new }
 {
     let rewrite = mux::simplify(select, when_true, when_false);
     emit(exprs, t, rewrite)
@@ -39,14 +39,14 @@ pub fn mux(
 
 // An exclusive or of two bits, reduced.
 pub fn xor(exprs: &mut [u32], t: Tapes, lhs: ExprId, rhs: ExprId) -> Emitted
-    ensures { WroteExprs exprs.old t (xorOf lhs.0 rhs.0) (emitted result) exprs.new }
+    ensures { WroteExprs exprs.old t (xor_of lhs.0 rhs.0) (emitted result) exprs.new }
 {
     let rewrite = bitwise::simplify_xor(lhs, rhs);
     emit(exprs, t, rewrite)
 }
 
 fn emit(exprs: &mut [u32], t: Tapes, rewrite: Rewrite) -> Emitted
-    ensures { WroteExprs exprs.old t (emitRewrite rewrite) (emitted result) exprs.new }
+    ensures { WroteExprs exprs.old t (emit_rewrite rewrite) (emitted result) exprs.new }
 {
     match rewrite {
         Rewrite::Value(value) => Emitted::Done(value, t),

@@ -19,22 +19,22 @@ use Rattle.recorder.specs.Record.{Expr, Model}
 use Rattle.recorder.specs.Record.{const, read, concat, not, and, or, xor, mux, eq, mul}
 use Rattle.settle.specs.Walk.{Way, edge, more}
 use Rattle.settle.specs.Loop.{Reads}
-use Rattle.settle.specs.Tests.{any, any-in, any_out, clash, or-true, or_left, or_right, answer}
-use Rattle.simulation.specs.Tick.{given, assigns, readsExpr, readsAll, readsBy, depends}
+use Rattle.settle.specs.Tests.{any, any_in, any_out, clash, or_true, or_left, or_right, answer}
+use Rattle.simulation.specs.Tick.{given, assigns, reads_expr, reads_all, reads_by, depends}
 use Rattle.simulation.specs.Sound.{Sound}
-use Rattle.simulation.proofs.Settles.{length-reads}
-use Rattle.simulation.proofs.Tally.{getD-zeros}
-use Rattle.ordering.specs.Order.{listed, needsOf}
-use Rattle.ordering.specs.Marks.{marked, readsIt, touched, Leads, Backed, Full}
-use Rattle.ordering.proofs.Grounds.{operands, reads_at, needs-below, operand-reads, through-kind}
+use Rattle.simulation.proofs.Settles.{length_reads}
+use Rattle.simulation.proofs.Tally.{get_d_zeros}
+use Rattle.ordering.specs.Order.{listed, needs_of}
+use Rattle.ordering.specs.Marks.{marked, reads_it, touched, Leads, Backed, Full}
+use Rattle.ordering.proofs.Grounds.{operands, reads_at, needs_below, operand_reads, through_kind}
 
-pub backed-none : (m : Model) (s n : ℕ) → Backed m s (replicate n 0)
-backed-none m s n = record { leads = λ e h. absurd (false≢true (subst (λ (k : ℕ). leb 1 k ≡ true) (getD-zeros n e) h)) }
+pub backed_none : (m : Model) (s n : ℕ) → Backed m s (replicate n 0)
+backed_none m s n = record { leads = λ e h. absurd (false≢true (subst (λ (k : ℕ). leb 1 k ≡ true) (get_d_zeros n e) h)) }
 
 -- the kind of an expression: a read, or one that needs its operands
 pub data Shape (m : Model) : Expr → Type 0 where
   reads : (w s l : ℕ) → Shape m (read w s l)
-  other : {x : Expr} → needsOf m.stmts x ≡ operands x → ((s : ℕ) → readsIt s x ≡ false) → Shape m x
+  other : {x : Expr} → needs_of m.stmts x ≡ operands x → ((s : ℕ) → reads_it s x ≡ false) → Shape m x
 
 shape : (m : Model) (x : Expr) → Shape m x
 shape m (const w v) = other refl (λ s. refl)
@@ -50,7 +50,7 @@ shape m (mul a b) = other refl (λ s. refl)
 
 module _ (widest : ℕ) (m : Model) (sound : Sound widest m) (s : ℕ) where
   abbrev rs : List (List ℕ)
-  rs = readsAll [] m.exprs
+  rs = reads_all [] m.exprs
 
   abbrev x : ℕ → Expr
   x e = get_or m.exprs e (const 0 0)
@@ -61,40 +61,40 @@ module _ (widest : ℕ) (m : Model) (sound : Sound widest m) (s : ℕ) where
     where
       go : (o : Option ℕ) → given assigns m.stmts y ≡ o → Mem d (listed o) → Leads m s d → Way (Reads (depends m)) y s
       go none p z q = absurd (not-nil z)
-      go (some a) p z (inl q) = edge (subst (λ (t : Option ℕ). Mem s (readsBy rs t)) (sym p) (subst (λ (b : ℕ). Mem s (get_or rs b [])) (singleton z) q))
-      go (some a) p z (inr t) = more (subst (λ (u : Option ℕ). Mem t.0 (readsBy rs u)) (sym p) (subst (λ (b : ℕ). Mem t.0 (get_or rs b [])) (singleton z) t.1)) t.2
+      go (some a) p z (inl q) = edge (subst (λ (t : Option ℕ). Mem s (reads_by rs t)) (sym p) (subst (λ (b : ℕ). Mem s (get_or rs b [])) (singleton z) q))
+      go (some a) p z (inr t) = more (subst (λ (u : Option ℕ). Mem t.0 (reads_by rs u)) (sym p) (subst (λ (b : ℕ). Mem t.0 (get_or rs b [])) (singleton z) t.1)) t.2
 
-  leads-kind : (v : Expr) → Shape m v → (marks : List ℕ) → Backed m s marks → (readsIt s v || any (marked marks) (needsOf m.stmts v)) ≡ true → Mem s (readsExpr rs v) ⊎ ((y : ℕ) × Mem y (readsExpr rs v) × Way (Reads (depends m)) y s)
-  leads-kind v (reads w y l) marks b h = go (or-true (eqb y s) (any (marked marks) (listed (given assigns m.stmts y))) h)
+  leads_kind : (v : Expr) → Shape m v → (marks : List ℕ) → Backed m s marks → (reads_it s v || any (marked marks) (needs_of m.stmts v)) ≡ true → Mem s (reads_expr rs v) ⊎ ((y : ℕ) × Mem y (reads_expr rs v) × Way (Reads (depends m)) y s)
+  leads_kind v (reads w y l) marks b h = go (or_true (eqb y s) (any (marked marks) (listed (given assigns m.stmts y))) h)
     where
       go : (eqb y s ≡ true) ⊎ (any (marked marks) (listed (given assigns m.stmts y)) ≡ true) → Mem s (y ∷ []) ⊎ ((z : ℕ) × Mem z (y ∷ []) × Way (Reads (depends m)) z s)
       go (inl p) = inl (here (sym (eqb-true y s p)))
       go (inr q) = let r = any_out (marked marks) (listed (given assigns m.stmts y)) q in inr (y, here refl, way_by y r.0 r.1 (b.leads r.0 r.2))
-  leads-kind v (other n p) marks b h = go (or-true (readsIt s v) (any (marked marks) (needsOf m.stmts v)) h)
+  leads_kind v (other n p) marks b h = go (or_true (reads_it s v) (any (marked marks) (needs_of m.stmts v)) h)
     where
-      through : (a : ℕ) → Mem a (operands v) → Leads m s a → Mem s (readsExpr rs v) ⊎ ((y : ℕ) × Mem y (readsExpr rs v) × Way (Reads (depends m)) y s)
-      through a k (inl q) = inl (operand-reads rs s v a k q)
-      through a k (inr t) = inr (t.0, operand-reads rs t.0 v a k t.1, t.2)
+      through : (a : ℕ) → Mem a (operands v) → Leads m s a → Mem s (reads_expr rs v) ⊎ ((y : ℕ) × Mem y (reads_expr rs v) × Way (Reads (depends m)) y s)
+      through a k (inl q) = inl (operand_reads rs s v a k q)
+      through a k (inr t) = inr (t.0, operand_reads rs t.0 v a k t.1, t.2)
 
-      go : (readsIt s v ≡ true) ⊎ (any (marked marks) (needsOf m.stmts v) ≡ true) → Mem s (readsExpr rs v) ⊎ ((y : ℕ) × Mem y (readsExpr rs v) × Way (Reads (depends m)) y s)
-      go (inl q) = clash (readsIt s v) q (p s)
-      go (inr q) = let r = any_out (marked marks) (needsOf m.stmts v) q in through r.0 (subst (λ (l : List ℕ). Mem r.0 l) n r.1) (b.leads r.0 r.2)
+      go : (reads_it s v ≡ true) ⊎ (any (marked marks) (needs_of m.stmts v) ≡ true) → Mem s (reads_expr rs v) ⊎ ((y : ℕ) × Mem y (reads_expr rs v) × Way (Reads (depends m)) y s)
+      go (inl q) = clash (reads_it s v) q (p s)
+      go (inr q) = let r = any_out (marked marks) (needs_of m.stmts v) q in through r.0 (subst (λ (l : List ℕ). Mem r.0 l) n r.1) (b.leads r.0 r.2)
 
-  leads-at : (marks : List ℕ) (e : ℕ) → e < length m.exprs → Backed m s marks → touched m marks s e ≡ true → Leads m s e
-  leads-at marks e h b t = go (leads-kind (x e) (shape m (x e)) marks b t)
+  leads_at : (marks : List ℕ) (e : ℕ) → e < length m.exprs → Backed m s marks → touched m marks s e ≡ true → Leads m s e
+  leads_at marks e h b t = go (leads_kind (x e) (shape m (x e)) marks b t)
     where
-      back : (y : ℕ) → Mem y (readsExpr rs (x e)) → Mem y (get_or rs e [])
+      back : (y : ℕ) → Mem y (reads_expr rs (x e)) → Mem y (get_or rs e [])
       back y k = subst (λ (l : List ℕ). Mem y l) (sym (reads_at widest m sound e h)) k
 
-      go : Mem s (readsExpr rs (x e)) ⊎ ((y : ℕ) × Mem y (readsExpr rs (x e)) × Way (Reads (depends m)) y s) → Leads m s e
+      go : Mem s (reads_expr rs (x e)) ⊎ ((y : ℕ) × Mem y (reads_expr rs (x e)) × Way (Reads (depends m)) y s) → Leads m s e
       go (inl q) = inl (back s q)
       go (inr r) = inr (r.0, back r.0 r.1, r.2)
 
-  pub backed-more : (marks : List ℕ) (e : ℕ) → e < length m.exprs → Backed m s marks → touched m marks s e ≡ true → Backed m s (set marks e 1)
-  backed-more marks e h b t = record { leads = λ d k. go d k (ℕ_discrete d e) }
+  pub backed_more : (marks : List ℕ) (e : ℕ) → e < length m.exprs → Backed m s marks → touched m marks s e ≡ true → Backed m s (set marks e 1)
+  backed_more marks e h b t = record { leads = λ d k. go d k (ℕ_discrete d e) }
     where
       go : (d : ℕ) → marked (set marks e 1) d ≡ true → Dec (d ≡ e) → Leads m s d
-      go d k (yes p) = subst (λ (a : ℕ). Leads m s a) (sym p) (leads-at marks e h b t)
+      go d k (yes p) = subst (λ (a : ℕ). Leads m s a) (sym p) (leads_at marks e h b t)
       go d k (no p) = b.leads d (subst (λ (a : ℕ). leb 1 a ≡ true) (get_or-set_other marks e d 1 0 p) k)
 
   module _ (marks : List ℕ) (full : Full m s marks) where
@@ -107,42 +107,42 @@ module _ (widest : ℕ) (m : Model) (sound : Sound widest m) (s : ℕ) where
       where
         go : (marked marks e ≡ true) ⊎ (marked marks e ≡ false) → marked marks e ≡ true
         go (inl y) = y
-        go (inr n) = clash (touched m marks s e) t (full.none-touched e h n)
+        go (inr n) = clash (touched m marks s e) t (full.none_touched e h n)
 
-    hit-kind : (v : Expr) → Shape m v → (y : ℕ) → Mem y (readsExpr rs v) → Hit y → ((a : ℕ) → Mem a (operands v) → Mem y (get_or rs a []) → marked marks a ≡ true) → (readsIt s v || any (marked marks) (needsOf m.stmts v)) ≡ true
-    hit-kind v (reads w z l) y k (inl p) f = or_left (eqb z s) (any (marked marks) (listed (given assigns m.stmts z))) (eq-eqb z s (sym (singleton k) ∙ p))
-    hit-kind v (reads w z l) y k (inr t) f =
-        or_right (eqb z s) (any (marked marks) (listed (given assigns m.stmts z))) (any-in (marked marks) (listed (given assigns m.stmts z)) t.0 (subst (λ (a : ℕ). Mem t.0 (listed (given assigns m.stmts a))) (singleton k) t.1) t.2)
-    hit-kind v (other n p) y k h f = go (through-kind rs y v k)
+    hit_kind : (v : Expr) → Shape m v → (y : ℕ) → Mem y (reads_expr rs v) → Hit y → ((a : ℕ) → Mem a (operands v) → Mem y (get_or rs a []) → marked marks a ≡ true) → (reads_it s v || any (marked marks) (needs_of m.stmts v)) ≡ true
+    hit_kind v (reads w z l) y k (inl p) f = or_left (eqb z s) (any (marked marks) (listed (given assigns m.stmts z))) (eq-eqb z s (sym (singleton k) ∙ p))
+    hit_kind v (reads w z l) y k (inr t) f =
+        or_right (eqb z s) (any (marked marks) (listed (given assigns m.stmts z))) (any_in (marked marks) (listed (given assigns m.stmts z)) t.0 (subst (λ (a : ℕ). Mem t.0 (listed (given assigns m.stmts a))) (singleton k) t.1) t.2)
+    hit_kind v (other n p) y k h f = go (through_kind rs y v k)
       where
-        go : (readsIt y v ≡ true) ⊎ ((a : ℕ) × Mem a (operands v) × Mem y (get_or rs a [])) → (readsIt s v || any (marked marks) (needsOf m.stmts v)) ≡ true
-        go (inl q) = clash (readsIt y v) q (p y)
-        go (inr r) = or_right (readsIt s v) (any (marked marks) (needsOf m.stmts v)) (any-in (marked marks) (needsOf m.stmts v) r.0 (subst (λ (l : List ℕ). Mem r.0 l) (sym n) r.1) (f r.0 r.1 r.2))
+        go : (reads_it y v ≡ true) ⊎ ((a : ℕ) × Mem a (operands v) × Mem y (get_or rs a [])) → (reads_it s v || any (marked marks) (needs_of m.stmts v)) ≡ true
+        go (inl q) = clash (reads_it y v) q (p y)
+        go (inr r) = or_right (reads_it s v) (any (marked marks) (needs_of m.stmts v)) (any_in (marked marks) (needs_of m.stmts v) r.0 (subst (λ (l : List ℕ). Mem r.0 l) (sym n) r.1) (f r.0 r.1 r.2))
 
     -- an expression that reads such a signal is marked
-    hit-marked : (k e y : ℕ) → e < k → Mem y (get_or rs e []) → Hit y → marked marks e ≡ true
-    hit-marked zero e y h q t = absurd (not-suc-le-zero h)
-    hit-marked (suc k) e y h q t = go (dec_lt e (length m.exprs)) (λ a p z. hit-marked k a y (omega (arith, p, h)) z t)
+    hit_marked : (k e y : ℕ) → e < k → Mem y (get_or rs e []) → Hit y → marked marks e ≡ true
+    hit_marked zero e y h q t = absurd (not-suc-le-zero h)
+    hit_marked (suc k) e y h q t = go (dec_lt e (length m.exprs)) (λ a p z. hit_marked k a y (omega (arith, p, h)) z t)
       where
         go : Dec (e < length m.exprs) → ((a : ℕ) → a < e → Mem y (get_or rs a []) → marked marks a ≡ true) → marked marks e ≡ true
-        go (no n) f = absurd (not-nil (subst (λ (l : List ℕ). Mem y l) (get_or-eq_default rs [] (omega (arith, length-reads m.exprs []))) q))
-        go (yes p) f = marked_by e p (hit-kind (x e) (shape m (x e)) y (subst (λ (l : List ℕ). Mem y l) (reads_at widest m sound e p) q) t (λ a z w. f a (needs-below widest m sound e p a z) w))
+        go (no n) f = absurd (not-nil (subst (λ (l : List ℕ). Mem y l) (get_or-eq_default rs [] (omega (arith, length_reads m.exprs []))) q))
+        go (yes p) f = marked_by e p (hit_kind (x e) (shape m (x e)) y (subst (λ (l : List ℕ). Mem y l) (reads_at widest m sound e p) q) t (λ a z w. f a (needs_below widest m sound e p a z) w))
 
     first_edge : (y z : ℕ) → Mem z (depends m y) → Hit z → (d : ℕ) × Mem d (listed (given assigns m.stmts y)) × (marked marks d ≡ true)
     first_edge y z k t = go (given assigns m.stmts y) k
       where
-        go : (o : Option ℕ) → Mem z (readsBy rs o) → (d : ℕ) × Mem d (listed o) × (marked marks d ≡ true)
+        go : (o : Option ℕ) → Mem z (reads_by rs o) → (d : ℕ) × Mem d (listed o) × (marked marks d ≡ true)
         go none q = absurd (not-nil q)
-        go (some d) q = (d, here refl, hit-marked (suc d) d z (omega arith) q t)
+        go (some d) q = (d, here refl, hit_marked (suc d) d z (omega arith) q t)
 
-    way-hits : {y z : ℕ} → Way (Reads (depends m)) y z → z ≡ s → (d : ℕ) × Mem d (listed (given assigns m.stmts y)) × (marked marks d ≡ true)
-    way-hits {y} {z} (edge e) p = first_edge y z e (inl p)
-    way-hits {y} (more {y = u} e w) p = first_edge y u e (inr (way-hits w p))
+    way_hits : {y z : ℕ} → Way (Reads (depends m)) y z → z ≡ s → (d : ℕ) × Mem d (listed (given assigns m.stmts y)) × (marked marks d ≡ true)
+    way_hits {y} {z} (edge e) p = first_edge y z e (inl p)
+    way_hits {y} (more {y = u} e w) p = first_edge y u e (inr (way_hits w p))
 
     -- s is on a loop: its expression is marked
-    pub loop-marked : Way (Reads (depends m)) s s → (d : ℕ) × Mem d (listed (given assigns m.stmts s)) × (marked marks d ≡ true)
-    loop-marked w = way-hits w refl
+    pub loop_marked : Way (Reads (depends m)) s s → (d : ℕ) × Mem d (listed (given assigns m.stmts s)) × (marked marks d ≡ true)
+    loop_marked w = way_hits w refl
 
   -- and the other way
-  pub marked-loop : (marks : List ℕ) → Backed m s marks → (d : ℕ) → Mem d (listed (given assigns m.stmts s)) → marked marks d ≡ true → Way (Reads (depends m)) s s
-  marked-loop marks b d k h = way_by s d k (b.leads d h)
+  pub marked_loop : (marks : List ℕ) → Backed m s marks → (d : ℕ) → Mem d (listed (given assigns m.stmts s)) → marked marks d ≡ true → Way (Reads (depends m)) s s
+  marked_loop marks b d k h = way_by s d k (b.leads d h)

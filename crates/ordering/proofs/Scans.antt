@@ -9,10 +9,10 @@ use lib.ListN.{length, get_or, take, drop, length-drop, drop_of_length-le}
 use lib.Seq.{get_or-drop, length-take-le, get_or-take}
 use Rattle.settle.specs.Tests.{all, any}
 
-drop-next : (w : List ℕ) (i : ℕ) → i < length w → drop i w ≡ get_or w i 0 ∷ drop (i + 1) w
-drop-next [] i h = absurd (not-suc-le-zero h)
-drop-next (a ∷ w) zero h = refl
-drop-next (a ∷ w) (suc i) h = let z : suc (i + 1) ≡ suc i + 1 = omega arith in drop-next w i (omega arith) ∙ ap (λ (k : ℕ). get_or w i 0 ∷ drop k (a ∷ w)) z
+drop_next : (w : List ℕ) (i : ℕ) → i < length w → drop i w ≡ get_or w i 0 ∷ drop (i + 1) w
+drop_next [] i h = absurd (not-suc-le-zero h)
+drop_next (a ∷ w) zero h = refl
+drop_next (a ∷ w) (suc i) h = let z : suc (i + 1) ≡ suc i + 1 = omega arith in drop_next w i (omega arith) ∙ ap (λ (k : ℕ). get_or w i 0 ∷ drop k (a ∷ w)) z
 
 module _ (p : ℕ → Bool) (l : List ℕ) (at n : ℕ) where
   abbrev part : List ℕ
@@ -30,8 +30,8 @@ module _ (p : ℕ → Bool) (l : List ℕ) (at n : ℕ) where
   pub passed_none : Passed 0
   passed_none = record { some = omega arith; rest = refl }
 
-  pub failed-none : Failed 0
-  failed-none = record { some = omega arith; rest = refl }
+  pub failed_none : Failed 0
+  failed_none = record { some = omega arith; rest = refl }
 
   module _ (h : at + n ≤ length l) where
     part_length : length part ≡ n
@@ -41,34 +41,34 @@ module _ (p : ℕ → Bool) (l : List ℕ) (at n : ℕ) where
     part_at i q = get_or-take n (drop at l) i 0 q ∙ get_or-drop at l i 0
 
     next : (i : ℕ) → i < n → drop i part ≡ get_or l (at + i) 0 ∷ drop (i + 1) part
-    next i q = drop-next part i (omega (arith, part_length, q)) ∙ ap (λ (a : ℕ). a ∷ drop (i + 1) part) (part_at i q)
+    next i q = drop_next part i (omega (arith, part_length, q)) ∙ ap (λ (a : ℕ). a ∷ drop (i + 1) part) (part_at i q)
 
     over : (i : ℕ) → n ≤ i → drop i part ≡ []
     over i q = let z : length part ≤ i = omega (arith, part_length, q) in drop_of_length-le part z
 
-    pub passed-more : {i e : ℕ} {b : Bool} → Passed i → i < n → e ≡ get_or l (at + i) 0 → b ≡ p e → not b ≡ false → Passed (i + 1)
-    passed-more {i} {e} {b} s q u v t =
+    pub passed_more : {i e : ℕ} {b : Bool} → Passed i → i < n → e ≡ get_or l (at + i) 0 → b ≡ p e → not b ≡ false → Passed (i + 1)
+    passed_more {i} {e} {b} s q u v t =
         record { some = omega arith; rest = s.rest ∙ ap (all p) (next i q) ∙ ap (λ (c : Bool). c && all p (drop (i + 1) part)) (sym (ap p u) ∙ sym v ∙ yes b t) }
       where
         yes : (c : Bool) → not c ≡ false → c ≡ true
         yes true z = refl
         yes false z = sym z
 
-    pub passed-stop : {i e : ℕ} {b : Bool} → Passed i → i < n → e ≡ get_or l (at + i) 0 → b ≡ p e → not b ≡ true → false ≡ all p (take n (drop at l))
-    passed-stop {i} {e} {b} s q u v t = sym (s.rest ∙ ap (all p) (next i q) ∙ ap (λ (c : Bool). c && all p (drop (i + 1) part)) (sym (ap p u) ∙ sym v ∙ no b t))
+    pub passed_stop : {i e : ℕ} {b : Bool} → Passed i → i < n → e ≡ get_or l (at + i) 0 → b ≡ p e → not b ≡ true → false ≡ all p (take n (drop at l))
+    passed_stop {i} {e} {b} s q u v t = sym (s.rest ∙ ap (all p) (next i q) ∙ ap (λ (c : Bool). c && all p (drop (i + 1) part)) (sym (ap p u) ∙ sym v ∙ no b t))
       where
         no : (c : Bool) → not c ≡ true → c ≡ false
         no true z = sym z
         no false z = refl
 
-    pub passed-all : {i : ℕ} → Passed i → n ≤ i → true ≡ all p (take n (drop at l))
-    passed-all {i} s q = sym (s.rest ∙ ap (all p) (over i q))
+    pub passed_all : {i : ℕ} → Passed i → n ≤ i → true ≡ all p (take n (drop at l))
+    passed_all {i} s q = sym (s.rest ∙ ap (all p) (over i q))
 
-    pub failed-more : {i e : ℕ} {b : Bool} → Failed i → i < n → e ≡ get_or l (at + i) 0 → b ≡ p e → b ≡ false → Failed (i + 1)
-    failed-more {i} s q u v t = record { some = omega arith; rest = s.rest ∙ ap (any p) (next i q) ∙ ap (λ (c : Bool). c || any p (drop (i + 1) part)) (sym (ap p u) ∙ sym v ∙ t) }
+    pub failed_more : {i e : ℕ} {b : Bool} → Failed i → i < n → e ≡ get_or l (at + i) 0 → b ≡ p e → b ≡ false → Failed (i + 1)
+    failed_more {i} s q u v t = record { some = omega arith; rest = s.rest ∙ ap (any p) (next i q) ∙ ap (λ (c : Bool). c || any p (drop (i + 1) part)) (sym (ap p u) ∙ sym v ∙ t) }
 
-    pub failed-stop : {i e : ℕ} {b : Bool} → Failed i → i < n → e ≡ get_or l (at + i) 0 → b ≡ p e → b ≡ true → true ≡ any p (take n (drop at l))
-    failed-stop {i} s q u v t = sym (s.rest ∙ ap (any p) (next i q) ∙ ap (λ (c : Bool). c || any p (drop (i + 1) part)) (sym (ap p u) ∙ sym v ∙ t))
+    pub failed_stop : {i e : ℕ} {b : Bool} → Failed i → i < n → e ≡ get_or l (at + i) 0 → b ≡ p e → b ≡ true → true ≡ any p (take n (drop at l))
+    failed_stop {i} s q u v t = sym (s.rest ∙ ap (any p) (next i q) ∙ ap (λ (c : Bool). c || any p (drop (i + 1) part)) (sym (ap p u) ∙ sym v ∙ t))
 
-    pub failed-all : {i : ℕ} → Failed i → n ≤ i → false ≡ any p (take n (drop at l))
-    failed-all {i} s q = sym (s.rest ∙ ap (any p) (over i q))
+    pub failed_all : {i : ℕ} → Failed i → n ≤ i → false ≡ any p (take n (drop at l))
+    failed_all {i} s q = sym (s.rest ∙ ap (any p) (over i q))

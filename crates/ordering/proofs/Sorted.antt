@@ -14,18 +14,18 @@ use lib.ListN.{length, get_or, set, take, replicate, length-set}
 use lib.Seq.{get_or-set_same, get_or-set_other, take-set-le, take-suc}
 use Rattle.bits.specs.Bits.{pick}
 use Rattle.recorder.specs.Record.{Model}
-use Rattle.settle.specs.Tests.{all-out}
-use Rattle.simulation.proofs.Tally.{getD-zeros}
+use Rattle.settle.specs.Tests.{all_out}
+use Rattle.simulation.proofs.Tally.{get_d_zeros}
 use Rattle.ordering.specs.Order.{needs}
 use Rattle.ordering.specs.Marks.{marked, ready, Stuck, left, adds, Noted, Sorting}
 use Rattle.ordering.specs.Sorts.{Step, Sorts, SortsAll}
-use Rattle.ordering.proofs.Marking.{reached-none, reached-more}
+use Rattle.ordering.proofs.Marking.{reached_none, reached_more}
 
 -- HOW MANY ARE LEFT
 
-left-zeros : (k n : ℕ) → left (replicate k 0) n ≡ n
-left-zeros k zero = refl
-left-zeros k (suc n) = ap (λ (x : ℕ). pick (leb 1 x) 0 1 + left (replicate k 0) n) (getD-zeros k n) ∙ (let z = left-zeros k n in omega (arith, z))
+left_zeros : (k n : ℕ) → left (replicate k 0) n ≡ n
+left_zeros k zero = refl
+left_zeros k (suc n) = ap (λ (x : ℕ). pick (leb 1 x) 0 1 + left (replicate k 0) n) (get_d_zeros k n) ∙ (let z = left_zeros k n in omega (arith, z))
 
 left_other : (marks : List ℕ) (e n : ℕ) → n ≤ e → left (set marks e 1) n ≡ left marks n
 left_other marks e zero h = refl
@@ -33,9 +33,9 @@ left_other marks e (suc n) h =
     let d : n ≡ e → ⊥ = λ p. omega (arith, p, h) in
     ap (λ (x : ℕ). pick (leb 1 x) 0 1 + left (set marks e 1) n) (get_or-set_other marks e n 1 0 d) ∙ ap (λ (x : ℕ). pick (marked marks n) 0 1 + x) (left_other marks e n (omega (arith, h)))
 
-pub left-set : (marks : List ℕ) (e n : ℕ) → e < n → e < length marks → marked marks e ≡ false → suc (left (set marks e 1) n) ≡ left marks n
-left-set marks e zero h q f = absurd (not-suc-le-zero h)
-left-set marks e (suc n) h q f = go (ℕ_discrete n e) (λ (p : e < n). left-set marks e n p q f)
+pub left_set : (marks : List ℕ) (e n : ℕ) → e < n → e < length marks → marked marks e ≡ false → suc (left (set marks e 1) n) ≡ left marks n
+left_set marks e zero h q f = absurd (not-suc-le-zero h)
+left_set marks e (suc n) h q f = go (ℕ_discrete n e) (λ (p : e < n). left_set marks e n p q f)
   where
     go : Dec (n ≡ e) → (e < n → suc (left (set marks e 1) n) ≡ left marks n) → suc (pick (marked (set marks e 1) n) 0 1 + left (set marks e 1) n) ≡ pick (marked marks n) 0 1 + left marks n
     go (yes p) ih =
@@ -50,9 +50,9 @@ left-set marks e (suc n) h q f = go (ℕ_discrete n e) (λ (p : e < n). left-set
         let i = ih (omega (arith, h, d)) in
         ap (λ (x : ℕ). suc (pick (leb 1 x) 0 1 + left (set marks e 1) n)) a ∙ (let z : suc (pick (marked marks n) 0 1 + left (set marks e 1) n) ≡ pick (marked marks n) 0 1 + left marks n = omega (arith, i) in z)
 
-pub left-all : (marks : List ℕ) (n : ℕ) → left marks n ≡ 0 → (e : ℕ) → e < n → marked marks e ≡ true
-left-all marks zero h e p = absurd (not-suc-le-zero p)
-left-all marks (suc n) h e p = go (marked marks n) refl (ℕ_discrete e n) (λ (z : left marks n ≡ 0). left-all marks n z e)
+pub left_all : (marks : List ℕ) (n : ℕ) → left marks n ≡ 0 → (e : ℕ) → e < n → marked marks e ≡ true
+left_all marks zero h e p = absurd (not-suc-le-zero p)
+left_all marks (suc n) h e p = go (marked marks n) refl (ℕ_discrete e n) (λ (z : left marks n ≡ 0). left_all marks n z e)
   where
     go : (b : Bool) → marked marks n ≡ b → Dec (e ≡ n) → (left marks n ≡ 0 → e < n → marked marks e ≡ true) → marked marks e ≡ true
     go true q (yes r) f = ap (marked marks) r ∙ q
@@ -61,8 +61,8 @@ left-all marks (suc n) h e p = go (marked marks n) refl (ℕ_discrete e n) (λ (
 
 -- IN ORDER
 
-noted-none : (m : Model) (k : ℕ) (order : List ℕ) → Noted m (replicate k 0) order 0
-noted-none m k order = record { each = λ e h. absurd (false≢true (subst (λ (x : ℕ). leb 1 x ≡ true) (getD-zeros k e) h)); behind = λ j h. absurd (not-suc-le-zero h) }
+noted_none : (m : Model) (k : ℕ) (order : List ℕ) → Noted m (replicate k 0) order 0
+noted_none m k order = record { each = λ e h. absurd (false≢true (subst (λ (x : ℕ). leb 1 x ≡ true) (get_d_zeros k e) h)); behind = λ j h. absurd (not-suc-le-zero h) }
 
 noted_more : (m : Model) (marks order : List ℕ) (k e : ℕ) → k < length order → Noted m marks order k → ready m marks e ≡ true → Noted m (set marks e 1) (set order k e) (suc k)
 noted_more m marks order k e r s h = record { each = λ d q. one d q (ℕ_discrete d e); behind = λ j q d z. two j q d z (ℕ_discrete j k) }
@@ -84,30 +84,30 @@ noted_more m marks order k e r s h = record { each = λ d q. one d q (ℕ_discre
     two j q d z (yes p) =
         let a : get_or (set order k e) j 0 ≡ e = ap (λ (i : ℕ). get_or (set order k e) i 0) p ∙ get_or-set_same order k e 0 r in
         let y : Mem d (needs m e) = subst (λ (x : ℕ). Mem d (needs m x)) a z in
-        subst (λ (l : List ℕ). Mem d l) (sym (take-set-le j order k e (omega (arith, p)))) (subst (λ (i : ℕ). Mem d (take i order)) (sym p) (s.each d (all-out (marked marks) (needs m e) h d y)))
+        subst (λ (l : List ℕ). Mem d l) (sym (take-set-le j order k e (omega (arith, p)))) (subst (λ (i : ℕ). Mem d (take i order)) (sym p) (s.each d (all_out (marked marks) (needs m e) h d y)))
     two j q d z (no p) =
         let a : get_or (set order k e) j 0 ≡ get_or order j 0 = get_or-set_other order k j e 0 p in
         subst (λ (l : List ℕ). Mem d l) (sym (take-set-le j order k e (omega (arith, q)))) (s.behind j (omega (arith, q, p)) d (subst (λ (x : ℕ). Mem d (needs m x)) a z))
 
 -- ALL TOGETHER
 
-pub sorting-none : (m : Model) (n k : ℕ) (order : List ℕ) → Sorting m n (replicate k 0) order 0
-sorting-none m n k order = record { reached = reached-none m k; counted = let z = left-zeros k n in omega (arith, z); noted = λ h. noted-none m k order }
+pub sorting_none : (m : Model) (n k : ℕ) (order : List ℕ) → Sorting m n (replicate k 0) order 0
+sorting_none m n k order = record { reached = reached_none m k; counted = let z = left_zeros k n in omega (arith, z); noted = λ h. noted_none m k order }
 
-pub adds-new : (m : Model) (marks : List ℕ) (e : ℕ) → adds m marks e ≡ true → (marked marks e ≡ false) × (ready m marks e ≡ true)
-adds-new m marks e h = go (marked marks e) refl h
+pub adds_new : (m : Model) (marks : List ℕ) (e : ℕ) → adds m marks e ≡ true → (marked marks e ≡ false) × (ready m marks e ≡ true)
+adds_new m marks e h = go (marked marks e) refl h
   where
     go : (b : Bool) → marked marks e ≡ b → pick b false (ready m marks e) ≡ true → (marked marks e ≡ false) × (ready m marks e ≡ true)
     go true q z = absurd (false≢true z)
     go false q z = (q, z)
 
-pub sorting-more : (m : Model) (n : ℕ) (marks order : List ℕ) (k e : ℕ) → e < n → n ≤ length marks → adds m marks e ≡ true → Sorting m n marks order k → Sorting m n (set marks e 1) (set order k e) (k + 1)
-sorting-more m n marks order k e p q a s =
-    let b = adds-new m marks e a in
-    let l = left-set marks e n p (omega (arith, p, q)) b.0 in
+pub sorting_more : (m : Model) (n : ℕ) (marks order : List ℕ) (k e : ℕ) → e < n → n ≤ length marks → adds m marks e ≡ true → Sorting m n marks order k → Sorting m n (set marks e 1) (set order k e) (k + 1)
+sorting_more m n marks order k e p q a s =
+    let b = adds_new m marks e a in
+    let l = left_set marks e n p (omega (arith, p, q)) b.0 in
     let g : suc k ≡ k + 1 = omega arith in
     record {
-      reached = reached-more m marks e s.reached b.1;
+      reached = reached_more m marks e s.reached b.1;
       counted = let c = s.counted in omega (arith, c, l);
       noted = λ h. subst (λ (i : ℕ). Noted m (set marks e 1) (set order k e) i) g
           (let h' : n ≤ length order = subst (λ (i : ℕ). n ≤ i) (length-set order k e) h in
@@ -115,8 +115,8 @@ sorting-more m n marks order k e p q a s =
           noted_more m marks order k e (omega (arith, c, l, h')) (s.noted h') b.1);
     }
 
-pub sorting-bound : {m : Model} {n : ℕ} {marks order : List ℕ} {k : ℕ} → Sorting m n marks order k → k ≤ n
-sorting-bound s = let c = s.counted in omega (arith, c)
+pub sorting_bound : {m : Model} {n : ℕ} {marks order : List ℕ} {k : ℕ} → Sorting m n marks order k → k ≤ n
+sorting_bound s = let c = s.counted in omega (arith, c)
 
 -- nothing added up to e, and nothing to add there
 pub record Quiet (m : Model) (marks : List ℕ) (e : ℕ) : Type 0 where
@@ -125,15 +125,15 @@ pub record Quiet (m : Model) (marks : List ℕ) (e : ℕ) : Type 0 where
 pub quiet_none : (m : Model) (marks : List ℕ) → Quiet m marks 0
 quiet_none m marks = record { nothing = λ d h. absurd (not-suc-le-zero h) }
 
-pub quiet-more : (m : Model) (marks : List ℕ) (e : ℕ) → Quiet m marks e → adds m marks e ≡ false → Quiet m marks (e + 1)
-quiet-more m marks e s h = record { nothing = λ d p. go d p (ℕ_discrete d e) }
+pub quiet_more : (m : Model) (marks : List ℕ) (e : ℕ) → Quiet m marks e → adds m marks e ≡ false → Quiet m marks (e + 1)
+quiet_more m marks e s h = record { nothing = λ d p. go d p (ℕ_discrete d e) }
   where
     go : (d : ℕ) → d < e + 1 → Dec (d ≡ e) → adds m marks d ≡ false
     go d p (yes q) = ap (adds m marks) q ∙ h
     go d p (no q) = s.nothing d (omega (arith, p, q))
 
-pub quiet-stuck : (m : Model) (marks : List ℕ) → Quiet m marks (length m.exprs) → Stuck m marks
-quiet-stuck m marks s = record { none-ready = λ e p u. sym (ap (λ (b : Bool). pick b false (ready m marks e)) u) ∙ s.nothing e p }
+pub quiet_stuck : (m : Model) (marks : List ℕ) → Quiet m marks (length m.exprs) → Stuck m marks
+quiet_stuck m marks s = record { none_ready = λ e p u. sym (ap (λ (b : Bool). pick b false (ready m marks e)) u) ∙ s.nothing e p }
 
 -- A PASS up to expression e
 
@@ -142,56 +142,56 @@ pub record Passing (m : Model) (n k : ℕ) (marks₀ order₀ marks order : List
   pub grows : k ≤ count
   pub within : e ≤ n
   pub quiet : count ≡ k → Quiet m marks e
-  pub marks-long : length marks ≡ length marks₀
-  pub order-long : length order ≡ length order₀
+  pub marks_long : length marks ≡ length marks₀
+  pub order_long : length order ≡ length order₀
 
-pub passing-start : (m : Model) (n k : ℕ) (marks order : List ℕ) → Sorting m n marks order k → Passing m n k marks order marks order k 0
-passing-start m n k marks order s = record { sorting = s; grows = omega arith; within = omega arith; quiet = λ h. quiet_none m marks; marks-long = refl; order-long = refl }
+pub passing_start : (m : Model) (n k : ℕ) (marks order : List ℕ) → Sorting m n marks order k → Passing m n k marks order marks order k 0
+passing_start m n k marks order s = record { sorting = s; grows = omega arith; within = omega arith; quiet = λ h. quiet_none m marks; marks_long = refl; order_long = refl }
 
-passing-same : {m : Model} {n k : ℕ} {marks₀ order₀ marks order : List ℕ} {count e : ℕ} → Passing m n k marks₀ order₀ marks order count e → e < n → {b : Bool} → b ≡ adds m marks e → b ≡ false → Passing m n k marks₀ order₀ marks order count (e + 1)
-passing-same {m} {marks = marks} {e = e} s h q f = record { sorting = s.sorting; grows = s.grows; within = omega arith; quiet = λ z. quiet-more m marks e (s.quiet z) (sym q ∙ f); marks-long = s.marks-long; order-long = s.order-long }
+passing_same : {m : Model} {n k : ℕ} {marks₀ order₀ marks order : List ℕ} {count e : ℕ} → Passing m n k marks₀ order₀ marks order count e → e < n → {b : Bool} → b ≡ adds m marks e → b ≡ false → Passing m n k marks₀ order₀ marks order count (e + 1)
+passing_same {m} {marks = marks} {e = e} s h q f = record { sorting = s.sorting; grows = s.grows; within = omega arith; quiet = λ z. quiet_more m marks e (s.quiet z) (sym q ∙ f); marks_long = s.marks_long; order_long = s.order_long }
 
-passing-more : {m : Model} {n k : ℕ} {marks₀ order₀ marks order order' : List ℕ} {count e : ℕ} → Passing m n k marks₀ order₀ marks order count e → e < n → n ≤ length marks₀ → {b : Bool} → b ≡ adds m marks e → b ≡ true → order' ≡ set order count e → Passing m n k marks₀ order₀ (set marks e 1) order' (count + 1) (e + 1)
-passing-more {m} {n} {k} {marks₀} {order₀} {marks} {order} {order'} {count} {e} s h l q f o =
+passing_more : {m : Model} {n k : ℕ} {marks₀ order₀ marks order order' : List ℕ} {count e : ℕ} → Passing m n k marks₀ order₀ marks order count e → e < n → n ≤ length marks₀ → {b : Bool} → b ≡ adds m marks e → b ≡ true → order' ≡ set order count e → Passing m n k marks₀ order₀ (set marks e 1) order' (count + 1) (e + 1)
+passing_more {m} {n} {k} {marks₀} {order₀} {marks} {order} {order'} {count} {e} s h l q f o =
     subst (λ (u : List ℕ). Passing m n k marks₀ order₀ (set marks e 1) u (count + 1) (e + 1)) (sym o)
     (record {
-      sorting = sorting-more m n marks order count e h (let w = s.marks-long in omega (arith, w, l)) (sym q ∙ f) s.sorting;
+      sorting = sorting_more m n marks order count e h (let w = s.marks_long in omega (arith, w, l)) (sym q ∙ f) s.sorting;
       grows = let g = s.grows in omega (arith, g);
       within = omega arith;
       quiet = λ z. absurd (let g = s.grows in omega (arith, g, z));
-      marks-long = length-set marks e 1 ∙ s.marks-long;
-      order-long = length-set order count e ∙ s.order-long;
+      marks_long = length-set marks e 1 ∙ s.marks_long;
+      order_long = length-set order count e ∙ s.order_long;
     })
 
-pub passing-end : {m : Model} {n k : ℕ} {marks₀ order₀ marks order : List ℕ} {count e : ℕ} → Passing m n k marks₀ order₀ marks order count e → n ≡ length m.exprs → n ≤ e → Sorts m n k count marks order
-passing-end {m} {n} {marks = marks} {e = e} s p h =
-    record { grows = s.grows; sorting = s.sorting; done = λ z. quiet-stuck m marks (subst (λ (i : ℕ). Quiet m marks i) (let w = s.within in let y : e ≡ n = omega (arith, w, h) in y ∙ p) (s.quiet z)) }
+pub passing_end : {m : Model} {n k : ℕ} {marks₀ order₀ marks order : List ℕ} {count e : ℕ} → Passing m n k marks₀ order₀ marks order count e → n ≡ length m.exprs → n ≤ e → Sorts m n k count marks order
+passing_end {m} {n} {marks = marks} {e = e} s p h =
+    record { grows = s.grows; sorting = s.sorting; done = λ z. quiet_stuck m marks (subst (λ (i : ℕ). Quiet m marks i) (let w = s.within in let y : e ≡ n = omega (arith, w, h) in y ∙ p) (s.quiet z)) }
 
-pub passing-count : {m : Model} {n k : ℕ} {marks₀ order₀ marks order : List ℕ} {count e : ℕ} → Passing m n k marks₀ order₀ marks order count e → count ≤ n
-passing-count s = sorting-bound s.sorting
+pub passing_count : {m : Model} {n k : ℕ} {marks₀ order₀ marks order : List ℕ} {count e : ℕ} → Passing m n k marks₀ order₀ marks order count e → count ≤ n
+passing_count s = sorting_bound s.sorting
 
 pub passing_step : {m : Model} {n k : ℕ} {marks₀ order₀ marks order marks' order' : List ℕ} {count r e : ℕ} → Passing m n k marks₀ order₀ marks order count e → e < n → n ≤ length marks₀ → Step m marks order count e r marks' order' → Passing m n k marks₀ order₀ marks' order' r (e + 1)
-passing_step {m} {n} {k} {marks₀} {order₀} {marks} {order} {marks'} {order'} {count} {r} {e} s h l t = go (adds m marks e) refl t.count t.marks-are t.order_is
+passing_step {m} {n} {k} {marks₀} {order₀} {marks} {order} {marks'} {order'} {count} {r} {e} s h l t = go (adds m marks e) refl t.count t.marks_are t.order_is
   where
     go : (b : Bool) → adds m marks e ≡ b → r ≡ pick b (count + 1) count → marks' ≡ pick b (set marks e 1) marks → order' ≡ pick b (set order count e) order → Passing m n k marks₀ order₀ marks' order' r (e + 1)
-    go true q a c d = subst (λ (i : ℕ). Passing m n k marks₀ order₀ marks' order' i (e + 1)) (sym a) (subst (λ (u : List ℕ). Passing m n k marks₀ order₀ u order' (count + 1) (e + 1)) (sym c) (passing-more s h l refl q d))
+    go true q a c d = subst (λ (i : ℕ). Passing m n k marks₀ order₀ marks' order' i (e + 1)) (sym a) (subst (λ (u : List ℕ). Passing m n k marks₀ order₀ u order' (count + 1) (e + 1)) (sym c) (passing_more s h l refl q d))
     go false q a c d =
-        subst (λ (i : ℕ). Passing m n k marks₀ order₀ marks' order' i (e + 1)) (sym a) (subst (λ (u : List ℕ). Passing m n k marks₀ order₀ u order' count (e + 1)) (sym c) (subst (λ (u : List ℕ). Passing m n k marks₀ order₀ marks u count (e + 1)) (sym d) (passing-same s h refl q)))
+        subst (λ (i : ℕ). Passing m n k marks₀ order₀ marks' order' i (e + 1)) (sym a) (subst (λ (u : List ℕ). Passing m n k marks₀ order₀ u order' count (e + 1)) (sym c) (subst (λ (u : List ℕ). Passing m n k marks₀ order₀ marks u count (e + 1)) (sym d) (passing_same s h refl q)))
 
-step-none : {m : Model} {marks order : List ℕ} {k e : ℕ} → adds m marks e ≡ false → Step m marks order k e k marks order
-step-none {marks = marks} {order} {k} {e} h = record { count = sym (ap (λ (b : Bool). pick b (k + 1) k) h); marks-are = sym (ap (λ (b : Bool). pick b (set marks e 1) marks) h); order_is = sym (ap (λ (b : Bool). pick b (set order k e) order) h) }
+step_none : {m : Model} {marks order : List ℕ} {k e : ℕ} → adds m marks e ≡ false → Step m marks order k e k marks order
+step_none {marks = marks} {order} {k} {e} h = record { count = sym (ap (λ (b : Bool). pick b (k + 1) k) h); marks_are = sym (ap (λ (b : Bool). pick b (set marks e 1) marks) h); order_is = sym (ap (λ (b : Bool). pick b (set order k e) order) h) }
 
 pub step_same : {m : Model} {marks order : List ℕ} {k e : ℕ} {b : Bool} → b ≡ adds m marks e → not b ≡ true → Step m marks order k e k marks order
-step_same {b = b} q h = step-none (sym q ∙ no b h)
+step_same {b = b} q h = step_none (sym q ∙ no b h)
   where
     no : (c : Bool) → not c ≡ true → c ≡ false
     no true z = sym z
     no false z = refl
 
-pub step-more : {m : Model} {marks order order' : List ℕ} {k e : ℕ} {b : Bool} → b ≡ adds m marks e → not b ≡ false → order' ≡ set order k e → Step m marks order k e (k + 1) (set marks e 1) order'
-step-more {m} {marks} {order} {order'} {k} {e} {b} q h o =
+pub step_more : {m : Model} {marks order order' : List ℕ} {k e : ℕ} {b : Bool} → b ≡ adds m marks e → not b ≡ false → order' ≡ set order k e → Step m marks order k e (k + 1) (set marks e 1) order'
+step_more {m} {marks} {order} {order'} {k} {e} {b} q h o =
     let a : adds m marks e ≡ true = sym q ∙ yes b h in
-    record { count = sym (ap (λ (c : Bool). pick c (k + 1) k) a); marks-are = sym (ap (λ (c : Bool). pick c (set marks e 1) marks) a); order_is = o ∙ sym (ap (λ (c : Bool). pick c (set order k e) order) a) }
+    record { count = sym (ap (λ (c : Bool). pick c (k + 1) k) a); marks_are = sym (ap (λ (c : Bool). pick c (set marks e 1) marks) a); order_is = o ∙ sym (ap (λ (c : Bool). pick c (set order k e) order) a) }
   where
     yes : (c : Bool) → not c ≡ false → c ≡ true
     yes true z = refl
@@ -199,10 +199,10 @@ step-more {m} {marks} {order} {order'} {k} {e} {b} q h o =
 
 -- PASS AFTER PASS
 
-pub record Sorting-on (m : Model) (n : ℕ) (marks₀ order₀ marks order : List ℕ) (k : ℕ) : Type 0 where
+pub record SortingOn (m : Model) (n : ℕ) (marks₀ order₀ marks order : List ℕ) (k : ℕ) : Type 0 where
   pub sorting : Sorting m n marks order k
-  pub marks-long : length marks ≡ length marks₀
-  pub order-long : length order ≡ length order₀
+  pub marks_long : length marks ≡ length marks₀
+  pub order_long : length order ≡ length order₀
 
-pub sorting-end : {m : Model} {n k r : ℕ} {marks order : List ℕ} → Sorts m n k r marks order → r ≡ k → SortsAll m n k marks order
-sorting-end {m} {n} {k} {r} {marks} {order} s e = record { sorted = subst (λ (i : ℕ). Sorting m n marks order i) e s.sorting; stuck = s.done e }
+pub sorting_end : {m : Model} {n k r : ℕ} {marks order : List ℕ} → Sorts m n k r marks order → r ≡ k → SortsAll m n k marks order
+sorting_end {m} {n} {k} {r} {marks} {order} s e = record { sorted = subst (λ (i : ℕ). Sorting m n marks order i) e s.sorting; stuck = s.done e }

@@ -20,7 +20,7 @@ finds m s marks e = pick (marked marks e) false (touched m marks s e)
 
 pub record Touch (m : Model) (s : ℕ) (marks : List ℕ) (e : ℕ) (r : Bool) (marks' : List ℕ) : Type 0 where
   pub found : r ≡ finds m s marks e
-  pub marks-are : marks' ≡ pick r (set marks e 1) marks
+  pub marks_are : marks' ≡ pick r (set marks e 1) marks
 
 -- a pass: fewer are left, or none can be added
 pub record Touches (m : Model) (n s : ℕ) (marks : List ℕ) (r : Bool) (marks' : List ℕ) : Type 0 where

@@ -8,7 +8,7 @@ use Rattle.settle.specs.Ground.{Grounded}
 use Rattle.settle.specs.Walk.{Way}
 use Rattle.settle.specs.Loop.{Reads}
 use Rattle.settle.specs.Tests.{all, any}
-use Rattle.simulation.specs.Tick.{readsAll, depends}
+use Rattle.simulation.specs.Tick.{reads_all, depends}
 use Rattle.ordering.specs.Order.{needs, Needs}
 
 abbrev pub marked : List ℕ → ℕ → Bool
@@ -24,35 +24,35 @@ pub record Reached (m : Model) (marks : List ℕ) : Type 0 where
 
 -- nothing can be added
 pub record Stuck (m : Model) (marks : List ℕ) : Type 0 where
-  pub none-ready : (e : ℕ) → e < length m.exprs → marked marks e ≡ false → ready m marks e ≡ false
+  pub none_ready : (e : ℕ) → e < length m.exprs → marked marks e ≡ false → ready m marks e ≡ false
 
 -- WAYS TO A SIGNAL. Here an expression is marked once signal s is found behind it.
 
-abbrev pub readsIt : ℕ → Expr → Bool
-readsIt s (const w v) = false
-readsIt s (read w y l) = eqb y s
-readsIt s (concat w ps) = false
-readsIt s (not a) = false
-readsIt s (and a b) = false
-readsIt s (or a b) = false
-readsIt s (xor a b) = false
-readsIt s (mux w a b c) = false
-readsIt s (eq a b) = false
-readsIt s (mul a b) = false
+abbrev pub reads_it : ℕ → Expr → Bool
+reads_it s (const w v) = false
+reads_it s (read w y l) = eqb y s
+reads_it s (concat w ps) = false
+reads_it s (not a) = false
+reads_it s (and a b) = false
+reads_it s (or a b) = false
+reads_it s (xor a b) = false
+reads_it s (mux w a b c) = false
+reads_it s (eq a b) = false
+reads_it s (mul a b) = false
 
 -- it reads s, or needs a marked one
 abbrev pub touched : Model → List ℕ → ℕ → ℕ → Bool
-touched m marks s e = readsIt s (get_or m.exprs e (const 0 0)) || any (marked marks) (needs m e)
+touched m marks s e = reads_it s (get_or m.exprs e (const 0 0)) || any (marked marks) (needs m e)
 
 -- signal s is behind expression e
 abbrev pub Leads : Model → ℕ → ℕ → Type 0
-Leads m s e = Mem s (get_or (readsAll [] m.exprs) e []) ⊎ ((y : ℕ) × Mem y (get_or (readsAll [] m.exprs) e []) × Way (Reads (depends m)) y s)
+Leads m s e = Mem s (get_or (reads_all [] m.exprs) e []) ⊎ ((y : ℕ) × Mem y (get_or (reads_all [] m.exprs) e []) × Way (Reads (depends m)) y s)
 
 pub record Backed (m : Model) (s : ℕ) (marks : List ℕ) : Type 0 where
   pub leads : (e : ℕ) → marked marks e ≡ true → Leads m s e
 
 pub record Full (m : Model) (s : ℕ) (marks : List ℕ) : Type 0 where
-  pub none-touched : (e : ℕ) → e < length m.exprs → marked marks e ≡ false → touched m marks s e ≡ false
+  pub none_touched : (e : ℕ) → e < length m.exprs → marked marks e ≡ false → touched m marks s e ≡ false
 
 -- MARKING ALL
 

@@ -12,21 +12,21 @@ listed none = []
 listed (some e) = e ∷ []
 
 -- its operands; a read of an assigned signal needs that signal's expression
-abbrev pub needsOf : List Stmt → Expr → List ℕ
-needsOf ts (const w v) = []
-needsOf ts (read w s l) = listed (given assigns ts s)
-needsOf ts (concat w ps) = ps
-needsOf ts (not a) = a ∷ []
-needsOf ts (and a b) = a ∷ b ∷ []
-needsOf ts (or a b) = a ∷ b ∷ []
-needsOf ts (xor a b) = a ∷ b ∷ []
-needsOf ts (mux w s t f) = s ∷ t ∷ f ∷ []
-needsOf ts (eq a b) = a ∷ b ∷ []
-needsOf ts (mul a b) = a ∷ b ∷ []
+abbrev pub needs_of : List Stmt → Expr → List ℕ
+needs_of ts (const w v) = []
+needs_of ts (read w s l) = listed (given assigns ts s)
+needs_of ts (concat w ps) = ps
+needs_of ts (not a) = a ∷ []
+needs_of ts (and a b) = a ∷ b ∷ []
+needs_of ts (or a b) = a ∷ b ∷ []
+needs_of ts (xor a b) = a ∷ b ∷ []
+needs_of ts (mux w s t f) = s ∷ t ∷ f ∷ []
+needs_of ts (eq a b) = a ∷ b ∷ []
+needs_of ts (mul a b) = a ∷ b ∷ []
 
 -- expression number e; one that is not there needs nothing
 abbrev pub needs : Model → ℕ → List ℕ
-needs m e = needsOf m.stmts (get_or m.exprs e (const 0 0))
+needs m e = needs_of m.stmts (get_or m.exprs e (const 0 0))
 
 abbrev pub Needs : Model → ℕ → ℕ → Type 0
 Needs m = Reads (needs m)

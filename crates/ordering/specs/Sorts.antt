@@ -7,7 +7,7 @@ use Rattle.ordering.specs.Marks.{Stuck, adds, Sorting}
 -- one expression: marked and noted, or nothing
 pub record Step (m : Model) (marks order : List ℕ) (k e r : ℕ) (marks' order' : List ℕ) : Type 0 where
   pub count : r ≡ pick (adds m marks e) (k + 1) k
-  pub marks-are : marks' ≡ pick (adds m marks e) (set marks e 1) marks
+  pub marks_are : marks' ≡ pick (adds m marks e) (set marks e 1) marks
   pub order_is : order' ≡ pick (adds m marks e) (set order k e) order
 
 -- k were marked, r are now; if none was added, none can be

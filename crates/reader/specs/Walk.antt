@@ -9,12 +9,12 @@ use Rattle.netlist.specs.Reader.{base, Step, got, fault, Parser}
 use Rattle.netlist.specs.Fields.{word_at}
 
 -- a parser's faults are 4 and 5
-abbrev pub refusalOf : ℕ → ℕ → Refusal
-refusalOf n place = elim (eqb n 4) [ true ↦ WordCount place | false ↦ WordValue place ]
+abbrev pub refusal_of : ℕ → ℕ → Refusal
+refusal_of n place = elim (eqb n 4) [ true ↦ WordCount place | false ↦ WordValue place ]
 
 abbrev pub walk_of : {A : Type 0} → Step A → Walk
 walk_of (got a i) = At i
-walk_of (fault n place) = Refused (refusalOf n place)
+walk_of (fault n place) = Refused (refusal_of n place)
 
 -- a walk that goes on with a parser
 abbrev pub along : {A : Type 0} → Walk → Parser A → Walk
@@ -24,14 +24,14 @@ along (Refused x) p = Refused x
 pub record Passed {A : Type 0} (w : Walk) (p : Parser A) (r : Walk) : Type 0 where
   pub is : r ≡ along w p
 
-abbrev pub peekOf : List ℕ → Walk → ℕ
-peekOf words (At i) = word_at words i
-peekOf words (Refused x) = 0
+abbrev pub peek_of : List ℕ → Walk → ℕ
+peek_of words (At i) = word_at words i
+peek_of words (Refused x) = 0
 
-abbrev pub lastOf : List ℕ → Walk → ℕ
-lastOf words (At i) = word_at words (i - 1)
-lastOf words (Refused x) = 0
+abbrev pub last_of : List ℕ → Walk → ℕ
+last_of words (At i) = word_at words (i - 1)
+last_of words (Refused x) = 0
 
 -- the section must end here
 abbrev pub ends_at : ℕ → Parser ℕ
-ends_at end = Reader.sectionEnd base [] end 0
+ends_at end = Reader.section_end base [] end 0

@@ -13,7 +13,7 @@ use netlist::fields::wide;
 use netlist::ram::shift_fits;
 
 fn check_lut4(limits: Limits, words: &[u32], end: usize, w: Walk) -> Walk
-    ensures { Passed w (Reader.readLut4 limits words.now end) result }
+    ensures { Passed w (Reader.read_lut4 limits words.now end) result }
 {
     let w1 = check_bits(limits, words, end, w, 4);
     let w2 = check_wire(limits, words, end, w1);
@@ -22,7 +22,7 @@ fn check_lut4(limits: Limits, words: &[u32], end: usize, w: Walk) -> Walk
 
 // PFUMX and L6MUX21 have the same form.
 fn check_mux(limits: Limits, words: &[u32], end: usize, w: Walk) -> Walk
-    ensures { Passed w (Reader.readPfumx limits words.now end) result × Passed w (Reader.readL6mux21 limits words.now end) result }
+    ensures { Passed w (Reader.read_pfumx limits words.now end) result × Passed w (Reader.read_l6mux21 limits words.now end) result }
 {
     let w1 = check_bit(limits, words, end, w);
     let w2 = check_bit(limits, words, end, w1);
@@ -31,7 +31,7 @@ fn check_mux(limits: Limits, words: &[u32], end: usize, w: Walk) -> Walk
 }
 
 fn check_ccu2c(limits: Limits, words: &[u32], end: usize, w: Walk) -> Walk
-    ensures { Passed w (Reader.readCcu2c limits words.now end) result }
+    ensures { Passed w (Reader.read_ccu2c limits words.now end) result }
 {
     let w1 = check_bits(limits, words, end, w, 4);
     let w2 = check_bits(limits, words, end, w1, 4);
@@ -46,7 +46,7 @@ fn check_ccu2c(limits: Limits, words: &[u32], end: usize, w: Walk) -> Walk
 }
 
 fn check_multiplier(limits: Limits, words: &[u32], end: usize, w: Walk) -> Walk
-    ensures { Passed w (Reader.readMultiplier limits words.now end) result }
+    ensures { Passed w (Reader.read_multiplier limits words.now end) result }
 {
     let w1 = check_bits(limits, words, end, w, 18);
     let w2 = check_bits(limits, words, end, w1, 18);
@@ -54,7 +54,7 @@ fn check_multiplier(limits: Limits, words: &[u32], end: usize, w: Walk) -> Walk
 }
 
 fn check_flip_flop(limits: Limits, words: &[u32], end: usize, w: Walk) -> Walk
-    ensures { Passed w (Reader.readFlipFlop limits words.now end) result }
+    ensures { Passed w (Reader.read_flip_flop limits words.now end) result }
 {
     let w1 = check_bit(limits, words, end, w);
     let w2 = check_wire(limits, words, end, w1);
@@ -66,14 +66,14 @@ fn check_flip_flop(limits: Limits, words: &[u32], end: usize, w: Walk) -> Walk
 
 // The physical width; that the shift leaves too few address bits is its fault too.
 fn check_physical(words: &[u32], end: usize, w: Walk, depth: u32) -> Walk
-    ensures { Passed w (Reader.physicalFor base words.now end depth) result }
+    ensures { Passed w (Reader.physical_for base words.now end depth) result }
 {
     let ok = shift_fits(depth, peek(words, w));
     check_word(words, end, w, ok)
 }
 
 fn check_second(limits: Limits, words: &[u32], end: usize, w: Walk, flag: u32, width: usize) -> Walk
-    ensures { Passed w (Reader.secondIf limits words.now end flag width) result }
+    ensures { Passed w (Reader.second_if limits words.now end flag width) result }
 {
     if flag == 0 {
         return w;
@@ -89,7 +89,7 @@ fn check_second(limits: Limits, words: &[u32], end: usize, w: Walk, flag: u32, w
 }
 
 fn check_block_ram(limits: Limits, words: &[u32], end: usize, w: Walk) -> Walk
-    ensures { Passed w (Reader.readBlockRam limits words.now end) result }
+    ensures { Passed w (Reader.read_block_ram limits words.now end) result }
 {
     let w1 = check_within(words, end, w, 1, 16384);
     let depth = last(words, w1);
@@ -111,7 +111,7 @@ fn check_block_ram(limits: Limits, words: &[u32], end: usize, w: Walk) -> Walk
 }
 
 fn check_distributed_ram(limits: Limits, words: &[u32], end: usize, w: Walk) -> Walk
-    ensures { Passed w (Reader.readDistributedRam limits words.now end) result }
+    ensures { Passed w (Reader.read_distributed_ram limits words.now end) result }
 {
     let w1 = check_bits(limits, words, end, w, 4);
     let w2 = check_bits(limits, words, end, w1, 4);
@@ -124,7 +124,7 @@ fn check_distributed_ram(limits: Limits, words: &[u32], end: usize, w: Walk) -> 
 }
 
 fn check_io(limits: Limits, words: &[u32], end: usize, w: Walk) -> Walk
-    ensures { Passed w (Reader.readIo limits words.now end) result }
+    ensures { Passed w (Reader.read_io limits words.now end) result }
 {
     let w1 = check_wire(limits, words, end, w);
     let w2 = check_bit(limits, words, end, w1);
@@ -133,13 +133,13 @@ fn check_io(limits: Limits, words: &[u32], end: usize, w: Walk) -> Walk
 }
 
 fn check_jtagg(limits: Limits, words: &[u32], end: usize, w: Walk) -> Walk
-    ensures { Passed w (Reader.readJtagg limits words.now end) result }
+    ensures { Passed w (Reader.read_jtagg limits words.now end) result }
 {
     check_wires(limits, words, end, w, 9)
 }
 
 fn check_pll(limits: Limits, words: &[u32], end: usize, w: Walk) -> Walk
-    ensures { Passed w (Reader.readPll limits words.now end) result }
+    ensures { Passed w (Reader.read_pll limits words.now end) result }
 {
     let w1 = check_bit(limits, words, end, w);
     let w2 = check_wire(limits, words, end, w1);
@@ -153,7 +153,7 @@ fn check_pll(limits: Limits, words: &[u32], end: usize, w: Walk) -> Walk
 // The kinds from 5 on.
 fn check_late_kind(limits: Limits, words: &[u32], end: usize, w: Walk, kind: u32) -> Walk
     requires { 5 ≤ kind }
-    ensures { Passed w (get_or (Reader.kinds limits words.now end) kind (Reader.readPll limits words.now end)) result }
+    ensures { Passed w (get_or (Reader.kinds limits words.now end) kind (Reader.read_pll limits words.now end)) result }
 {
     match kind {
         5 => check_flip_flop(limits, words, end, w),
@@ -166,7 +166,7 @@ fn check_late_kind(limits: Limits, words: &[u32], end: usize, w: Walk, kind: u32
 }
 
 fn check_kind(limits: Limits, words: &[u32], end: usize, w: Walk, kind: u32) -> Walk
-    ensures { Passed w (get_or (Reader.kinds limits words.now end) kind (Reader.readPll limits words.now end)) result }
+    ensures { Passed w (get_or (Reader.kinds limits words.now end) kind (Reader.read_pll limits words.now end)) result }
 {
     match kind {
         0 => check_lut4(limits, words, end, w),
@@ -179,7 +179,7 @@ fn check_kind(limits: Limits, words: &[u32], end: usize, w: Walk, kind: u32) -> 
 }
 
 pub fn check_cell(limits: Limits, words: &[u32], end: usize, w: Walk) -> Walk
-    ensures { Passed w (Reader.readCell limits words.now end) result }
+    ensures { Passed w (Reader.read_cell limits words.now end) result }
 {
     let w1 = check_below(words, end, w, 11);
     let kind = last(words, w1);
@@ -187,7 +187,7 @@ pub fn check_cell(limits: Limits, words: &[u32], end: usize, w: Walk) -> Walk
 }
 
 pub fn check_port(limits: Limits, words: &[u32], end: usize, w: Walk) -> Walk
-    ensures { Passed w (Reader.readPort limits words.now end) result }
+    ensures { Passed w (Reader.read_port limits words.now end) result }
 {
     let w1 = check_below(words, end, w, 3);
     let w2 = check_within(words, end, w1, 1, limits.width);

@@ -3,7 +3,7 @@
 #![tactic(auto)]
 
 ghost use Rattle.std.specs.Prelude.{◌≡◌};
-ghost use Rattle.netlist.specs.Reader.{trailerFits};
+ghost use Rattle.netlist.specs.Reader.{trailer_fits};
 ghost use Rattle.reader.specs.Checks.{Checks};
 
 mod walk; // walk.rt: one field of a record, checked
@@ -30,7 +30,7 @@ fn trailer_fits(
     start: usize,
     cells: u32,
 ) -> bool
-    ensures { result ≡ trailerFits limits end ports_at ports start cells }
+    ensures { result ≡ trailer_fits limits end ports_at ports start cells }
 {
     if ports_at != 0 {
         return false;

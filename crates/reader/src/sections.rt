@@ -1,7 +1,7 @@
 // The two sections, record by record, and 6.
 ghost use Rattle.std.specs.Prelude.{◌≡◌, ◌+◌, ◌≤◌, ◌<◌};
 ghost use Rattle.netlist.specs.Reader;
-ghost use Rattle.netlist.specs.Reader.{oneClock};
+ghost use Rattle.netlist.specs.Reader.{one_clock};
 ghost use Rattle.netlist.specs.Fields.{cell_at};
 ghost use Rattle.reader.specs.declared.walk.Walk.TheVariants.{At};
 ghost use Rattle.reader.specs.Walk.{Passed, ends_at};
@@ -43,7 +43,7 @@ fn check_end(end: usize, w: Walk) -> Walk
 }
 
 fn check_ports(limits: Limits, words: &[u32], end: usize, count: usize) -> Walk
-    ensures { Passed (At 0) (Reader.readPorts limits words.now end count) result }
+    ensures { Passed (At 0) (Reader.read_ports limits words.now end count) result }
 {
     let mut i: usize = 0;
     let mut k: usize = 0;
@@ -60,7 +60,7 @@ fn check_ports(limits: Limits, words: &[u32], end: usize, count: usize) -> Walk
 
 // Whether all ports of a cell share one clock and edge. Equal words are equal bits.
 fn one_clock(words: &[u32], at: usize) -> bool
-    ensures { result ≡ oneClock (cell_at words.now at) }
+    ensures { result ≡ one_clock (cell_at words.now at) }
 {
     if field(words, at, 0) != 6 {
         return true;
@@ -79,7 +79,7 @@ fn one_clock(words: &[u32], at: usize) -> bool
 }
 
 fn first_of(six: Found, words: &[u32], at: usize, k: usize) -> Found
-    ensures { found result ≡ first_of (found six) (oneClock (cell_at words.now at)) k }
+    ensures { found result ≡ first_of (found six) (one_clock (cell_at words.now at)) k }
 {
     let Found::Nothing = six else {
         return six;

@@ -3,7 +3,7 @@
 ghost use Rattle.std.specs.Prelude.{◌≡◌, ◌&&◌, ◌+◌, ◌<◌, leb, ltb};
 ghost use Rattle.netlist.specs.Reader;
 ghost use Rattle.netlist.specs.Reader.{base, many};
-ghost use Rattle.reader.specs.Walk.{Passed, peekOf, lastOf};
+ghost use Rattle.reader.specs.Walk.{Passed, peek_of, last_of};
 
 use netlist::Limits;
 use netlist::fields::{wide, word};
@@ -18,7 +18,7 @@ pub enum Walk {
 
 // The word that is next.
 pub fn peek(words: &[u32], w: Walk) -> u32
-    ensures { result ≡ peekOf words.now w }
+    ensures { result ≡ peek_of words.now w }
 {
     let Walk::At(i) = w else {
         return 0;
@@ -28,7 +28,7 @@ pub fn peek(words: &[u32], w: Walk) -> u32
 
 // The word that was passed last.
 pub fn last(words: &[u32], w: Walk) -> u32
-    ensures { result ≡ lastOf words.now w }
+    ensures { result ≡ last_of words.now w }
 {
     let Walk::At(i) = w else {
         return 0;
@@ -136,7 +136,7 @@ pub fn check_control(limits: Limits, words: &[u32], end: usize, w: Walk) -> Walk
 }
 
 pub fn check_optional_control(limits: Limits, words: &[u32], end: usize, w: Walk) -> Walk
-    ensures { Passed w (Reader.optionalControl limits words.now end) result }
+    ensures { Passed w (Reader.optional_control limits words.now end) result }
 {
     let w1 = check_below(words, end, w, 2);
     if last(words, w1) == 0 {
@@ -147,7 +147,7 @@ pub fn check_optional_control(limits: Limits, words: &[u32], end: usize, w: Walk
 }
 
 pub fn check_optional_reset(limits: Limits, words: &[u32], end: usize, w: Walk) -> Walk
-    ensures { Passed w (Reader.optionalReset limits words.now end) result }
+    ensures { Passed w (Reader.optional_reset limits words.now end) result }
 {
     let w1 = check_below(words, end, w, 2);
     if last(words, w1) == 0 {

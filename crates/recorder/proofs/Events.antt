@@ -6,36 +6,36 @@ use native.Mathlib.Nat.{add-zero}
 use native.Mathlib.Omega.{arith}
 use lib.ListN.{length, length-append}
 use Rattle.recorder.specs.Record.{Signal, Expr, Stmt}
-use Rattle.recorder.specs.Writer.{Event, Event.signal, Event.expr, Event.stmt, signalsOf, exprsOf, stmtsOf, Count, further, End, End.ok, End.no, Writer, pure, refuse, after, ◌>>=◌}
+use Rattle.recorder.specs.Writer.{Event, Event.signal, Event.expr, Event.stmt, signals_of, exprs_of, stmts_of, Count, further, End, End.ok, End.no, Writer, pure, refuse, after, ◌>>=◌}
 
 -- ---- the lists of joined events
 
-pub signals-append : (xs ys : List Event) → signalsOf (xs ++ ys) ≡ signalsOf xs ++ signalsOf ys
-signals-append [] ys = refl
-signals-append (signal s ∷ xs) ys = ap (λ (l : List Signal). s ∷ l) (signals-append xs ys)
-signals-append (expr x ∷ xs) ys = signals-append xs ys
-signals-append (stmt t ∷ xs) ys = signals-append xs ys
+pub signals_append : (xs ys : List Event) → signals_of (xs ++ ys) ≡ signals_of xs ++ signals_of ys
+signals_append [] ys = refl
+signals_append (signal s ∷ xs) ys = ap (λ (l : List Signal). s ∷ l) (signals_append xs ys)
+signals_append (expr x ∷ xs) ys = signals_append xs ys
+signals_append (stmt t ∷ xs) ys = signals_append xs ys
 
-pub exprs-append : (xs ys : List Event) → exprsOf (xs ++ ys) ≡ exprsOf xs ++ exprsOf ys
-exprs-append [] ys = refl
-exprs-append (signal s ∷ xs) ys = exprs-append xs ys
-exprs-append (expr x ∷ xs) ys = ap (λ (l : List Expr). x ∷ l) (exprs-append xs ys)
-exprs-append (stmt t ∷ xs) ys = exprs-append xs ys
+pub exprs_append : (xs ys : List Event) → exprs_of (xs ++ ys) ≡ exprs_of xs ++ exprs_of ys
+exprs_append [] ys = refl
+exprs_append (signal s ∷ xs) ys = exprs_append xs ys
+exprs_append (expr x ∷ xs) ys = ap (λ (l : List Expr). x ∷ l) (exprs_append xs ys)
+exprs_append (stmt t ∷ xs) ys = exprs_append xs ys
 
-pub stmts-append : (xs ys : List Event) → stmtsOf (xs ++ ys) ≡ stmtsOf xs ++ stmtsOf ys
-stmts-append [] ys = refl
-stmts-append (signal s ∷ xs) ys = stmts-append xs ys
-stmts-append (expr x ∷ xs) ys = stmts-append xs ys
-stmts-append (stmt t ∷ xs) ys = ap (λ (l : List Stmt). t ∷ l) (stmts-append xs ys)
+pub stmts_append : (xs ys : List Event) → stmts_of (xs ++ ys) ≡ stmts_of xs ++ stmts_of ys
+stmts_append [] ys = refl
+stmts_append (signal s ∷ xs) ys = stmts_append xs ys
+stmts_append (expr x ∷ xs) ys = stmts_append xs ys
+stmts_append (stmt t ∷ xs) ys = ap (λ (l : List Stmt). t ∷ l) (stmts_append xs ys)
 
-pub further-append : (n : Count) (xs ys : List Event) → further n (xs ++ ys) ≡ further (further n xs) ys
-further-append n xs ys =
-    let p : n.signals + length (signalsOf (xs ++ ys)) ≡ n.signals + length (signalsOf xs) + length (signalsOf ys) =
-    omega (arith, ap length (signals-append xs ys) ∙ length-append (signalsOf xs) (signalsOf ys)) in
-    let q : n.exprs + length (exprsOf (xs ++ ys)) ≡ n.exprs + length (exprsOf xs) + length (exprsOf ys) =
-    omega (arith, ap length (exprs-append xs ys) ∙ length-append (exprsOf xs) (exprsOf ys)) in
-    let r : n.stmts + length (stmtsOf (xs ++ ys)) ≡ n.stmts + length (stmtsOf xs) + length (stmtsOf ys) =
-    omega (arith, ap length (stmts-append xs ys) ∙ length-append (stmtsOf xs) (stmtsOf ys)) in
+pub further_append : (n : Count) (xs ys : List Event) → further n (xs ++ ys) ≡ further (further n xs) ys
+further_append n xs ys =
+    let p : n.signals + length (signals_of (xs ++ ys)) ≡ n.signals + length (signals_of xs) + length (signals_of ys) =
+    omega (arith, ap length (signals_append xs ys) ∙ length-append (signals_of xs) (signals_of ys)) in
+    let q : n.exprs + length (exprs_of (xs ++ ys)) ≡ n.exprs + length (exprs_of xs) + length (exprs_of ys) =
+    omega (arith, ap length (exprs_append xs ys) ∙ length-append (exprs_of xs) (exprs_of ys)) in
+    let r : n.stmts + length (stmts_of (xs ++ ys)) ≡ n.stmts + length (stmts_of xs) + length (stmts_of ys) =
+    omega (arith, ap length (stmts_append xs ys) ∙ length-append (stmts_of xs) (stmts_of ys)) in
     λ i. record { signals = p i; exprs = q i; stmts = r i }
 
 -- ---- one writer after another
@@ -46,26 +46,26 @@ module _ {A B : Type 0} where
   unfolding ◌>>=◌
   bind_ok w k n h = ap (λ (y : End A). after (w n).events y (further n (w n).events) k) h
 
-  pub bind-no : {a b : ℕ} (w : Writer A) (k : A → Writer B) (n : Count) → (w n).end ≡ no a b
+  pub bind_no : {a b : ℕ} (w : Writer A) (k : A → Writer B) (n : Count) → (w n).end ≡ no a b
       → (w >>= k) n ≡ record { events = (w n).events; end = no a b }
   unfolding ◌>>=◌
-  bind-no w k n h = ap (λ (y : End A). after (w n).events y (further n (w n).events) k) h
+  bind_no w k n h = ap (λ (y : End A). after (w n).events y (further n (w n).events) k) h
 
   -- nothing first, or a refusal
-  pub bind-pure : (a : A) (k : A → Writer B) → (pure a >>= k) ≡ k a
+  pub bind_pure : (a : A) (k : A → Writer B) → (pure a >>= k) ≡ k a
   unfolding ◌>>=◌
-  bind-pure a k = fun_ext (λ n. ap (k a) (λ i. record { signals = add-zero n.signals i; exprs = add-zero n.exprs i; stmts = add-zero n.stmts i }))
+  bind_pure a k = fun_ext (λ n. ap (k a) (λ i. record { signals = add-zero n.signals i; exprs = add-zero n.exprs i; stmts = add-zero n.stmts i }))
 
-  pub bind-refuse : (x y : ℕ) (k : A → Writer B) → (refuse x y >>= k) ≡ refuse x y
+  pub bind_refuse : (x y : ℕ) (k : A → Writer B) → (refuse x y >>= k) ≡ refuse x y
   unfolding ◌>>=◌
-  bind-refuse x y k = refl
+  bind_refuse x y k = refl
 
 -- three in a row
 module _ {A B C : Type 0} (w : Writer A) (f : A → Writer B) (g : B → Writer C) where
   inner : (n : Count) (es fs : List Event) (m : Count) → m ≡ further (further n es) fs → (y : End B)
       → after (es ++ fs) y (further n (es ++ fs)) g ≡ record { events = es ++ (after fs y m g).events; end = (after fs y m g).end }
   inner n es fs m e (ok b) =
-      let q : further n (es ++ fs) ≡ m = further-append n es fs ∙ sym e in
+      let q : further n (es ++ fs) ≡ m = further_append n es fs ∙ sym e in
       ap (λ (k : Count). record { events = (es ++ fs) ++ (g b k).events; end = (g b k).end }) q ∙ ap (λ (l : List Event). record { events = l; end = (g b m).end }) (append_assoc es fs (g b m).events)
   inner n es fs m e (no x y) = refl
 

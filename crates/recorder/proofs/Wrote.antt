@@ -10,19 +10,19 @@ use Rattle.bits.specs.Bits.{pick}
 use Rattle.recorder.specs.declared.Tapes.{Tapes}
 use Rattle.recorder.specs.declared.Put.{Put}
 use Rattle.recorder.specs.declared.Put.TheVariants.{At, Full}
-use Rattle.recorder.specs.Record.{Signal, Expr, Stmt, signalWords, exprWords, stmtWords}
-use Rattle.recorder.specs.Writer.{Event, Event.signal, Event.expr, Event.stmt, signalsOf, exprsOf, stmtsOf, Count, further, End, End.ok, End.no, Writer, pure, refuse, declare, emit, state, after, ◌>>=◌}
-use Rattle.recorder.specs.Lists.{fits, put_of, put_in, Recorded, Lists, lists, tapes, count_of, Played, Played.going, Played.full, list_of, hasRoom, laid, advanced, put, onward, play, Answer, Answer.Done, Answer.Failed, Left, finish, writing, Wrote, WroteSignals, WroteExprs, WroteStmts}
+use Rattle.recorder.specs.Record.{Signal, Expr, Stmt, signal_words, expr_words, stmt_words}
+use Rattle.recorder.specs.Writer.{Event, Event.signal, Event.expr, Event.stmt, signals_of, exprs_of, stmts_of, Count, further, End, End.ok, End.no, Writer, pure, refuse, declare, emit, state, after, ◌>>=◌}
+use Rattle.recorder.specs.Lists.{fits, put_of, put_in, Recorded, Lists, lists, tapes, count_of, Played, Played.going, Played.full, list_of, has_room, laid, advanced, put, onward, play, Answer, Answer.Done, Answer.Failed, Left, finish, writing, Wrote, WroteSignals, WroteExprs, WroteStmts}
 
 one_more : (a b : ℕ) → a + 1 + b ≡ a + suc b
 one_more a b = omega arith
 
 -- PLAYING
 
-pub play-append : (xs ys : List Event) (l : Lists) (t : Tapes) → play l t (xs ++ ys) ≡ onward (play l t xs) (λ l' t'. play l' t' ys)
+pub play_append : (xs ys : List Event) (l : Lists) (t : Tapes) → play l t (xs ++ ys) ≡ onward (play l t xs) (λ l' t'. play l' t' ys)
 unfolding play
-play-append [] ys l t = refl
-play-append (e ∷ xs) ys l t = go (put l t e) (λ l' t'. play-append xs ys l' t')
+play_append [] ys l t = refl
+play_append (e ∷ xs) ys l t = go (put l t e) (λ l' t'. play_append xs ys l' t')
   where
     go : (p : Played) → ((l' : Lists) (t' : Tapes) → play l' t' (xs ++ ys) ≡ onward (play l' t' xs) (λ k u. play k u ys))
         → onward p (λ l' t'. play l' t' (xs ++ ys)) ≡ onward (onward p (λ l' t'. play l' t' xs)) (λ l' t'. play l' t' ys)
@@ -30,18 +30,18 @@ play-append (e ∷ xs) ys l t = go (put l t e) (λ l' t'. play-append xs ys l' t
     go (full i l') ih = refl
 
 -- each record takes the next number of its list
-count-one : (t : Tapes) (e : Event) (xs : List Event) → further (count_of (advanced t e)) xs ≡ further (count_of t) (e ∷ xs)
-count-one t (signal s) xs = λ i. record { signals = one_more t.signals.count (length (signalsOf xs)) i; exprs = t.exprs.count + length (exprsOf xs); stmts = t.stmts.count + length (stmtsOf xs) }
-count-one t (expr x) xs = λ i. record { signals = t.signals.count + length (signalsOf xs); exprs = one_more t.exprs.count (length (exprsOf xs)) i; stmts = t.stmts.count + length (stmtsOf xs) }
-count-one t (stmt x) xs = λ i. record { signals = t.signals.count + length (signalsOf xs); exprs = t.exprs.count + length (exprsOf xs); stmts = one_more t.stmts.count (length (stmtsOf xs)) i }
+count_one : (t : Tapes) (e : Event) (xs : List Event) → further (count_of (advanced t e)) xs ≡ further (count_of t) (e ∷ xs)
+count_one t (signal s) xs = λ i. record { signals = one_more t.signals.count (length (signals_of xs)) i; exprs = t.exprs.count + length (exprs_of xs); stmts = t.stmts.count + length (stmts_of xs) }
+count_one t (expr x) xs = λ i. record { signals = t.signals.count + length (signals_of xs); exprs = one_more t.exprs.count (length (exprs_of xs)) i; stmts = t.stmts.count + length (stmts_of xs) }
+count_one t (stmt x) xs = λ i. record { signals = t.signals.count + length (signals_of xs); exprs = t.exprs.count + length (exprs_of xs); stmts = one_more t.stmts.count (length (stmts_of xs)) i }
 
-pub play-counts : (es : List Event) (l : Lists) (t : Tapes) {l' : Lists} {t' : Tapes} → play l t es ≡ going l' t' → count_of t' ≡ further (count_of t) es
+pub play_counts : (es : List Event) (l : Lists) (t : Tapes) {l' : Lists} {t' : Tapes} → play l t es ≡ going l' t' → count_of t' ≡ further (count_of t) es
 unfolding play
-play-counts [] l t {l'} {t'} q =
+play_counts [] l t {l'} {t'} q =
     let e : t ≡ t' = cc in
     sym (ap count_of e)
     ∙ (λ i. record { signals = sym (add-zero t.signals.count) i; exprs = sym (add-zero t.exprs.count) i; stmts = sym (add-zero t.stmts.count) i })
-play-counts (e ∷ es) l t {l'} {t'} q = go (hasRoom l t e) (λ h. play-counts es (laid l t e) (advanced t e) h ∙ count-one t e es) q
+play_counts (e ∷ es) l t {l'} {t'} q = go (has_room l t e) (λ h. play_counts es (laid l t e) (advanced t e) h ∙ count_one t e es) q
   where
     go : (b : Bool) → (play (laid l t e) (advanced t e) es ≡ going l' t' → count_of t' ≡ further (count_of t) (e ∷ es))
         → onward (pick b (going (laid l t e) (advanced t e)) (full (list_of e) l)) (λ k u. play k u es) ≡ going l' t' → count_of t' ≡ further (count_of t) (e ∷ es)
@@ -63,7 +63,7 @@ module _ {A B : Type 0} (l : Lists) (t : Tapes) (w : Writer A) (k : A → Writer
 
   goes : (a : A) (p : Played) → play l t es ≡ p
       → finish (onward p (λ l' t'. play l' t' (k a m).events)) (k a m).end ≡ chained (finish p (ok a)).answer (finish p (ok a)).lists (λ b u l'. writing l' u (k b))
-  goes a (going l' t') q = ap (λ (n : Count). finish (play l' t' (k a n).events) (k a n).end) (sym (play-counts es l t q))
+  goes a (going l' t') q = ap (λ (n : Count). finish (play l' t' (k a n).events) (k a n).end) (sym (play_counts es l t q))
   goes a (full i l') q = refl
 
   stops : (number place : ℕ) (p : Played)
@@ -72,28 +72,28 @@ module _ {A B : Type 0} (l : Lists) (t : Tapes) (w : Writer A) (k : A → Writer
   stops number place (full i l') = refl
 
   go : (y : End A) → finish (play l t (after es y m k).events) (after es y m k).end ≡ chained (finish (play l t es) y).answer (finish (play l t es) y).lists (λ b u l'. writing l' u (k b))
-  go (ok a) = ap (λ (p : Played). finish p (k a m).end) (play-append es (k a m).events l t) ∙ goes a (play l t es) refl
+  go (ok a) = ap (λ (p : Played). finish p (k a m).end) (play_append es (k a m).events l t) ∙ goes a (play l t es) refl
   go (no number place) = stops number place (play l t es)
 
-  pub writing-bind : writing l t (w >>= k) ≡ chained (writing l t w).answer (writing l t w).lists (λ b u l'. writing l' u (k b))
+  pub writing_bind : writing l t (w >>= k) ≡ chained (writing l t w).answer (writing l t w).lists (λ b u l'. writing l' u (k b))
   unfolding ◌>>=◌
-  writing-bind = go (w (count_of t)).end
+  writing_bind = go (w (count_of t)).end
 
 module _ {A B : Type 0} {l : Lists} {t : Tapes} {w : Writer A} {r : Answer A} {l₁ : Lists} (first : Wrote l t w r l₁) (k : A → Writer B) where
   joined : {r₂ : Answer B} {l₂ : Lists} → chained r l₁ (λ b u l'. writing l' u (k b)) ≡ record { answer = r₂; lists = l₂ } → Wrote l t (w >>= k) r₂ l₂
-  joined q = record { wrote = writing-bind l t w k ∙ ap (λ (x : Left A). chained x.answer x.lists (λ b u l'. writing l' u (k b))) first.wrote ∙ q }
+  joined q = record { wrote = writing_bind l t w k ∙ ap (λ (x : Left A). chained x.answer x.lists (λ b u l'. writing l' u (k b))) first.wrote ∙ q }
 
   -- it went well: the next goes on from its tapes and lists
-  pub then-done : {a : A} {u : Tapes} {r₂ : Answer B} {l₂ : Lists} → r ≡ Done a u → Wrote l₁ u (k a) r₂ l₂ → Wrote l t (w >>= k) r₂ l₂
-  then-done d next = joined (ap (λ (x : Answer A). chained x l₁ (λ b u l'. writing l' u (k b))) d ∙ next.wrote)
+  pub then_done : {a : A} {u : Tapes} {r₂ : Answer B} {l₂ : Lists} → r ≡ Done a u → Wrote l₁ u (k a) r₂ l₂ → Wrote l t (w >>= k) r₂ l₂
+  then_done d next = joined (ap (λ (x : Answer A). chained x l₁ (λ b u l'. writing l' u (k b))) d ∙ next.wrote)
 
   -- it did not: that is the answer of both
-  pub then-stop : {number place : ℕ} → r ≡ Failed number place → Wrote l t (w >>= k) (Failed number place) l₁
-  then-stop d = joined (ap (λ (x : Answer A). chained x l₁ (λ b u l'. writing l' u (k b))) d)
+  pub then_stop : {number place : ℕ} → r ≡ Failed number place → Wrote l t (w >>= k) (Failed number place) l₁
+  then_stop d = joined (ap (λ (x : Answer A). chained x l₁ (λ b u l'. writing l' u (k b))) d)
 
 -- the same where both answer alike, and the first's answer is handed on
 pub then_same : {A : Type 0} {l : Lists} {t : Tapes} {w : Writer A} {r : Answer A} {l₁ : Lists} → Wrote l t w r l₁ → (k : A → Writer A) {number place : ℕ} → r ≡ Failed number place → Wrote l t (w >>= k) r l₁
-then_same {l = l} {t = t} {w = w} {l₁ = l₁} h k d = subst (λ (x : Answer _). Wrote l t (w >>= k) x l₁) (sym d) (then-stop h k d)
+then_same {l = l} {t = t} {w = w} {l₁ = l₁} h k d = subst (λ (x : Answer _). Wrote l t (w >>= k) x l₁) (sym d) (then_stop h k d)
 
 -- another name for what is written
 pub wrote_as : {A : Type 0} {l : Lists} {t : Tapes} {w w' : Writer A} {r : Answer A} {l' : Lists} → w' ≡ w → Wrote l t w r l' → Wrote l t w' r l'
@@ -101,53 +101,53 @@ wrote_as {l = l} {t = t} {r = r} {l' = l'} e h = subst (λ (x : Writer _). Wrote
 
 -- NO RECORD
 
-pub wrote-pure : {A : Type 0} {l : Lists} {t : Tapes} {a : A} → Wrote l t (pure a) (Done a t) l
+pub wrote_pure : {A : Type 0} {l : Lists} {t : Tapes} {a : A} → Wrote l t (pure a) (Done a t) l
 unfolding play
-wrote-pure = record { wrote = refl }
+wrote_pure = record { wrote = refl }
 
-pub wrote-refuse : {A : Type 0} {l : Lists} {t : Tapes} {number place : ℕ} → Wrote {A = A} l t (refuse number place) (Failed number place) l
+pub wrote_refuse : {A : Type 0} {l : Lists} {t : Tapes} {number place : ℕ} → Wrote {A = A} l t (refuse number place) (Failed number place) l
 unfolding play
-wrote-refuse = record { wrote = refl }
+wrote_refuse = record { wrote = refl }
 
 -- ONE RECORD: what its list's tape answers is the answer
 
-abbrev pub signalAnswer : Tapes → Put → Answer ℕ
-signalAnswer t (At n u) = Done n (tapes u t.exprs t.stmts)
-signalAnswer t Full = Failed 2 0
+abbrev pub signal_answer : Tapes → Put → Answer ℕ
+signal_answer t (At n u) = Done n (tapes u t.exprs t.stmts)
+signal_answer t Full = Failed 2 0
 
-abbrev pub exprAnswer : Tapes → Put → Answer ℕ
-exprAnswer t (At n u) = Done n (tapes t.signals u t.stmts)
-exprAnswer t Full = Failed 2 1
+abbrev pub expr_answer : Tapes → Put → Answer ℕ
+expr_answer t (At n u) = Done n (tapes t.signals u t.stmts)
+expr_answer t Full = Failed 2 1
 
-abbrev pub stmtAnswer : Tapes → Put → Answer (Unit {0})
-stmtAnswer t (At n u) = Done tt (tapes t.signals t.exprs u)
-stmtAnswer t Full = Failed 2 2
+abbrev pub stmt_answer : Tapes → Put → Answer (Unit {0})
+stmt_answer t (At n u) = Done tt (tapes t.signals t.exprs u)
+stmt_answer t Full = Failed 2 2
 
 module _ {t : Tapes} {r : Put} {old new : List ℕ} where
-  pub wrote-signal : {s : Signal} → Recorded old t.signals (signalWords s) r new → WroteSignals old t (declare s) (signalAnswer t r) new
+  pub wrote_signal : {s : Signal} → Recorded old t.signals (signal_words s) r new → WroteSignals old t (declare s) (signal_answer t r) new
   unfolding play
-  wrote-signal {s} h e m = record { wrote = go _ refl ∙ (λ i. record { answer = signalAnswer t (sym h.said i); lists = lists (sym h.held i) e m }) }
+  wrote_signal {s} h e m = record { wrote = go _ refl ∙ (λ i. record { answer = signal_answer t (sym h.said i); lists = lists (sym h.held i) e m }) }
     where
-      go : (b : Bool) → fits (length old) t.signals (length (signalWords s)) ≡ b
-          → writing (lists old e m) t (declare s) ≡ record { answer = signalAnswer t (put_of (length old) t.signals (length (signalWords s))); lists = lists (put_in old t.signals (signalWords s)) e m }
+      go : (b : Bool) → fits (length old) t.signals (length (signal_words s)) ≡ b
+          → writing (lists old e m) t (declare s) ≡ record { answer = signal_answer t (put_of (length old) t.signals (length (signal_words s))); lists = lists (put_in old t.signals (signal_words s)) e m }
       go true q = rw q
       go false q = rw q
 
-  pub wrote-expr : {x : Expr} → Recorded old t.exprs (exprWords x) r new → WroteExprs old t (emit x) (exprAnswer t r) new
+  pub wrote_expr : {x : Expr} → Recorded old t.exprs (expr_words x) r new → WroteExprs old t (emit x) (expr_answer t r) new
   unfolding play
-  wrote-expr {x} h s m = record { wrote = go _ refl ∙ (λ i. record { answer = exprAnswer t (sym h.said i); lists = lists s (sym h.held i) m }) }
+  wrote_expr {x} h s m = record { wrote = go _ refl ∙ (λ i. record { answer = expr_answer t (sym h.said i); lists = lists s (sym h.held i) m }) }
     where
-      go : (b : Bool) → fits (length old) t.exprs (length (exprWords x)) ≡ b
-          → writing (lists s old m) t (emit x) ≡ record { answer = exprAnswer t (put_of (length old) t.exprs (length (exprWords x))); lists = lists s (put_in old t.exprs (exprWords x)) m }
+      go : (b : Bool) → fits (length old) t.exprs (length (expr_words x)) ≡ b
+          → writing (lists s old m) t (emit x) ≡ record { answer = expr_answer t (put_of (length old) t.exprs (length (expr_words x))); lists = lists s (put_in old t.exprs (expr_words x)) m }
       go true q = rw q
       go false q = rw q
 
-  pub wrote-stmt : {x : Stmt} → Recorded old t.stmts (stmtWords x) r new → WroteStmts old t (state x) (stmtAnswer t r) new
+  pub wrote_stmt : {x : Stmt} → Recorded old t.stmts (stmt_words x) r new → WroteStmts old t (state x) (stmt_answer t r) new
   unfolding play
-  wrote-stmt {x} h s e = record { wrote = go _ refl ∙ (λ i. record { answer = stmtAnswer t (sym h.said i); lists = lists s e (sym h.held i) }) }
+  wrote_stmt {x} h s e = record { wrote = go _ refl ∙ (λ i. record { answer = stmt_answer t (sym h.said i); lists = lists s e (sym h.held i) }) }
     where
-      go : (b : Bool) → fits (length old) t.stmts (length (stmtWords x)) ≡ b
-          → writing (lists s e old) t (state x) ≡ record { answer = stmtAnswer t (put_of (length old) t.stmts (length (stmtWords x))); lists = lists s e (put_in old t.stmts (stmtWords x)) }
+      go : (b : Bool) → fits (length old) t.stmts (length (stmt_words x)) ≡ b
+          → writing (lists s e old) t (state x) ≡ record { answer = stmt_answer t (put_of (length old) t.stmts (length (stmt_words x))); lists = lists s e (put_in old t.stmts (stmt_words x)) }
       go true q = rw q
       go false q = rw q
 
@@ -160,15 +160,15 @@ module _ {A : Type 0} {l₀ : Lists} {t₀ : Tapes} {whole : Writer A} where
   pub going_start : {w : Writer A} → whole ≡ w → Going l₀ t₀ whole l₀ t₀ w
   going_start e = record { ends = λ r l' h. wrote_as e h }
 
-  module _ {l : Lists} {t : Tapes} {B : Type 0} {w : Writer B} (k : B → Writer A) {left : Writer A} (Going-on : Going l₀ t₀ whole l t left) (is : left ≡ (w >>= k)) {r : Answer B} {l₁ : Lists} (h : Wrote l t w r l₁) where
+  module _ {l : Lists} {t : Tapes} {B : Type 0} {w : Writer B} (k : B → Writer A) {left : Writer A} (going_on : Going l₀ t₀ whole l t left) (is : left ≡ (w >>= k)) {r : Answer B} {l₁ : Lists} (h : Wrote l t w r l₁) where
     pub going_step : {a : B} {u : Tapes} → r ≡ Done a u → Going l₀ t₀ whole l₁ u (k a)
-    going_step d = record { ends = λ q l' g. Going-on.ends q l' (wrote_as is (then-done h k d g)) }
+    going_step d = record { ends = λ q l' g. going_on.ends q l' (wrote_as is (then_done h k d g)) }
 
-    pub going-stop : {number place : ℕ} → r ≡ Failed number place → Wrote l₀ t₀ whole (Failed number place) l₁
-    going-stop d = Going-on.ends _ _ (wrote_as is (then-stop h k d))
+    pub going_stop : {number place : ℕ} → r ≡ Failed number place → Wrote l₀ t₀ whole (Failed number place) l₁
+    going_stop d = going_on.ends _ _ (wrote_as is (then_stop h k d))
 
-  pub going-same : {l : Lists} {t : Tapes} {w : Writer A} (k : A → Writer A) {left : Writer A} → Going l₀ t₀ whole l t left → left ≡ (w >>= k) → {r : Answer A} {l₁ : Lists} → Wrote l t w r l₁ → {number place : ℕ} → r ≡ Failed number place → Wrote l₀ t₀ whole r l₁
-  going-same k g is {l₁ = l₁} h d = subst (λ (x : Answer A). Wrote l₀ t₀ whole x l₁) (sym d) (going-stop k g is h d)
+  pub going_same : {l : Lists} {t : Tapes} {w : Writer A} (k : A → Writer A) {left : Writer A} → Going l₀ t₀ whole l t left → left ≡ (w >>= k) → {r : Answer A} {l₁ : Lists} → Wrote l t w r l₁ → {number place : ℕ} → r ≡ Failed number place → Wrote l₀ t₀ whole r l₁
+  going_same k g is {l₁ = l₁} h d = subst (λ (x : Answer A). Wrote l₀ t₀ whole x l₁) (sym d) (going_stop k g is h d)
 
   pub going_end : {l : Lists} {t : Tapes} {w left : Writer A} {r : Answer A} {l' : Lists} → Going l₀ t₀ whole l t left → left ≡ w → Wrote l t w r l' → Wrote l₀ t₀ whole r l'
   going_end g is h = g.ends _ _ (wrote_as is h)

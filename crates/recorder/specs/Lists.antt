@@ -18,7 +18,7 @@ use Rattle.recorder.specs.declared.AsyncReset.{AsyncReset}
 use Rattle.recorder.specs.declared.AsyncReset.TheVariants as R
 use Rattle.recorder.specs.declared.Enable.{Enable}
 use Rattle.recorder.specs.declared.Enable.TheVariants as N
-use Rattle.recorder.specs.Record.{Signal, Expr, Stmt, RegReset, RegEnable, signalWords, exprWords, stmtWords}
+use Rattle.recorder.specs.Record.{Signal, Expr, Stmt, RegReset, RegEnable, signal_words, expr_words, stmt_words}
 use Rattle.recorder.specs.Writer.{Event, Event.signal, Event.expr, Event.stmt, Count, End, End.ok, End.no, Writer, declare, emit, state}
 
 -- ONE LIST
@@ -74,23 +74,23 @@ list_of (signal s) = 0
 list_of (expr x) = 1
 list_of (stmt x) = 2
 
-abbrev pub hasRoom : Lists → Tapes → Event → Bool
-hasRoom l t (signal s) = fits (length l.signals) t.signals (length (signalWords s))
-hasRoom l t (expr x) = fits (length l.exprs) t.exprs (length (exprWords x))
-hasRoom l t (stmt x) = fits (length l.stmts) t.stmts (length (stmtWords x))
+abbrev pub has_room : Lists → Tapes → Event → Bool
+has_room l t (signal s) = fits (length l.signals) t.signals (length (signal_words s))
+has_room l t (expr x) = fits (length l.exprs) t.exprs (length (expr_words x))
+has_room l t (stmt x) = fits (length l.stmts) t.stmts (length (stmt_words x))
 
 abbrev pub laid : Lists → Tapes → Event → Lists
-laid l t (signal s) = lists (over l.signals t.signals.used (signalWords s)) l.exprs l.stmts
-laid l t (expr x) = lists l.signals (over l.exprs t.exprs.used (exprWords x)) l.stmts
-laid l t (stmt x) = lists l.signals l.exprs (over l.stmts t.stmts.used (stmtWords x))
+laid l t (signal s) = lists (over l.signals t.signals.used (signal_words s)) l.exprs l.stmts
+laid l t (expr x) = lists l.signals (over l.exprs t.exprs.used (expr_words x)) l.stmts
+laid l t (stmt x) = lists l.signals l.exprs (over l.stmts t.stmts.used (stmt_words x))
 
 abbrev pub advanced : Tapes → Event → Tapes
-advanced t (signal s) = tapes (behind t.signals (length (signalWords s))) t.exprs t.stmts
-advanced t (expr x) = tapes t.signals (behind t.exprs (length (exprWords x))) t.stmts
-advanced t (stmt x) = tapes t.signals t.exprs (behind t.stmts (length (stmtWords x)))
+advanced t (signal s) = tapes (behind t.signals (length (signal_words s))) t.exprs t.stmts
+advanced t (expr x) = tapes t.signals (behind t.exprs (length (expr_words x))) t.stmts
+advanced t (stmt x) = tapes t.signals t.exprs (behind t.stmts (length (stmt_words x)))
 
 abbrev pub put : Lists → Tapes → Event → Played
-put l t e = pick (hasRoom l t e) (going (laid l t e) (advanced t e)) (full (list_of e) l)
+put l t e = pick (has_room l t e) (going (laid l t e) (advanced t e)) (full (list_of e) l)
 
 abbrev pub onward : Played → (Lists → Tapes → Played) → Played
 onward (going l t) k = k l t
@@ -141,13 +141,13 @@ WroteBoth e m t w r e' m' = (s : List ℕ) → Wrote (lists s e m) t w r (lists 
 
 -- of a call that was handed the words of some record
 abbrev pub PushedSignal : List ℕ → List ℕ → Tapes → Answer ℕ → List ℕ → Type 0
-PushedSignal ws s t r s' = (x : Signal) → signalWords x ≡ ws → WroteSignals s t (declare x) r s'
+PushedSignal ws s t r s' = (x : Signal) → signal_words x ≡ ws → WroteSignals s t (declare x) r s'
 
 abbrev pub PushedExpr : List ℕ → List ℕ → Tapes → Answer ℕ → List ℕ → Type 0
-PushedExpr ws e t r e' = (x : Expr) → exprWords x ≡ ws → WroteExprs e t (emit x) r e'
+PushedExpr ws e t r e' = (x : Expr) → expr_words x ≡ ws → WroteExprs e t (emit x) r e'
 
 abbrev pub PushedStmt : List ℕ → List ℕ → Tapes → Answer (Unit {0}) → List ℕ → Type 0
-PushedStmt ws m t r m' = (x : Stmt) → stmtWords x ≡ ws → WroteStmts m t (state x) r m'
+PushedStmt ws m t r m' = (x : Stmt) → stmt_words x ≡ ws → WroteStmts m t (state x) r m'
 
 -- the code's answers, as numbers and values
 abbrev pub emitted : Emitted → Answer ℕ
@@ -163,10 +163,10 @@ stated (S.Done t) = Done tt t
 stated (S.Refused x) = Failed (number_of x) (place_of x)
 
 -- a register's controls, as its record has them
-abbrev pub resetOf : AsyncReset → Option RegReset
-resetOf R.Absent = none
-resetOf (R.Present s a v) = some (record { signal = s.0; active = a; value = v.0 })
+abbrev pub reset_of : AsyncReset → Option RegReset
+reset_of R.Absent = none
+reset_of (R.Present s a v) = some (record { signal = s.0; active = a; value = v.0 })
 
-abbrev pub enableOf : Enable → Option RegEnable
-enableOf N.Absent = none
-enableOf (N.Present s a) = some (record { signal = s.0; active = a })
+abbrev pub enable_of : Enable → Option RegEnable
+enable_of N.Absent = none
+enable_of (N.Present s a) = some (record { signal = s.0; active = a })

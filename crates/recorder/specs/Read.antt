@@ -47,8 +47,8 @@ abbrev pub only : {A : Type 0} → Bool → Option A → Option A
 only true o = o
 only false o = none
 
-abbrev pub readSignal : List ℕ → Option Signal
-readSignal = three (λ l w o. record { label = l; width = w; owner = o })
+abbrev pub read_signal : List ℕ → Option Signal
+read_signal = three (λ l w o. record { label = l; width = w; owner = o })
 
 -- by kind: from the width and the operands
 abbrev pub kinds : List (ℕ → List ℕ → Option Expr)
@@ -65,41 +65,41 @@ kinds =
     ∷ (λ w l. only (eqb w 36) (two mul l))
     ∷ []
 
-abbrev pub readExpr : List ℕ → Option Expr
-readExpr [] = none
-readExpr (k ∷ []) = none
-readExpr (k ∷ w ∷ l) = get_or kinds k (λ w' l'. none) w l
+abbrev pub read_expr : List ℕ → Option Expr
+read_expr [] = none
+read_expr (k ∷ []) = none
+read_expr (k ∷ w ∷ l) = get_or kinds k (λ w' l'. none) w l
 
 -- a reset is 0, or 1 and its three fields, before what follows
-abbrev pub withReset : {A : Type 0} → (Option RegReset → List ℕ → Option A) → List ℕ → Option A
-withReset f [] = none
-withReset f (zero ∷ l) = f none l
-withReset f (suc zero ∷ []) = none
-withReset f (suc zero ∷ s ∷ []) = none
-withReset f (suc zero ∷ s ∷ a ∷ []) = none
-withReset f (suc zero ∷ s ∷ a ∷ v ∷ l) = f (some (record { signal = s; active = a; value = v })) l
-withReset f (suc (suc n) ∷ l) = none
+abbrev pub with_reset : {A : Type 0} → (Option RegReset → List ℕ → Option A) → List ℕ → Option A
+with_reset f [] = none
+with_reset f (zero ∷ l) = f none l
+with_reset f (suc zero ∷ []) = none
+with_reset f (suc zero ∷ s ∷ []) = none
+with_reset f (suc zero ∷ s ∷ a ∷ []) = none
+with_reset f (suc zero ∷ s ∷ a ∷ v ∷ l) = f (some (record { signal = s; active = a; value = v })) l
+with_reset f (suc (suc n) ∷ l) = none
 
 -- an enable, 0 or 1 and its two fields, comes last
-abbrev pub withEnable : {A : Type 0} → (Option RegEnable → A) → List ℕ → Option A
-withEnable f [] = none
-withEnable f (zero ∷ []) = some (f none)
-withEnable f (zero ∷ a ∷ l) = none
-withEnable f (suc zero ∷ l) = two (λ s a. f (some (record { signal = s; active = a }))) l
-withEnable f (suc (suc n) ∷ l) = none
+abbrev pub with_enable : {A : Type 0} → (Option RegEnable → A) → List ℕ → Option A
+with_enable f [] = none
+with_enable f (zero ∷ []) = some (f none)
+with_enable f (zero ∷ a ∷ l) = none
+with_enable f (suc zero ∷ l) = two (λ s a. f (some (record { signal = s; active = a }))) l
+with_enable f (suc (suc n) ∷ l) = none
 
-abbrev pub readReg : List ℕ → Option Stmt
-readReg [] = none
-readReg (t ∷ []) = none
-readReg (t ∷ n ∷ []) = none
-readReg (t ∷ n ∷ c ∷ []) = none
-readReg (t ∷ n ∷ c ∷ d ∷ l) = withReset (λ r. withEnable (reg t n c d r)) l
+abbrev pub read_reg : List ℕ → Option Stmt
+read_reg [] = none
+read_reg (t ∷ []) = none
+read_reg (t ∷ n ∷ []) = none
+read_reg (t ∷ n ∷ c ∷ []) = none
+read_reg (t ∷ n ∷ c ∷ d ∷ l) = with_reset (λ r. with_enable (reg t n c d r)) l
 
-abbrev pub readStmt : List ℕ → Option Stmt
-readStmt [] = none
-readStmt (zero ∷ l) = two assign l
-readStmt (suc zero ∷ l) = readReg l
-readStmt (suc (suc k) ∷ l) = none
+abbrev pub read_stmt : List ℕ → Option Stmt
+read_stmt [] = none
+read_stmt (zero ∷ l) = two assign l
+read_stmt (suc zero ∷ l) = read_reg l
+read_stmt (suc (suc k) ∷ l) = none
 
 -- those that can be read
 abbrev pub read_all : {A : Type 0} → (List ℕ → Option A) → List (List ℕ) → List A
@@ -113,5 +113,5 @@ pub record Raw : Type 0 where
   pub stmts : List (List ℕ)
 
 -- what was read of them
-unfoldable pub modelOf : Raw → Model
-modelOf c = record { signals = read_all readSignal c.signals; exprs = read_all readExpr c.exprs; stmts = read_all readStmt c.stmts }
+unfoldable pub model_of : Raw → Model
+model_of c = record { signals = read_all read_signal c.signals; exprs = read_all read_expr c.exprs; stmts = read_all read_stmt c.stmts }

@@ -14,10 +14,10 @@ unfoldable pub cut_at : List ℕ → ℕ → Cut
 cut_at ws at = standing (drop at ws)
 
 -- the split from an index on, by what stands there
-abbrev pub splitBy : List ℕ → ℕ → Cut → read.Cut
-splitBy ws at (Record n) = read.before (take n (drop (at + 1) ws)) (read.split (drop (at + 1 + n) ws))
-splitBy ws at End = read.none_left
-splitBy ws at Broken = read.stopped
+abbrev pub split_by : List ℕ → ℕ → Cut → read.Cut
+split_by ws at (Record n) = read.before (take n (drop (at + 1) ws)) (read.split (drop (at + 1 + n) ws))
+split_by ws at End = read.none_left
+split_by ws at Broken = read.stopped
 
 -- the words of what stands there, the length's own among them; 0 for no whole record
 abbrev pub size_of : Cut → ℕ

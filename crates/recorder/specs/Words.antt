@@ -3,28 +3,28 @@ use Rattle.std.specs.Prelude.{ℕ, ◌-◌, ◌≤◌, min, List, [], ◌∷◌,
 use Rattle.std.proofs.Math.Option.{Option, some}
 use Rattle.recorder.specs.declared.Tape.{Tape}
 use Rattle.recorder.specs.declared.Tapes.{Tapes}
-use Rattle.recorder.specs.Record.{Model, signalWords, exprWords, stmtWords}
-use Rattle.recorder.specs.Writer.{Event, Event.signal, Event.expr, Event.stmt, modelOf}
+use Rattle.recorder.specs.Record.{Model, signal_words, expr_words, stmt_words}
+use Rattle.recorder.specs.Writer.{Event, Event.signal, Event.expr, Event.stmt, model_of}
 use Rattle.recorder.specs.Lists.{Lists, lists, tapes, list_of}
 use Rattle.recorder.specs.Read.{Raw, split}
 
-abbrev pub listWords : {A : Type 0} → (A → List ℕ) → List A → List ℕ
-listWords f [] = []
-listWords f (a ∷ l) = f a ++ listWords f l
+abbrev pub list_words : {A : Type 0} → (A → List ℕ) → List A → List ℕ
+list_words f [] = []
+list_words f (a ∷ l) = f a ++ list_words f l
 
 -- the words of a model's three lists
 abbrev pub words_of : Model → Lists
-words_of m = lists (listWords signalWords m.signals) (listWords exprWords m.exprs) (listWords stmtWords m.stmts)
+words_of m = lists (list_words signal_words m.signals) (list_words expr_words m.exprs) (list_words stmt_words m.stmts)
 
 -- WORDS THAT ARE A MODEL'S
 
 -- the records of three lists of words
-abbrev pub rawOf : Lists → Raw
-rawOf l = record { signals = (split l.signals).records; exprs = (split l.exprs).records; stmts = (split l.stmts).records }
+abbrev pub raw_of : Lists → Raw
+raw_of l = record { signals = (split l.signals).records; exprs = (split l.exprs).records; stmts = (split l.stmts).records }
 
 pub record Reads {A : Type 0} (g : List ℕ → Option A) (r : List ℕ) : Type 0 where
-  pub as-this : A
-  pub reads : g r ≡ some as-this
+  pub as_this : A
+  pub reads : g r ≡ some as_this
 
 -- every record reads as something
 abbrev pub EachReads : {A : Type 0} → (List ℕ → Option A) → List (List ℕ) → Type 0
@@ -38,15 +38,15 @@ abbrev pub holding : ℕ → List ℕ → List ℕ
 holding len ws = ws ++ replicate (len - length ws) 0
 
 -- lists of a, b and c words that hold a model
-abbrev pub holdingAll : ℕ → ℕ → ℕ → Model → Lists
-holdingAll a b c m = lists (holding a (words_of m).signals) (holding b (words_of m).exprs) (holding c (words_of m).stmts)
+abbrev pub holding_all : ℕ → ℕ → ℕ → Model → Lists
+holding_all a b c m = lists (holding a (words_of m).signals) (holding b (words_of m).exprs) (holding c (words_of m).stmts)
 
 -- the tape behind so many records
-abbrev pub tapeOf : {A : Type 0} → (A → List ℕ) → List A → Tape
-tapeOf f rs = record { used = length (listWords f rs); count = length rs }
+abbrev pub tape_of : {A : Type 0} → (A → List ℕ) → List A → Tape
+tape_of f rs = record { used = length (list_words f rs); count = length rs }
 
-abbrev pub tapesOf : Model → Tapes
-tapesOf m = tapes (tapeOf signalWords m.signals) (tapeOf exprWords m.exprs) (tapeOf stmtWords m.stmts)
+abbrev pub tapes_of : Model → Tapes
+tapes_of m = tapes (tape_of signal_words m.signals) (tape_of expr_words m.exprs) (tape_of stmt_words m.stmts)
 
 abbrev pub nothing : Model
 nothing = record { signals = []; exprs = []; stmts = [] }
@@ -60,7 +60,7 @@ abbrev pub blank : ℕ → ℕ → ℕ → Lists
 blank a b c = lists (replicate a 0) (replicate b 0) (replicate c 0)
 
 abbrev pub unwritten : Tapes
-unwritten = tapesOf nothing
+unwritten = tapes_of nothing
 
 -- one record more
 abbrev pub plus : Model → Event → Model
@@ -80,7 +80,7 @@ pub record Filled (a b c : ℕ) (es : List Event) (i : ℕ) (l : Lists) : Type 0
   pub next : Event
   pub rest : List Event
   pub events : es ≡ done ++ (next ∷ rest)
-  pub fit : Fit a b c (modelOf done)
-  pub unfit : Fit a b c (plus (modelOf done) next) → ⊥
+  pub fit : Fit a b c (model_of done)
+  pub unfit : Fit a b c (plus (model_of done) next) → ⊥
   pub list : list_of next ≡ i
-  pub held : holdingAll a b c (modelOf done) ≡ l
+  pub held : holding_all a b c (model_of done) ≡ l

@@ -11,26 +11,26 @@ pub data Event : Type 0 where
   expr : Expr → Event
   stmt : Stmt → Event
 
-abbrev pub signalsOf : List Event → List Signal
-signalsOf [] = []
-signalsOf (signal s ∷ es) = s ∷ signalsOf es
-signalsOf (expr x ∷ es) = signalsOf es
-signalsOf (stmt t ∷ es) = signalsOf es
+abbrev pub signals_of : List Event → List Signal
+signals_of [] = []
+signals_of (signal s ∷ es) = s ∷ signals_of es
+signals_of (expr x ∷ es) = signals_of es
+signals_of (stmt t ∷ es) = signals_of es
 
-abbrev pub exprsOf : List Event → List Expr
-exprsOf [] = []
-exprsOf (signal s ∷ es) = exprsOf es
-exprsOf (expr x ∷ es) = x ∷ exprsOf es
-exprsOf (stmt t ∷ es) = exprsOf es
+abbrev pub exprs_of : List Event → List Expr
+exprs_of [] = []
+exprs_of (signal s ∷ es) = exprs_of es
+exprs_of (expr x ∷ es) = x ∷ exprs_of es
+exprs_of (stmt t ∷ es) = exprs_of es
 
-abbrev pub stmtsOf : List Event → List Stmt
-stmtsOf [] = []
-stmtsOf (signal s ∷ es) = stmtsOf es
-stmtsOf (expr x ∷ es) = stmtsOf es
-stmtsOf (stmt t ∷ es) = t ∷ stmtsOf es
+abbrev pub stmts_of : List Event → List Stmt
+stmts_of [] = []
+stmts_of (signal s ∷ es) = stmts_of es
+stmts_of (expr x ∷ es) = stmts_of es
+stmts_of (stmt t ∷ es) = t ∷ stmts_of es
 
-abbrev pub modelOf : List Event → Model
-modelOf es = record { signals = signalsOf es; exprs = exprsOf es; stmts = stmtsOf es }
+abbrev pub model_of : List Event → Model
+model_of es = record { signals = signals_of es; exprs = exprs_of es; stmts = stmts_of es }
 
 -- the numbers that the next signal, expression and statement take
 pub record Count : Type 0 where
@@ -39,7 +39,7 @@ pub record Count : Type 0 where
   pub stmts : ℕ
 
 abbrev pub further : Count → List Event → Count
-further n es = record { signals = n.signals + length (signalsOf es); exprs = n.exprs + length (exprsOf es); stmts = n.stmts + length (stmtsOf es) }
+further n es = record { signals = n.signals + length (signals_of es); exprs = n.exprs + length (exprs_of es); stmts = n.stmts + length (stmts_of es) }
 
 -- a value, or a refusal's number and place
 pub data End (A : Type 0) : Type 0 where

@@ -1,8 +1,8 @@
 // One function for each kind of record. Each answers with its number and the tapes behind it, or that its list is full.
 ghost use Rattle.std.specs.Prelude.{◌++◌};
-ghost use Rattle.recorder.specs.Record.{sized, Expr.const as constE, Expr.read as readE, Expr.concat as concatE, Expr.not as notE, Expr.and as andE, Expr.or as orE, Expr.xor as xorE, Expr.mux as muxE, Expr.eq as eqE, Expr.mul as mulE, Stmt.assign as assignS, Stmt.reg as regS};
+ghost use Rattle.recorder.specs.Record.{sized, Expr.const as const_e, Expr.read as read_e, Expr.concat as concat_e, Expr.not as not_e, Expr.and as and_e, Expr.or as or_e, Expr.xor as xor_e, Expr.mux as mux_e, Expr.eq as eq_e, Expr.mul as mul_e, Stmt.assign as assign_s, Stmt.reg as reg_s};
 ghost use Rattle.recorder.specs.Writer.{declare, emit, state};
-ghost use Rattle.recorder.specs.Lists.{WroteSignals, WroteExprs, WroteStmts, PushedSignal, PushedExpr, PushedStmt, emitted, declared, stated, resetOf, enableOf};
+ghost use Rattle.recorder.specs.Lists.{WroteSignals, WroteExprs, WroteStmts, PushedSignal, PushedExpr, PushedStmt, emitted, declared, stated, reset_of, enable_of};
 
 use crate::list::put_record;
 use crate::{AsyncReset, Declared, Emitted, Enable, ExprId, Put, SignalId, Stated, Tapes};
@@ -79,7 +79,7 @@ pub fn signal(signals: &mut [u32], t: Tapes, label: u32, width: u32, owner: u32)
 }
 
 pub fn constant(exprs: &mut [u32], t: Tapes, width: u32, value: u32) -> Emitted
-    ensures { WroteExprs exprs.old t (emit (constE width value)) (emitted result) exprs.new }
+    ensures { WroteExprs exprs.old t (emit (const_e width value)) (emitted result) exprs.new }
 {
     let fields = [0, width, value];
     push_fixed(exprs, t, &fields)
@@ -87,7 +87,7 @@ pub fn constant(exprs: &mut [u32], t: Tapes, width: u32, value: u32) -> Emitted
 
 // A part of a signal, from its lowest bit.
 pub fn read(exprs: &mut [u32], t: Tapes, width: u32, signal: SignalId, lsb: u32) -> Emitted
-    ensures { WroteExprs exprs.old t (emit (readE width signal.0 lsb)) (emitted result) exprs.new }
+    ensures { WroteExprs exprs.old t (emit (read_e width signal.0 lsb)) (emitted result) exprs.new }
 {
     let fields = [1, width, signal.0, lsb];
     push_fixed(exprs, t, &fields)
@@ -95,35 +95,35 @@ pub fn read(exprs: &mut [u32], t: Tapes, width: u32, signal: SignalId, lsb: u32)
 
 // The parts are expression numbers, the highest first.
 pub fn concat(exprs: &mut [u32], t: Tapes, width: u32, parts: &[u32]) -> Emitted
-    ensures { WroteExprs exprs.old t (emit (concatE width parts.now)) (emitted result) exprs.new }
+    ensures { WroteExprs exprs.old t (emit (concat_e width parts.now)) (emitted result) exprs.new }
 {
     let fields = [2, width];
     push_expr(exprs, t, &fields, parts)
 }
 
 pub fn not(exprs: &mut [u32], t: Tapes, value: ExprId) -> Emitted
-    ensures { WroteExprs exprs.old t (emit (notE value.0)) (emitted result) exprs.new }
+    ensures { WroteExprs exprs.old t (emit (not_e value.0)) (emitted result) exprs.new }
 {
     let fields = [3, 1, value.0];
     push_fixed(exprs, t, &fields)
 }
 
 pub fn and(exprs: &mut [u32], t: Tapes, lhs: ExprId, rhs: ExprId) -> Emitted
-    ensures { WroteExprs exprs.old t (emit (andE lhs.0 rhs.0)) (emitted result) exprs.new }
+    ensures { WroteExprs exprs.old t (emit (and_e lhs.0 rhs.0)) (emitted result) exprs.new }
 {
     let fields = [4, 1, lhs.0, rhs.0];
     push_fixed(exprs, t, &fields)
 }
 
 pub fn or(exprs: &mut [u32], t: Tapes, lhs: ExprId, rhs: ExprId) -> Emitted
-    ensures { WroteExprs exprs.old t (emit (orE lhs.0 rhs.0)) (emitted result) exprs.new }
+    ensures { WroteExprs exprs.old t (emit (or_e lhs.0 rhs.0)) (emitted result) exprs.new }
 {
     let fields = [5, 1, lhs.0, rhs.0];
     push_fixed(exprs, t, &fields)
 }
 
 pub fn xor(exprs: &mut [u32], t: Tapes, lhs: ExprId, rhs: ExprId) -> Emitted
-    ensures { WroteExprs exprs.old t (emit (xorE lhs.0 rhs.0)) (emitted result) exprs.new }
+    ensures { WroteExprs exprs.old t (emit (xor_e lhs.0 rhs.0)) (emitted result) exprs.new }
 {
     let fields = [6, 1, lhs.0, rhs.0];
     push_fixed(exprs, t, &fields)
@@ -137,14 +137,14 @@ pub fn mux(
     when_true: ExprId,
     when_false: ExprId,
 ) -> Emitted
-    ensures { WroteExprs exprs.old t (emit (muxE width select.0 when_true.0 when_false.0)) (emitted result) exprs.new }
+    ensures { WroteExprs exprs.old t (emit (mux_e width select.0 when_true.0 when_false.0)) (emitted result) exprs.new }
 {
     let fields = [7, width, select.0, when_true.0, when_false.0];
     push_fixed(exprs, t, &fields)
 }
 
 pub fn equal(exprs: &mut [u32], t: Tapes, lhs: ExprId, rhs: ExprId) -> Emitted
-    ensures { WroteExprs exprs.old t (emit (eqE lhs.0 rhs.0)) (emitted result) exprs.new }
+    ensures { WroteExprs exprs.old t (emit (eq_e lhs.0 rhs.0)) (emitted result) exprs.new }
 {
     let fields = [8, 1, lhs.0, rhs.0];
     push_fixed(exprs, t, &fields)
@@ -152,14 +152,14 @@ pub fn equal(exprs: &mut [u32], t: Tapes, lhs: ExprId, rhs: ExprId) -> Emitted
 
 // A product of 36 bits.
 pub fn multiply(exprs: &mut [u32], t: Tapes, lhs: ExprId, rhs: ExprId) -> Emitted
-    ensures { WroteExprs exprs.old t (emit (mulE lhs.0 rhs.0)) (emitted result) exprs.new }
+    ensures { WroteExprs exprs.old t (emit (mul_e lhs.0 rhs.0)) (emitted result) exprs.new }
 {
     let fields = [9, 36, lhs.0, rhs.0];
     push_fixed(exprs, t, &fields)
 }
 
 pub fn assign(stmts: &mut [u32], t: Tapes, target: SignalId, value: ExprId) -> Stated
-    ensures { WroteStmts stmts.old t (state (assignS target.0 value.0)) (stated result) stmts.new }
+    ensures { WroteStmts stmts.old t (state (assign_s target.0 value.0)) (stated result) stmts.new }
 {
     let fields = [0, target.0, value.0];
     push_stmt(stmts, t, &fields)
@@ -175,7 +175,7 @@ pub fn register(
     reset: AsyncReset,
     enable: Enable,
 ) -> Stated
-    ensures { WroteStmts stmts.old t (state (regS target.0 next.0 clock.0 edge (resetOf reset) (enableOf enable))) (stated result) stmts.new }
+    ensures { WroteStmts stmts.old t (state (reg_s target.0 next.0 clock.0 edge (reset_of reset) (enable_of enable))) (stated result) stmts.new }
 {
     match reset {
         AsyncReset::Absent => match enable {

@@ -10,232 +10,232 @@ use lib.Seq.{sets, sets-eq, take_at, take-append-le, drop-append-le}
 use Rattle.recorder.specs.Record.{Signal, Model}
 use Rattle.recorder.specs.Lists.{Lists, over}
 use Rattle.recorder.specs.Words.{zeroed}
-use Rattle.recorder.proofs.Room.{over-over}
+use Rattle.recorder.proofs.Room.{over_over}
 use Rattle.simulation.specs.Wellformed.{malformed}
-use Rattle.simulation.specs.Run.{total, signalBytes, tickBits, first_of, flat, run}
-use Rattle.simulation.specs.Shown.{Entry, ByModel, entryCall, shownBytes, shownByModel, bytesAfterAll}
-use Rattle.simulation.proofs.Kept.{AllNone, all_none, short_none, length-kept}
-use Rattle.runner.specs.Calls.{ListCall, listModel, handed, firedBy, entries, entriesOf, outputWidth, outputBytes, listCauses, listVerdict, listAnswer, answerWords, answersOf, outputsOf, ListOutcome, filled, listOutcome, runList}
-use Rattle.runner.specs.Pieces.{asked, piece, behindOf, InPieces}
-use Rattle.runner.proofs.Ticking.{short-so}
-use Rattle.runner.proofs.Running.{words-two, shown-length}
-use Rattle.runner.proofs.WholeList.{entries-count, outcome-same}
+use Rattle.simulation.specs.Run.{total, signal_bytes, tick_bits, first_of, flat, run}
+use Rattle.simulation.specs.Shown.{Entry, ByModel, entry_call, shown_bytes, shown_by_model, bytes_after_all}
+use Rattle.simulation.proofs.Kept.{AllNone, all_none, short_none, length_kept}
+use Rattle.runner.specs.Calls.{ListCall, list_model, handed, fired_by, entries, entries_of, output_width, output_bytes, list_causes, list_verdict, list_answer, answer_words, answers_of, outputs_of, ListOutcome, filled, list_outcome, run_list}
+use Rattle.runner.specs.Pieces.{asked, piece, behind_of, InPieces}
+use Rattle.runner.proofs.Ticking.{short_so}
+use Rattle.runner.proofs.Running.{words_two, shown_length}
+use Rattle.runner.proofs.WholeList.{entries_count, outcome_same}
 
 -- THE TICKS
 
 -- the bits of the first n are taken from the first piece
-handed-front : (inputs n : ℕ) (bits more : List ℕ) → n ≤ length bits → handed inputs n (take n (bits ++ more)) ≡ handed inputs n (take n bits)
-handed-front inputs n bits more h = ap (handed inputs n) (take-append-le n bits more h)
+handed_front : (inputs n : ℕ) (bits more : List ℕ) → n ≤ length bits → handed inputs n (take n (bits ++ more)) ≡ handed inputs n (take n bits)
+handed_front inputs n bits more h = ap (handed inputs n) (take-append-le n bits more h)
 
-entries-append : (inputs : ℕ) (wb we ws : List ℕ) (k : ℕ) (heads bits moreHeads moreBits : List ℕ) → length heads ≡ 3 * k → length bits ≡ asked heads
-    → entries inputs wb we ws (heads ++ moreHeads) (bits ++ moreBits) ≡ entries inputs wb we ws heads bits ++ entries inputs wb we ws moreHeads moreBits
-entries-append inputs wb we ws k [] [] moreHeads moreBits h b = refl
-entries-append inputs wb we ws k [] (x ∷ bits) moreHeads moreBits h b = absurd (omega (arith, b))
-entries-append inputs wb we ws k (n ∷ []) bits moreHeads moreBits h b = absurd (omega (arith, h))
-entries-append inputs wb we ws k (n ∷ f ∷ []) bits moreHeads moreBits h b = absurd (omega (arith, h))
-entries-append inputs wb we ws zero (n ∷ f ∷ s ∷ heads) bits moreHeads moreBits h b = absurd (omega (arith, h))
-entries-append inputs wb we ws (suc k) (n ∷ f ∷ s ∷ heads) bits moreHeads moreBits h b =
+entries_append : (inputs : ℕ) (wb we ws : List ℕ) (k : ℕ) (heads bits more_heads more_bits : List ℕ) → length heads ≡ 3 * k → length bits ≡ asked heads
+    → entries inputs wb we ws (heads ++ more_heads) (bits ++ more_bits) ≡ entries inputs wb we ws heads bits ++ entries inputs wb we ws more_heads more_bits
+entries_append inputs wb we ws k [] [] more_heads more_bits h b = refl
+entries_append inputs wb we ws k [] (x ∷ bits) more_heads more_bits h b = absurd (omega (arith, b))
+entries_append inputs wb we ws k (n ∷ []) bits more_heads more_bits h b = absurd (omega (arith, h))
+entries_append inputs wb we ws k (n ∷ f ∷ []) bits more_heads more_bits h b = absurd (omega (arith, h))
+entries_append inputs wb we ws zero (n ∷ f ∷ s ∷ heads) bits more_heads more_bits h b = absurd (omega (arith, h))
+entries_append inputs wb we ws (suc k) (n ∷ f ∷ s ∷ heads) bits more_heads more_bits h b =
     let long : n ≤ length bits = omega (arith, b) in
-    ap₂ (λ (t : List ℕ) (es : List Entry). record { ticks = t; fired = firedBy f s; workBits = wb; workExprs = we; workSignals = ws } ∷ es) (handed-front inputs n bits moreBits long)
-    (ap (entries inputs wb we ws (heads ++ moreHeads)) (drop-append-le n bits moreBits long)
-    ∙ entries-append inputs wb we ws k heads (drop n bits) moreHeads moreBits (omega (arith, h)) (omega (arith, b, length-drop n bits)))
+    ap₂ (λ (t : List ℕ) (es : List Entry). record { ticks = t; fired = fired_by f s; work_bits = wb; work_exprs = we; work_signals = ws } ∷ es) (handed_front inputs n bits more_bits long)
+    (ap (entries inputs wb we ws (heads ++ more_heads)) (drop-append-le n bits more_bits long)
+    ∙ entries_append inputs wb we ws k heads (drop n bits) more_heads more_bits (omega (arith, h)) (omega (arith, b, length-drop n bits)))
 
 -- WHAT THEY LEAVE AND SHOW
 
 module _ (widest : ℕ) (l : Lists) where
-  bytes-append : (bytes : List ℕ) (es fs : List Entry) → bytesAfterAll widest l bytes (es ++ fs) ≡ bytesAfterAll widest l (bytesAfterAll widest l bytes es) fs
-  bytes-append bytes [] fs = refl
-  bytes-append bytes (e ∷ es) fs = bytes-append (run widest (entryCall l bytes e)).bytes es fs
+  bytes_append : (bytes : List ℕ) (es fs : List Entry) → bytes_after_all widest l bytes (es ++ fs) ≡ bytes_after_all widest l (bytes_after_all widest l bytes es) fs
+  bytes_append bytes [] fs = refl
+  bytes_append bytes (e ∷ es) fs = bytes_append (run widest (entry_call l bytes e)).bytes es fs
 
-  bytes-length : (bytes : List ℕ) (es : List Entry) → length (bytesAfterAll widest l bytes es) ≡ length bytes
-  bytes-length bytes [] = refl
-  bytes-length bytes (e ∷ es) = bytes-length (run widest (entryCall l bytes e)).bytes es ∙ length-kept widest (entryCall l bytes e)
+  bytes_length : (bytes : List ℕ) (es : List Entry) → length (bytes_after_all widest l bytes es) ≡ length bytes
+  bytes_length bytes [] = refl
+  bytes_length bytes (e ∷ es) = bytes_length (run widest (entry_call l bytes e)).bytes es ∙ length_kept widest (entry_call l bytes e)
 
   module _ (ss : List Signal) where
-    shown-append : (bytes : List ℕ) (es fs : List Entry) → shownByModel widest l ss bytes (es ++ fs) ≡ shownByModel widest l ss bytes es ++ shownByModel widest l ss (bytesAfterAll widest l bytes es) fs
-    shown-append bytes [] fs = refl
-    shown-append bytes (e ∷ es) fs =
-        let o = run widest (entryCall l bytes e) in
-        ap (λ (ts : List ByModel). record { answer = o.answer; outputs = shownBytes ss o.bytes } ∷ ts) (shown-append o.bytes es fs)
+    shown_append : (bytes : List ℕ) (es fs : List Entry) → shown_by_model widest l ss bytes (es ++ fs) ≡ shown_by_model widest l ss bytes es ++ shown_by_model widest l ss (bytes_after_all widest l bytes es) fs
+    shown_append bytes [] fs = refl
+    shown_append bytes (e ∷ es) fs =
+        let o = run widest (entry_call l bytes e) in
+        ap (λ (ts : List ByModel). record { answer = o.answer; outputs = shown_bytes ss o.bytes } ∷ ts) (shown_append o.bytes es fs)
 
-    answers-length : (bytes : List ℕ) (es : List Entry) → length (answersOf (shownByModel widest l ss bytes es)) ≡ 2 * length es
-    answers-length bytes [] = refl
-    answers-length bytes (e ∷ es) =
-        let o = run widest (entryCall l bytes e) in
-        length-append (answerWords o.answer) (answersOf (shownByModel widest l ss o.bytes es))
-        ∙ omega (arith, words-two o.answer, answers-length o.bytes es)
+    answers_length : (bytes : List ℕ) (es : List Entry) → length (answers_of (shown_by_model widest l ss bytes es)) ≡ 2 * length es
+    answers_length bytes [] = refl
+    answers_length bytes (e ∷ es) =
+        let o = run widest (entry_call l bytes e) in
+        length-append (answer_words o.answer) (answers_of (shown_by_model widest l ss o.bytes es))
+        ∙ omega (arith, words_two o.answer, answers_length o.bytes es)
 
-    outputs-length : (bytes : List ℕ) (es : List Entry) → total (λ (s : Signal). s.width) ss ≤ length bytes → length (outputsOf (shownByModel widest l ss bytes es)) ≡ total outputWidth ss * length es
-    outputs-length bytes [] h = sym (mul-zero (total outputWidth ss))
-    outputs-length bytes (e ∷ es) h =
-        let o = run widest (entryCall l bytes e) in
-        let room : total (λ (s : Signal). s.width) ss ≤ length o.bytes = le_trans h (le_of_eq (sym (length-kept widest (entryCall l bytes e)))) in
-        let one = shown-length ss o.bytes room in
-        let rest = outputs-length o.bytes es room in
-        let all = mul-suc (total outputWidth ss) (length es) in
-        length-append (flat (shownBytes ss o.bytes)) (outputsOf (shownByModel widest l ss o.bytes es)) ∙ omega (arith, one, rest, all)
+    outputs_length : (bytes : List ℕ) (es : List Entry) → total (λ (s : Signal). s.width) ss ≤ length bytes → length (outputs_of (shown_by_model widest l ss bytes es)) ≡ total output_width ss * length es
+    outputs_length bytes [] h = sym (mul-zero (total output_width ss))
+    outputs_length bytes (e ∷ es) h =
+        let o = run widest (entry_call l bytes e) in
+        let room : total (λ (s : Signal). s.width) ss ≤ length o.bytes = le_trans h (le_of_eq (sym (length_kept widest (entry_call l bytes e)))) in
+        let one = shown_length ss o.bytes room in
+        let rest = outputs_length o.bytes es room in
+        let all = mul-suc (total output_width ss) (length es) in
+        length-append (flat (shown_bytes ss o.bytes)) (outputs_of (shown_by_model widest l ss o.bytes es)) ∙ omega (arith, one, rest, all)
 
-answers-append : (ts us : List ByModel) → answersOf (ts ++ us) ≡ answersOf ts ++ answersOf us
-answers-append [] us = refl
-answers-append (t ∷ ts) us = ap (λ (l : List ℕ). answerWords t.answer ++ l) (answers-append ts us) ∙ sym (append_assoc (answerWords t.answer) (answersOf ts) (answersOf us))
+answers_append : (ts us : List ByModel) → answers_of (ts ++ us) ≡ answers_of ts ++ answers_of us
+answers_append [] us = refl
+answers_append (t ∷ ts) us = ap (λ (l : List ℕ). answer_words t.answer ++ l) (answers_append ts us) ∙ sym (append_assoc (answer_words t.answer) (answers_of ts) (answers_of us))
 
-outputs-append : (ts us : List ByModel) → outputsOf (ts ++ us) ≡ outputsOf ts ++ outputsOf us
-outputs-append [] us = refl
-outputs-append (t ∷ ts) us = ap (λ (l : List ℕ). flat t.outputs ++ l) (outputs-append ts us) ∙ sym (append_assoc (flat t.outputs) (outputsOf ts) (outputsOf us))
+outputs_append : (ts us : List ByModel) → outputs_of (ts ++ us) ≡ outputs_of ts ++ outputs_of us
+outputs_append [] us = refl
+outputs_append (t ∷ ts) us = ap (λ (l : List ℕ). flat t.outputs ++ l) (outputs_append ts us) ∙ sym (append_assoc (flat t.outputs) (outputs_of ts) (outputs_of us))
 
 -- THE BUFFERS
 
 -- zeros over zeros
-zero-set : (n i : ℕ) → set {A = ℕ} (replicate n 0) i 0 ≡ replicate n 0
-zero-set zero i = refl
-zero-set (suc n) zero = refl
-zero-set (suc n) (suc i) = ap (λ (l : List ℕ). 0 ∷ l) (zero-set n i)
+zero_set : (n i : ℕ) → set {A = ℕ} (replicate n 0) i 0 ≡ replicate n 0
+zero_set zero i = refl
+zero_set (suc n) zero = refl
+zero_set (suc n) (suc i) = ap (λ (l : List ℕ). 0 ∷ l) (zero_set n i)
 
-zero-over : (n i k : ℕ) → over (replicate n 0) i (replicate k 0) ≡ replicate n 0
+zero_over : (n i k : ℕ) → over (replicate n 0) i (replicate k 0) ≡ replicate n 0
 unfolding over
-zero-over n i zero = refl
-zero-over n i (suc k) = ap (λ (l : List ℕ). sets l (suc i) (replicate k 0)) (zero-set n i) ∙ zero-over n (suc i) k
+zero_over n i zero = refl
+zero_over n i (suc k) = ap (λ (l : List ℕ). sets l (suc i) (replicate k 0)) (zero_set n i) ∙ zero_over n (suc i) k
 
-zero-take : (n k : ℕ) → (j : ℕ) × (take {A = ℕ} k (replicate n 0) ≡ replicate j 0)
-zero-take n zero = (0, refl)
-zero-take zero (suc k) = (0, refl)
-zero-take (suc n) (suc k) = let r = zero-take n k in (suc r.0, ap (λ (l : List ℕ). 0 ∷ l) r.1)
+zero_take : (n k : ℕ) → (j : ℕ) × (take {A = ℕ} k (replicate n 0) ≡ replicate j 0)
+zero_take n zero = (0, refl)
+zero_take zero (suc k) = (0, refl)
+zero_take (suc n) (suc k) = let r = zero_take n k in (suc r.0, ap (λ (l : List ℕ). 0 ∷ l) r.1)
 
-nothing-over : (buffer : List ℕ) (i k : ℕ) → zeroed buffer ≡ over (zeroed buffer) i (take k (zeroed buffer))
-nothing-over buffer i k = let r = zero-take (length buffer) k in sym (ap (over (zeroed buffer) i) r.1 ∙ zero-over (length buffer) i r.0)
+nothing_over : (buffer : List ℕ) (i k : ℕ) → zeroed buffer ≡ over (zeroed buffer) i (take k (zeroed buffer))
+nothing_over buffer i k = let r = zero_take (length buffer) k in sym (ap (over (zeroed buffer) i) r.1 ∙ zero_over (length buffer) i r.0)
 
 -- what a buffer begins with is read back
-filled-front : (buffer ws : List ℕ) (n : ℕ) → length ws ≡ n → n ≤ length buffer → take n (filled buffer ws) ≡ ws
+filled_front : (buffer ws : List ℕ) (n : ℕ) → length ws ≡ n → n ≤ length buffer → take n (filled buffer ws) ≡ ws
 unfolding over
-filled-front buffer ws n e h =
+filled_front buffer ws n e h =
     let z = length-replicate {A = ℕ} (length buffer) 0 in
     ap (take n) (sets-eq ws (zeroed buffer) 0 (omega (arith, e, h, z))) ∙ take_at ws (drop (0 + length ws) (zeroed buffer)) n e
 
 filled_more : (buffer ws vs : List ℕ) (i n : ℕ) → length ws ≡ i → length vs ≡ n → n ≤ length buffer → filled buffer (ws ++ vs) ≡ over (filled buffer ws) i (take n (filled buffer vs))
 filled_more buffer ws vs i n e d h =
-    sym (over-over ws vs (zeroed buffer) 0)
-    ∙ ap₂ (over (filled buffer ws)) (zero-add (length ws) ∙ e) (sym (filled-front buffer vs n d h))
+    sym (over_over ws vs (zeroed buffer) 0)
+    ∙ ap₂ (over (filled buffer ws)) (zero-add (length ws) ∙ e) (sym (filled_front buffer vs n d h))
 
 -- THE LAW
 
-six-none : {a b c d e f : Option (ℕ × ℕ)} → a ≡ none → b ≡ none → c ≡ none → d ≡ none → e ≡ none → f ≡ none → first_of (a ∷ b ∷ c ∷ d ∷ e ∷ f ∷ []) ≡ none
-six-none qa qb qc qd qe qf = rw (qa, qb, qc, qd, qe, qf)
+six_none : {a b c d e f : Option (ℕ × ℕ)} → a ≡ none → b ≡ none → c ≡ none → d ≡ none → e ≡ none → f ≡ none → first_of (a ∷ b ∷ c ∷ d ∷ e ∷ f ∷ []) ≡ none
+six_none qa qb qc qd qe qf = rw (qa, qb, qc, qd, qe, qf)
 
-runs_to : (widest : ℕ) (x : ListCall) (o : Option ℕ) → malformed widest x.lists ≡ o → runList widest x ≡ listOutcome widest x (listVerdict (listModel x) x o)
-unfolding runList listAnswer
-runs_to widest x o e = ap (λ (p : Option ℕ). listOutcome widest x (listVerdict (listModel x) x p)) e
+runs_to : (widest : ℕ) (x : ListCall) (o : Option ℕ) → malformed widest x.lists ≡ o → run_list widest x ≡ list_outcome widest x (list_verdict (list_model x) x o)
+unfolding run_list list_answer
+runs_to widest x o e = ap (λ (p : Option ℕ). list_outcome widest x (list_verdict (list_model x) x p)) e
 
-module _ (widest : ℕ) (c : ListCall) (k : ℕ) (heads bits moreHeads moreBits : List ℕ) (hk : length heads ≡ 3 * k) (hb : length bits ≡ asked heads)
-    (enough : let whole = piece c (heads ++ moreHeads) (bits ++ moreBits) c.bytes in first_of (listCauses (listModel whole) whole) ≡ none) where
+module _ (widest : ℕ) (c : ListCall) (k : ℕ) (heads bits more_heads more_bits : List ℕ) (hk : length heads ≡ 3 * k) (hb : length bits ≡ asked heads)
+    (enough : let whole = piece c (heads ++ more_heads) (bits ++ more_bits) c.bytes in first_of (list_causes (list_model whole) whole) ≡ none) where
   abbrev m : Model
-  m = listModel c
+  m = list_model c
 
   abbrev n : ℕ
-  n = length moreHeads / 3
+  n = length more_heads / 3
 
   abbrev whole : ListCall
-  whole = piece c (heads ++ moreHeads) (bits ++ moreBits) c.bytes
+  whole = piece c (heads ++ more_heads) (bits ++ more_bits) c.bytes
 
   abbrev es : List Entry
-  es = entries (tickBits (listModel c)) c.workBits c.workExprs c.workSignals heads bits
+  es = entries (tick_bits (list_model c)) c.work_bits c.work_exprs c.work_signals heads bits
 
   abbrev fs : List Entry
-  fs = entries (tickBits (listModel c)) c.workBits c.workExprs c.workSignals moreHeads moreBits
+  fs = entries (tick_bits (list_model c)) c.work_bits c.work_exprs c.work_signals more_heads more_bits
 
-  all-ticks : entriesOf (piece c (heads ++ moreHeads) (bits ++ moreBits) c.bytes) ≡ entries (tickBits (listModel c)) c.workBits c.workExprs c.workSignals heads bits ++ entries (tickBits (listModel c)) c.workBits c.workExprs c.workSignals moreHeads moreBits
-  all-ticks = entries-append (tickBits m) c.workBits c.workExprs c.workSignals k heads bits moreHeads moreBits hk hb
+  all_ticks : entries_of (piece c (heads ++ more_heads) (bits ++ more_bits) c.bytes) ≡ entries (tick_bits (list_model c)) c.work_bits c.work_exprs c.work_signals heads bits ++ entries (tick_bits (list_model c)) c.work_bits c.work_exprs c.work_signals more_heads more_bits
+  all_ticks = entries_append (tick_bits m) c.work_bits c.work_exprs c.work_signals k heads bits more_heads more_bits hk hb
 
-  first_count : length (entries (tickBits (listModel c)) c.workBits c.workExprs c.workSignals heads bits) ≡ k
-  first_count = entries-count (tickBits m) c.workBits c.workExprs c.workSignals heads bits ∙ omega (arith, hk)
+  first_count : length (entries (tick_bits (list_model c)) c.work_bits c.work_exprs c.work_signals heads bits) ≡ k
+  first_count = entries_count (tick_bits m) c.work_bits c.work_exprs c.work_signals heads bits ∙ omega (arith, hk)
 
-  more-count : length (entries (tickBits (listModel c)) c.workBits c.workExprs c.workSignals moreHeads moreBits) ≡ length moreHeads / 3
-  more-count = entries-count (tickBits m) c.workBits c.workExprs c.workSignals moreHeads moreBits
+  more_count : length (entries (tick_bits (list_model c)) c.work_bits c.work_exprs c.work_signals more_heads more_bits) ≡ length more_heads / 3
+  more_count = entries_count (tick_bits m) c.work_bits c.work_exprs c.work_signals more_heads more_bits
 
-  all-count : length (entriesOf (piece c (heads ++ moreHeads) (bits ++ moreBits) c.bytes)) ≡ k + length moreHeads / 3
-  all-count = ap length all-ticks ∙ length-append es fs ∙ ap₂ ◌+◌ first_count more-count
+  all_count : length (entries_of (piece c (heads ++ more_heads) (bits ++ more_bits) c.bytes)) ≡ k + length more_heads / 3
+  all_count = ap length all_ticks ∙ length-append es fs ∙ ap₂ ◌+◌ first_count more_count
 
   -- what the buffers do for
-  causes : AllNone (listCauses (listModel c) (piece c (heads ++ moreHeads) (bits ++ moreBits) c.bytes))
-  causes = all_none (listCauses m whole) enough
+  causes : AllNone (list_causes (list_model c) (piece c (heads ++ more_heads) (bits ++ more_bits) c.bytes))
+  causes = all_none (list_causes m whole) enough
 
-  answers-long : 2 * k + 2 * (length moreHeads / 3) ≤ length c.answers
-  answers-long = let z = short_none (2 * length (entriesOf whole)) c.answers causes.1.1.1.1.0 in omega (arith, z, all-count)
+  answers_long : 2 * k + 2 * (length more_heads / 3) ≤ length c.answers
+  answers_long = let z = short_none (2 * length (entries_of whole)) c.answers causes.1.1.1.1.0 in omega (arith, z, all_count)
 
-  shown-long : outputBytes (listModel c) * k + outputBytes (listModel c) * (length moreHeads / 3) ≤ length c.shown
-  shown-long =
-      le_trans (le_of_eq (sym (mul-add (outputBytes m) k n) ∙ ap (λ (i : ℕ). outputBytes m * i) (sym all-count))) (short_none (outputBytes m * length (entriesOf whole)) c.shown causes.1.1.1.1.1.0)
+  shown_long : output_bytes (list_model c) * k + output_bytes (list_model c) * (length more_heads / 3) ≤ length c.shown
+  shown_long =
+      le_trans (le_of_eq (sym (mul-add (output_bytes m) k n) ∙ ap (λ (i : ℕ). output_bytes m * i) (sym all_count))) (short_none (output_bytes m * length (entries_of whole)) c.shown causes.1.1.1.1.1.0)
 
   -- and for a part of the ticks, from as many bytes
-  part-enough : (h b bytes : List ℕ) (i : ℕ) → length (entriesOf (piece c h b bytes)) ≡ i → 2 * i ≤ length c.answers → outputBytes (listModel c) * i ≤ length c.shown → length bytes ≡ length c.bytes → first_of (listCauses (listModel c) (piece c h b bytes)) ≡ none
-  part-enough h b bytes i e qa qs q =
-      six-none
-      (short-so (signalBytes m) bytes (le_trans (short_none (signalBytes m) c.bytes causes.0) (le_of_eq (sym q))))
+  part_enough : (h b bytes : List ℕ) (i : ℕ) → length (entries_of (piece c h b bytes)) ≡ i → 2 * i ≤ length c.answers → output_bytes (list_model c) * i ≤ length c.shown → length bytes ≡ length c.bytes → first_of (list_causes (list_model c) (piece c h b bytes)) ≡ none
+  part_enough h b bytes i e qa qs q =
+      six_none
+      (short_so (signal_bytes m) bytes (le_trans (short_none (signal_bytes m) c.bytes causes.0) (le_of_eq (sym q))))
       causes.1.0
       causes.1.1.0
       causes.1.1.1.0
-      (short-so (2 * length (entriesOf (piece c h b bytes))) c.answers (omega (arith, qa, e)))
-      (short-so (outputBytes m * length (entriesOf (piece c h b bytes))) c.shown (le_trans (le_of_eq (ap (λ (j : ℕ). outputBytes m * j) e)) qs))
+      (short_so (2 * length (entries_of (piece c h b bytes))) c.answers (omega (arith, qa, e)))
+      (short_so (output_bytes m * length (entries_of (piece c h b bytes))) c.shown (le_trans (le_of_eq (ap (λ (j : ℕ). output_bytes m * j) e)) qs))
 
   abbrev Joined : ListOutcome → ListOutcome → Type 0
-  Joined a b = (a.answer ≡ b.answer) × (runList widest (piece c (heads ++ moreHeads) (bits ++ moreBits) c.bytes) ≡ behindOf c k a (length moreHeads / 3) b)
+  Joined a b = (a.answer ≡ b.answer) × (run_list widest (piece c (heads ++ more_heads) (bits ++ more_bits) c.bytes) ≡ behind_of c k a (length more_heads / 3) b)
 
   abbrev Follows : ListOutcome → Type 0
-  Follows a = Joined a (runList widest (piece c moreHeads moreBits a.bytes))
+  Follows a = Joined a (run_list widest (piece c more_heads more_bits a.bytes))
 
   -- a malformed model refuses all three
-  malformed-so : (x : ℕ) → malformed widest c.lists ≡ some x → Follows (runList widest (piece c heads bits c.bytes))
-  malformed-so x e =
+  malformed_so : (x : ℕ) → malformed widest c.lists ≡ some x → Follows (run_list widest (piece c heads bits c.bytes))
+  malformed_so x e =
       subst Follows (sym (runs_to widest (piece c heads bits c.bytes) (some x) e))
-      (subst (Joined (listOutcome widest (piece c heads bits c.bytes) (some (12, x)))) (sym (runs_to widest (piece c moreHeads moreBits c.bytes) (some x) e))
-      (refl, runs_to widest whole (some x) e ∙ outcome-same refl refl (nothing-over c.answers (2 * k) (2 * n)) (nothing-over c.shown (outputBytes m * k) (outputBytes m * n))))
+      (subst (Joined (list_outcome widest (piece c heads bits c.bytes) (some (12, x)))) (sym (runs_to widest (piece c more_heads more_bits c.bytes) (some x) e))
+      (refl, runs_to widest whole (some x) e ∙ outcome_same refl refl (nothing_over c.answers (2 * k) (2 * n)) (nothing_over c.shown (output_bytes m * k) (output_bytes m * n))))
 
   abbrev left : List ℕ
-  left = bytesAfterAll widest c.lists c.bytes es
+  left = bytes_after_all widest c.lists c.bytes es
 
   abbrev ts : List ByModel
-  ts = shownByModel widest c.lists m.signals c.bytes es
+  ts = shown_by_model widest c.lists m.signals c.bytes es
 
   abbrev us : List ByModel
-  us = shownByModel widest c.lists m.signals left fs
+  us = shown_by_model widest c.lists m.signals left fs
 
-  left-length : length (bytesAfterAll widest c.lists c.bytes (entries (tickBits (listModel c)) c.workBits c.workExprs c.workSignals heads bits)) ≡ length c.bytes
-  left-length = bytes-length widest c.lists c.bytes es
+  left_length : length (bytes_after_all widest c.lists c.bytes (entries (tick_bits (list_model c)) c.work_bits c.work_exprs c.work_signals heads bits)) ≡ length c.bytes
+  left_length = bytes_length widest c.lists c.bytes es
 
-  all_shown : shownByModel widest c.lists (listModel c).signals c.bytes (entriesOf (piece c (heads ++ moreHeads) (bits ++ moreBits) c.bytes)) ≡ ts ++ us
-  all_shown = ap (shownByModel widest c.lists m.signals c.bytes) all-ticks ∙ shown-append widest c.lists m.signals c.bytes es fs
+  all_shown : shown_by_model widest c.lists (list_model c).signals c.bytes (entries_of (piece c (heads ++ more_heads) (bits ++ more_bits) c.bytes)) ≡ ts ++ us
+  all_shown = ap (shown_by_model widest c.lists m.signals c.bytes) all_ticks ∙ shown_append widest c.lists m.signals c.bytes es fs
 
-  room : total (λ (s : Signal). s.width) (listModel c).signals ≤ length c.bytes
-  room = short_none (signalBytes m) c.bytes causes.0
+  room : total (λ (s : Signal). s.width) (list_model c).signals ≤ length c.bytes
+  room = short_none (signal_bytes m) c.bytes causes.0
 
-  all_so : listOutcome widest (piece c (heads ++ moreHeads) (bits ++ moreBits) c.bytes) none ≡ behindOf c k (listOutcome widest (piece c heads bits c.bytes) none) (length moreHeads / 3) (listOutcome widest (piece c moreHeads moreBits (bytesAfterAll widest c.lists c.bytes (entries (tickBits (listModel c)) c.workBits c.workExprs c.workSignals heads bits))) none)
+  all_so : list_outcome widest (piece c (heads ++ more_heads) (bits ++ more_bits) c.bytes) none ≡ behind_of c k (list_outcome widest (piece c heads bits c.bytes) none) (length more_heads / 3) (list_outcome widest (piece c more_heads more_bits (bytes_after_all widest c.lists c.bytes (entries (tick_bits (list_model c)) c.work_bits c.work_exprs c.work_signals heads bits))) none)
   all_so =
-      outcome-same refl
-      (ap (bytesAfterAll widest c.lists c.bytes) all-ticks ∙ bytes-append widest c.lists c.bytes es fs)
-      (ap (λ (xs : List ByModel). filled c.answers (answersOf xs)) all_shown
-      ∙ ap (filled c.answers) (answers-append ts us)
-      ∙ filled_more c.answers (answersOf ts) (answersOf us) (2 * k) (2 * n)
-      (answers-length widest c.lists m.signals c.bytes es ∙ ap (λ (i : ℕ). 2 * i) first_count)
-      (answers-length widest c.lists m.signals left fs ∙ ap (λ (i : ℕ). 2 * i) more-count)
-      (omega (arith, answers-long)))
-      (ap (λ (xs : List ByModel). filled c.shown (outputsOf xs)) all_shown
-      ∙ ap (filled c.shown) (outputs-append ts us)
-      ∙ filled_more c.shown (outputsOf ts) (outputsOf us) (outputBytes m * k) (outputBytes m * n)
-      (outputs-length widest c.lists m.signals c.bytes es room ∙ ap (λ (i : ℕ). outputBytes m * i) first_count)
-      (outputs-length widest c.lists m.signals left fs (le_trans room (le_of_eq (sym left-length))) ∙ ap (λ (i : ℕ). outputBytes m * i) more-count)
-      (omega (arith, shown-long)))
+      outcome_same refl
+      (ap (bytes_after_all widest c.lists c.bytes) all_ticks ∙ bytes_append widest c.lists c.bytes es fs)
+      (ap (λ (xs : List ByModel). filled c.answers (answers_of xs)) all_shown
+      ∙ ap (filled c.answers) (answers_append ts us)
+      ∙ filled_more c.answers (answers_of ts) (answers_of us) (2 * k) (2 * n)
+      (answers_length widest c.lists m.signals c.bytes es ∙ ap (λ (i : ℕ). 2 * i) first_count)
+      (answers_length widest c.lists m.signals left fs ∙ ap (λ (i : ℕ). 2 * i) more_count)
+      (omega (arith, answers_long)))
+      (ap (λ (xs : List ByModel). filled c.shown (outputs_of xs)) all_shown
+      ∙ ap (filled c.shown) (outputs_append ts us)
+      ∙ filled_more c.shown (outputs_of ts) (outputs_of us) (output_bytes m * k) (output_bytes m * n)
+      (outputs_length widest c.lists m.signals c.bytes es room ∙ ap (λ (i : ℕ). output_bytes m * i) first_count)
+      (outputs_length widest c.lists m.signals left fs (le_trans room (le_of_eq (sym left_length))) ∙ ap (λ (i : ℕ). output_bytes m * i) more_count)
+      (omega (arith, shown_long)))
 
   -- the ticks of a model without a fault
-  formed-so : malformed widest c.lists ≡ none → Follows (runList widest (piece c heads bits c.bytes))
-  formed-so e =
-      let a = part-enough heads bits c.bytes k first_count (omega (arith, answers-long)) (omega (arith, shown-long)) refl in
-      let b = part-enough moreHeads moreBits left n more-count (omega (arith, answers-long)) (omega (arith, shown-long)) left-length in
-      subst Follows (sym (runs_to widest (piece c heads bits c.bytes) none e ∙ ap (listOutcome widest (piece c heads bits c.bytes)) a))
-      (subst (Joined (listOutcome widest (piece c heads bits c.bytes) none)) (sym (runs_to widest (piece c moreHeads moreBits left) none e ∙ ap (listOutcome widest (piece c moreHeads moreBits left)) b))
-      (refl, runs_to widest whole none e ∙ ap (listOutcome widest whole) enough ∙ all_so))
+  formed_so : malformed widest c.lists ≡ none → Follows (run_list widest (piece c heads bits c.bytes))
+  formed_so e =
+      let a = part_enough heads bits c.bytes k first_count (omega (arith, answers_long)) (omega (arith, shown_long)) refl in
+      let b = part_enough more_heads more_bits left n more_count (omega (arith, answers_long)) (omega (arith, shown_long)) left_length in
+      subst Follows (sym (runs_to widest (piece c heads bits c.bytes) none e ∙ ap (list_outcome widest (piece c heads bits c.bytes)) a))
+      (subst (Joined (list_outcome widest (piece c heads bits c.bytes) none)) (sym (runs_to widest (piece c more_heads more_bits left) none e ∙ ap (list_outcome widest (piece c more_heads more_bits left)) b))
+      (refl, runs_to widest whole none e ∙ ap (list_outcome widest whole) enough ∙ all_so))
 
-  joined : (o : Option ℕ) → malformed widest c.lists ≡ o → Follows (runList widest (piece c heads bits c.bytes))
-  joined none e = formed-so e
-  joined (some x) e = malformed-so x e
+  joined : (o : Option ℕ) → malformed widest c.lists ≡ o → Follows (run_list widest (piece c heads bits c.bytes))
+  joined none e = formed_so e
+  joined (some x) e = malformed_so x e
 
 pub in_pieces : InPieces
-in_pieces widest c k heads bits moreHeads moreBits hk hb enough = joined widest c k heads bits moreHeads moreBits hk hb enough (malformed widest c.lists) refl
+in_pieces widest c k heads bits more_heads more_bits hk hb enough = joined widest c k heads bits more_heads more_bits hk hb enough (malformed widest c.lists) refl

@@ -2,57 +2,57 @@
 use Rattle.std.specs.Prelude.{ℕ, ◌*◌, ◌/◌, ◌≤◌, ◌≡◌, false, List, [], ◌∷◌, length, take}
 use Rattle.std.proofs.Math.Option.{Option, none, some}
 use Rattle.recorder.specs.Lists.{Lists, over}
-use Rattle.recorder.specs.Read.{modelOf}
-use Rattle.recorder.specs.Words.{rawOf}
+use Rattle.recorder.specs.Read.{model_of}
+use Rattle.recorder.specs.Words.{raw_of}
 use Rattle.simulation.specs.declared.Ran.{Ran}
 use Rattle.simulation.specs.Wellformed.{largest, malformed, or_else}
 use Rattle.simulation.specs.Tick.{looped}
-use Rattle.simulation.specs.Run.{answer_of, total, signalBytes, short, noBit, onLoop, first_of}
-use Rattle.simulation.specs.Fault.{lengthCauses}
-use Rattle.simulation.specs.Shown.{bytesAfterAll}
-use Rattle.evaluation.specs.Ticks.{signalsIn}
-use Rattle.runner.specs.Calls.{ListCall, entriesOf, outputWidth, outputBytes, answersOf, outputsOf, ListOutcome}
-use Rattle.runner.specs.Parts.{isMade, Enough, made}
+use Rattle.simulation.specs.Run.{answer_of, total, signal_bytes, short, no_bit, on_loop, first_of}
+use Rattle.simulation.specs.Fault.{length_causes}
+use Rattle.simulation.specs.Shown.{bytes_after_all}
+use Rattle.evaluation.specs.Ticks.{signals_in}
+use Rattle.runner.specs.Calls.{ListCall, entries_of, output_width, output_bytes, answers_of, outputs_of, ListOutcome}
+use Rattle.runner.specs.Parts.{is_made, Enough, made}
 
-abbrev pub listCall : Lists → List ℕ → List ℕ → List ℕ → List ℕ → List ℕ → List ℕ → List ℕ → List ℕ → ListCall
-listCall l heads bits bytes wb we ws answers shown =
-    record { lists = l; heads = heads; bits = bits; bytes = bytes; workBits = wb; workExprs = we; workSignals = ws; answers = answers; shown = shown }
+abbrev pub list_call : Lists → List ℕ → List ℕ → List ℕ → List ℕ → List ℕ → List ℕ → List ℕ → List ℕ → ListCall
+list_call l heads bits bytes wb we ws answers shown =
+    record { lists = l; heads = heads; bits = bits; bytes = bytes; work_bits = wb; work_exprs = we; work_signals = ws; answers = answers; shown = shown }
 
 -- REFUSALS
 
 -- 1 for the two buffers of what is shown, by the words
-abbrev pub shownCauses : List ℕ → List ℕ → List ℕ → List ℕ → List (Option (ℕ × ℕ))
-shownCauses signals heads answers shown =
+abbrev pub shown_causes : List ℕ → List ℕ → List ℕ → List ℕ → List (Option (ℕ × ℕ))
+shown_causes signals heads answers shown =
     short (2 * (length heads / 3)) answers
-    ∷ short (total outputWidth (signalsIn signals) * (length heads / 3)) shown
+    ∷ short (total output_width (signals_in signals) * (length heads / 3)) shown
     ∷ []
 
 -- 1 for every buffer, by the words
-abbrev pub faultCauses : ListCall → Option (ℕ × ℕ)
-faultCauses c =
-    or_else (first_of (lengthCauses c.lists.signals c.lists.exprs c.bytes c.workBits c.workExprs c.workSignals))
-    (first_of (shownCauses c.lists.signals c.heads c.answers c.shown))
+abbrev pub fault_causes : ListCall → Option (ℕ × ℕ)
+fault_causes c =
+    or_else (first_of (length_causes c.lists.signals c.lists.exprs c.bytes c.work_bits c.work_exprs c.work_signals))
+    (first_of (shown_causes c.lists.signals c.heads c.answers c.shown))
 
 -- a list that nothing refuses as a whole
 pub record ListFits (l : Lists) (heads bytes wb we ws answers shown : List ℕ) : Type 0 where
-  pub well-formed : malformed largest l ≡ none
-  pub bytes-enough : signalBytes (modelOf (rawOf l)) ≤ length bytes
-  pub enough : Enough (modelOf (rawOf l)) wb we ws
-  pub answers-enough : 2 * (length heads / 3) ≤ length answers
-  pub shown-enough : outputBytes (modelOf (rawOf l)) * (length heads / 3) ≤ length shown
+  pub well_formed : malformed largest l ≡ none
+  pub bytes_enough : signal_bytes (model_of (raw_of l)) ≤ length bytes
+  pub enough : Enough (model_of (raw_of l)) wb we ws
+  pub answers_enough : 2 * (length heads / 3) ≤ length answers
+  pub shown_enough : output_bytes (model_of (raw_of l)) * (length heads / 3) ≤ length shown
 
 -- and whose signal bytes are bits
 pub record ListUnrefused (l : Lists) (heads bytes wb we ws answers shown : List ℕ) : Type 0 where
   pub fits : ListFits l heads bytes wb we ws answers shown
-  pub bits : noBit 0 (take (signalBytes (modelOf (rawOf l))) bytes) ≡ none
+  pub bits : no_bit 0 (take (signal_bytes (model_of (raw_of l))) bytes) ≡ none
 
 -- WHAT STOPS EVERY TICK: a signal byte, ahead of its own causes, or a loop, behind them
 abbrev pub among : Option (ℕ × ℕ) → Option (ℕ × ℕ) → Option (ℕ × ℕ) → Option (ℕ × ℕ)
 among ahead own behind = or_else ahead (or_else own behind)
 
 pub record Stopped (l : Lists) (bytes : List ℕ) (ahead behind : Option (ℕ × ℕ)) : Type 0 where
-  pub stops : (own : Option (ℕ × ℕ)) → among ahead own behind ≡ among (noBit 0 (take (signalBytes (modelOf (rawOf l))) bytes)) own (onLoop (looped (modelOf (rawOf l))))
-  pub refuses : (own : Option (ℕ × ℕ)) → isMade (among ahead own behind) ≡ false
+  pub stops : (own : Option (ℕ × ℕ)) → among ahead own behind ≡ among (no_bit 0 (take (signal_bytes (model_of (raw_of l))) bytes)) own (on_loop (looped (model_of (raw_of l))))
+  pub refuses : (own : Option (ℕ × ℕ)) → is_made (among ahead own behind) ≡ false
 
 -- WHAT IS LEFT
 
@@ -60,8 +60,8 @@ pub record Stopped (l : Lists) (bytes : List ℕ) (ahead behind : Option (ℕ ×
 abbrev pub leaves : ListCall → Option (ℕ × ℕ) → ListOutcome
 leaves c (some r) = record { answer = some r; bytes = c.bytes; answers = c.answers; shown = c.shown }
 leaves c none =
-    let ts = made c.lists c.bytes (entriesOf c) in
-    record { answer = none; bytes = bytesAfterAll largest c.lists c.bytes (entriesOf c); answers = over c.answers 0 (answersOf ts); shown = over c.shown 0 (outputsOf ts) }
+    let ts = made c.lists c.bytes (entries_of c) in
+    record { answer = none; bytes = bytes_after_all largest c.lists c.bytes (entries_of c); answers = over c.answers 0 (answers_of ts); shown = over c.shown 0 (outputs_of ts) }
 
 pub record Leaves (c : ListCall) (o : Option (ℕ × ℕ)) (r : Ran) (bytes' answers' shown' : List ℕ) : Type 0 where
   pub left : record { answer = answer_of r; bytes = bytes'; answers = answers'; shown = shown' } ≡ leaves c o

@@ -3,8 +3,8 @@ ghost use Rattle.std.specs.Prelude.{◌≡◌, ◌⊎◌, Bool, map, ℕ, ◌+�
 ghost use Rattle.bits.specs.Bits.{digit, binary};
 ghost use Rattle.bits.specs.Bits as bits;
 ghost use Rattle.recorder.specs.Lists.{over};
-ghost use Rattle.simulation.specs.Run.{isOne};
-ghost use Rattle.evaluation.specs.Bytes.{part, sameBytes, gateOf};
+ghost use Rattle.simulation.specs.Run.{is_one};
+ghost use Rattle.evaluation.specs.Bytes.{part, same_bytes, gate_of};
 
 fn copy_more(to: &mut [u8], at: usize, from: &[u8], start: usize, n: usize)
     requires { (at + n ≤ length to.old) × (start + n ≤ length from.now) }
@@ -69,7 +69,7 @@ pub fn put_number(bytes: &mut [u8], at: usize, n: usize, v: u64)
 // Whether n bytes at two places are the same.
 pub fn equal(bytes: &[u8], a: usize, b: usize, n: usize) -> bool
     requires { (a + n ≤ length bytes.now) × (b + n ≤ length bytes.now) }
-    ensures { result ≡ sameBytes (part bytes.now a n) (part bytes.now b n) }
+    ensures { result ≡ same_bytes (part bytes.now a n) (part bytes.now b n) }
 {
     let mut i = 0;
     while i < n {
@@ -82,7 +82,7 @@ pub fn equal(bytes: &[u8], a: usize, b: usize, n: usize) -> bool
 }
 
 fn bit(b: u8) -> u64
-    ensures { result ≡ digit (isOne b) }
+    ensures { result ≡ digit (is_one b) }
 {
     if b == 1 { 1 } else { 0 }
 }
@@ -90,7 +90,7 @@ fn bit(b: u8) -> u64
 // The number that 36 bits make.
 pub fn number(bytes: &[u8], at: usize) -> u64
     requires { at + 36 ≤ length bytes.now }
-    ensures { result ≡ bits.number (map isOne (part bytes.now at 36)) }
+    ensures { result ≡ bits.number (map is_one (part bytes.now at 36)) }
 {
     let mut n: u64 = 0;
     let mut i: usize = 36;
@@ -117,7 +117,7 @@ pub fn product(a: u64, b: u64) -> u64
 // One bit by a gate.
 pub fn gate(bytes: &mut [u8], kind: u32, at: usize, a: usize, b: usize)
     requires { (at < length bytes.old) × (a < length bytes.old) × (b < length bytes.old) }
-    ensures { (x y : Bool) → get_or bytes.old a 0 ≡ digit x → get_or bytes.old b 0 ≡ digit y → bytes.new ≡ set bytes.old at (digit (gateOf kind x y)) }
+    ensures { (x y : Bool) → get_or bytes.old a 0 ≡ digit x → get_or bytes.old b 0 ≡ digit y → bytes.new ≡ set bytes.old at (digit (gate_of kind x y)) }
 {
     let x = bytes[a];
     let y = bytes[b];

@@ -4,15 +4,15 @@
 ghost use Rattle.std.specs.Prelude.{◌≡◌, Bool, true, false, List, ℕ, ◌+◌, ◌*◌, ◌≤◌, ◌<◌, length, get_or, take, drop, set};
 ghost use Rattle.std.proofs.Math.Option.{some};
 ghost use Rattle.simulation.specs.Tick.{given, assigns};
-ghost use Rattle.simulation.specs.Index.{recordsIn, widthsIn, start_of, stmtsIn, Starts, Driven};
+ghost use Rattle.simulation.specs.Index.{records_in, widths_in, start_of, stmts_in, Starts, Driven};
 ghost use Rattle.ordering.specs.Words.{Tabled};
 ghost use Rattle.ordering.specs.Marks.{marked};
-ghost use Rattle.evaluation.specs.Ready.{Prepared, modelIn};
+ghost use Rattle.evaluation.specs.Ready.{Prepared, model_in};
 ghost use Rattle.evaluation.specs.Ticks.{Ordered};
-ghost use Rattle.evaluation.specs.Loads.{stmtIn, Stated, Begins, Names};
+ghost use Rattle.evaluation.specs.Loads.{stmt_in, Stated, Begins, Names};
 ghost use Rattle.evaluation.specs.Late.{Among, PortsBefore, Loaded, Registers};
 ghost use Rattle.fusing.specs.Form.{Formed};
-ghost use Rattle.coding.specs.Coded.{bitsIn, Computable, Coded};
+ghost use Rattle.coding.specs.Coded.{bits_in, Computable, Coded};
 ghost use Rattle.coding.specs.Emitting.{Unplaced, Placed, Places, MarksLoaded, MarksDrivers, Emitting, Emits, EmitsAll};
 ghost use Rattle.runner.specs.Plan.{Planning};
 
@@ -290,8 +290,8 @@ fn computable(
     marks: &[u8],
     e: usize,
 ) -> bool
-    requires { Tabled exprs.now starts.now stmts.now driver_table.now × (e < length (recordsIn exprs.now)) × (n ≡ length (recordsIn exprs.now)) × (7 * n ≤ length order.now) × (base ≡ bitsIn exprs.now) }
-    ensures { (signals : List ℕ) (from k : ℕ) → top ≡ bitsIn exprs.now + bitsIn signals → Emitting signals exprs.now stmts.now n from k order.now values.now marks.now → result ≡ true → Computable signals exprs.now stmts.now (Among order.now from k) (drop n order.now) e }
+    requires { Tabled exprs.now starts.now stmts.now driver_table.now × (e < length (records_in exprs.now)) × (n ≡ length (records_in exprs.now)) × (7 * n ≤ length order.now) × (base ≡ bits_in exprs.now) }
+    ensures { (signals : List ℕ) (from k : ℕ) → top ≡ bits_in exprs.now + bits_in signals → Emitting signals exprs.now stmts.now n from k order.now values.now marks.now → result ≡ true → Computable signals exprs.now stmts.now (Among order.now from k) (drop n order.now) e }
 {
     let at = n + 6 * e;
     if order[at] >= 65536 {
@@ -337,7 +337,7 @@ fn put(
     values: &mut [u8],
     marks: &mut [u8],
 )
-    requires { Prepared signals.now exprs.now stmts.now expr_table.now signal_table.now × (n ≡ length (recordsIn exprs.now)) × (n ≤ length marks.old) × (bitsIn exprs.now ≤ length values.old) × Emitting signals.now exprs.now stmts.now n from k order.old values.old marks.old × (k < n) × Computable signals.now exprs.now stmts.now (Among order.old from k) (drop n order.old) e }
+    requires { Prepared signals.now exprs.now stmts.now expr_table.now signal_table.now × (n ≡ length (records_in exprs.now)) × (n ≤ length marks.old) × (bits_in exprs.now ≤ length values.old) × Emitting signals.now exprs.now stmts.now n from k order.old values.old marks.old × (k < n) × Computable signals.now exprs.now stmts.now (Among order.old from k) (drop n order.old) e }
     ensures emitted { Emitting signals.now exprs.now stmts.now n from (k + 1) order.new values.new marks.new }
     ensures kept { take from order.new ≡ take from order.old }
 {
@@ -368,7 +368,7 @@ fn emit(
     values: &mut [u8],
     marks: &mut [u8],
 ) -> usize
-    requires { Prepared signals.now exprs.now stmts.now expr_table.now signal_table.now × Tabled exprs.now starts.now stmts.now driver_table.now × (n ≡ length (recordsIn exprs.now)) × (n ≤ length marks.old) × (base ≡ bitsIn exprs.now) × (top ≡ bitsIn exprs.now + bitsIn signals.now) × (base ≤ length values.old) × Emitting signals.now exprs.now stmts.now n from k order.old values.old marks.old × (k ≤ i) × (i < n) }
+    requires { Prepared signals.now exprs.now stmts.now expr_table.now signal_table.now × Tabled exprs.now starts.now stmts.now driver_table.now × (n ≡ length (records_in exprs.now)) × (n ≤ length marks.old) × (base ≡ bits_in exprs.now) × (top ≡ bits_in exprs.now + bits_in signals.now) × (base ≤ length values.old) × Emitting signals.now exprs.now stmts.now n from k order.old values.old marks.old × (k ≤ i) × (i < n) }
     ensures { Emits signals.now exprs.now stmts.now n from k result order.old order.new values.new marks.new }
 {
     let word = order[i];
@@ -428,7 +428,7 @@ fn emit_all(
     values: &mut [u8],
     marks: &mut [u8],
 ) -> usize
-    requires { Prepared signals.now exprs.now stmts.now expr_table.now signal_table.now × Tabled exprs.now starts.now stmts.now driver_table.now × (n ≡ length (recordsIn exprs.now)) × (n ≤ length marks.old) × (base ≡ bitsIn exprs.now) × (top ≡ bitsIn exprs.now + bitsIn signals.now) × (base ≤ length values.old) × Emitting signals.now exprs.now stmts.now n from 0 order.old values.old marks.old }
+    requires { Prepared signals.now exprs.now stmts.now expr_table.now signal_table.now × Tabled exprs.now starts.now stmts.now driver_table.now × (n ≡ length (records_in exprs.now)) × (n ≤ length marks.old) × (base ≡ bits_in exprs.now) × (top ≡ bits_in exprs.now + bits_in signals.now) × (base ≤ length values.old) × Emitting signals.now exprs.now stmts.now n from 0 order.old values.old marks.old }
     ensures { EmitsAll signals.now exprs.now stmts.now n from result order.old order.new values.new marks.new }
 {
     let mut k: usize = 0;
@@ -463,7 +463,7 @@ fn emit_all(
 // What the statement at a word names is marked.
 fn named(signals: &[u32], stmts: &[u32], at: usize, marks: &[u8]) -> bool
     requires { Stated signals.now stmts.now × Begins stmts.now at }
-    ensures { result ≡ true → (k : ℕ) → k < length (recordsIn stmts.now) → at ≡ start_of stmts.now k → (x : ℕ) → Names (stmtIn stmts.now k) x → marked marks.now x ≡ true }
+    ensures { result ≡ true → (k : ℕ) → k < length (records_in stmts.now) → at ≡ start_of stmts.now k → (x : ℕ) → Names (stmt_in stmts.now k) x → marked marks.now x ≡ true }
 {
     if !is_marked(marks, wide(stmts[at + 3])) {
         return false;
@@ -544,11 +544,11 @@ fn first_code(
     values: &mut [u8],
     marks: &mut [u8],
 ) -> usize
-    requires { Prepared signals.now exprs.now stmts.now expr_table.now signal_table.now × Starts exprs.now starts.now × Driven stmts.now driver_table.now × (n ≡ length (recordsIn exprs.now)) × (n ≤ length marks.old) × (base ≡ bitsIn exprs.now) × (top ≡ bitsIn exprs.now + bitsIn signals.now) × (base ≤ length values.old) × (7 * n ≤ from) × (from + n ≤ length order.old) × Formed signals.now exprs.now stmts.now (drop n order.old) n × (loads + registers ≤ from) × Registers stmts.now order.old loads registers × (asked + controls ≤ from) }
+    requires { Prepared signals.now exprs.now stmts.now expr_table.now signal_table.now × Starts exprs.now starts.now × Driven stmts.now driver_table.now × (n ≡ length (records_in exprs.now)) × (n ≤ length marks.old) × (base ≡ bits_in exprs.now) × (top ≡ bits_in exprs.now + bits_in signals.now) × (base ≤ length values.old) × (7 * n ≤ from) × (from + n ≤ length order.old) × Formed signals.now exprs.now stmts.now (drop n order.old) n × (loads + registers ≤ from) × Registers stmts.now order.old loads registers × (asked + controls ≤ from) }
     ensures kept { take from order.new ≡ take from order.old }
     ensures coded { result ≤ n → Coded signals.now exprs.now stmts.now n from result order.new }
     ensures loaded { result ≤ n → (e : ℕ) → Loaded stmts.now e → Among order.new from result e }
-    ensures driven { result ≤ n → (x d : ℕ) → Among order.new asked controls x → given assigns (stmtsIn stmts.now) x ≡ some d → Among order.new from result d }
+    ensures driven { result ≤ n → (x d : ℕ) → Among order.new asked controls x → given assigns (stmts_in stmts.now) x ≡ some d → Among order.new from result d }
 {
     zero_bytes(values);
     want_loads(exprs, expr_table, stmts, order, loads, registers, values);
@@ -620,10 +620,10 @@ fn second_code(
     values: &mut [u8],
     marks: &mut [u8],
 ) -> usize
-    requires { Prepared signals.now exprs.now stmts.now expr_table.now signal_table.now × Starts exprs.now starts.now × Driven stmts.now driver_table.now × (n ≡ length (recordsIn exprs.now)) × (n ≤ length marks.old) × (base ≡ bitsIn exprs.now) × (top ≡ bitsIn exprs.now + bitsIn signals.now) × (base ≤ length values.old) × (7 * n ≤ from) × (from + n ≤ length order.old) × Formed signals.now exprs.now stmts.now (drop n order.old) n × (shown + outputs ≤ from) }
+    requires { Prepared signals.now exprs.now stmts.now expr_table.now signal_table.now × Starts exprs.now starts.now × Driven stmts.now driver_table.now × (n ≡ length (records_in exprs.now)) × (n ≤ length marks.old) × (base ≡ bits_in exprs.now) × (top ≡ bits_in exprs.now + bits_in signals.now) × (base ≤ length values.old) × (7 * n ≤ from) × (from + n ≤ length order.old) × Formed signals.now exprs.now stmts.now (drop n order.old) n × (shown + outputs ≤ from) }
     ensures kept { take from order.new ≡ take from order.old }
     ensures coded { result ≤ n → Coded signals.now exprs.now stmts.now n from result order.new }
-    ensures driven { result ≤ n → (x d : ℕ) → Among order.new shown outputs x → given assigns (stmtsIn stmts.now) x ≡ some d → Among order.new from result d }
+    ensures driven { result ≤ n → (x d : ℕ) → Among order.new shown outputs x → given assigns (stmts_in stmts.now) x ≡ some d → Among order.new from result d }
 {
     zero_bytes(values);
     want_drivers(
@@ -709,7 +709,7 @@ fn encode_in(
     asked: &mut [u8],
     ports: usize,
 ) -> Code
-    requires { Prepared signals.now exprs.now stmts.now expr_table.now signal_table.now × Starts exprs.now starts.now × Driven stmts.now driver_table.now × (n ≡ length (recordsIn exprs.now)) × (count ≡ length (recordsIn signals.now)) × (n ≤ length marks.old) × (count ≤ length asked.old) × (base ≡ bitsIn exprs.now) × (state ≡ bitsIn signals.now) × (base + state ≤ length values.old) × (9 * n + 3 * count ≤ length order.old) × PortsBefore signals.now ports }
+    requires { Prepared signals.now exprs.now stmts.now expr_table.now signal_table.now × Starts exprs.now starts.now × Driven stmts.now driver_table.now × (n ≡ length (records_in exprs.now)) × (count ≡ length (records_in signals.now)) × (n ≤ length marks.old) × (count ≤ length asked.old) × (base ≡ bits_in exprs.now) × (state ≡ bits_in signals.now) × (base + state ≤ length values.old) × (9 * n + 3 * count ≤ length order.old) × PortsBefore signals.now ports }
     ensures planned { Planning signals.now exprs.now stmts.now n count result order.new values.new }
     ensures kept { take n order.new ≡ take n order.old }
     ensures used { result.used ≡ length order.old }
@@ -828,9 +828,9 @@ pub fn encode(
     marks: &mut [u8],
     asked: &mut [u8],
 ) -> Code
-    requires { Prepared signals.now exprs.now stmts.now expr_table.now signal_table.now × Starts exprs.now starts.now × Driven stmts.now driver_table.now × (n ≡ length (recordsIn exprs.now)) × (count ≡ length (recordsIn signals.now)) × (n ≤ length marks.old) × (count ≤ length asked.old) × (bitsIn exprs.now ≤ length values.old) × (bitsIn signals.now ≤ 18446744073709551615) × (ordered ≤ length order.old) × Ordered (modelIn signals.now exprs.now stmts.now) n (take ordered order.old) }
+    requires { Prepared signals.now exprs.now stmts.now expr_table.now signal_table.now × Starts exprs.now starts.now × Driven stmts.now driver_table.now × (n ≡ length (records_in exprs.now)) × (count ≡ length (records_in signals.now)) × (n ≤ length marks.old) × (count ≤ length asked.old) × (bits_in exprs.now ≤ length values.old) × (bits_in signals.now ≤ 18446744073709551615) × (ordered ≤ length order.old) × Ordered (model_in signals.now exprs.now stmts.now) n (take ordered order.old) }
     ensures planned { Planning signals.now exprs.now stmts.now n count result (take result.used order.new) values.new }
-    ensures ordered { Ordered (modelIn signals.now exprs.now stmts.now) n (take result.used order.new) }
+    ensures ordered { Ordered (model_in signals.now exprs.now stmts.now) n (take result.used order.new) }
     ensures inside { result.used ≤ length order.new }
 {
     let ports = ports_end(signals);

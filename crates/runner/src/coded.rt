@@ -1,11 +1,11 @@
 // The values of a model's expressions along its code.
 ghost use Rattle.std.specs.Prelude.{◌≡◌, ◌+◌, ◌≤◌, ◌<◌, length, get_or};
 ghost use Rattle.std.proofs.Math.Option.{none};
-ghost use Rattle.simulation.specs.Index.{recordsIn, widthsIn, Starts, Driven};
+ghost use Rattle.simulation.specs.Index.{records_in, widths_in, Starts, Driven};
 ghost use Rattle.simulation.specs.Tick.{looped};
-ghost use Rattle.evaluation.specs.Ready.{Prepared, Room, modelIn};
+ghost use Rattle.evaluation.specs.Ready.{Prepared, Room, model_in};
 ghost use Rattle.evaluation.specs.Ticks.{Filled};
-ghost use Rattle.coding.specs.Coded.{bitsIn, Coded, SettlesCode, looked as lookedIn, lookedUp};
+ghost use Rattle.coding.specs.Coded.{bits_in, Coded, SettlesCode, looked as looked_in, looked_up};
 
 use crate::bytes::copy;
 use crate::expression::eval_expr;
@@ -19,7 +19,7 @@ fn digit(x: u8) -> u32
 
 // A bit of a table, by the bytes at its four inputs.
 fn looked(table: u32, a: u8, b: u8, c: u8, d: u8) -> u8
-    ensures { result ≡ lookedIn table a b c d }
+    ensures { result ≡ looked_in table a b c d }
 {
     let row = (digit(a) + 2 * digit(b) + 4 * digit(c) + 8 * digit(d)) % 16;
     ((table >> row) % 2) as u8
@@ -28,7 +28,7 @@ fn looked(table: u32, a: u8, b: u8, c: u8, d: u8) -> u8
 // The value of an expression by its form, whose six words begin at a word.
 fn look_up(order: &[u32], at: usize, values: &mut [u8])
     requires { (at + 5 < length order.now) × (get_or order.now (at + 1) 0 < length values.old) × (get_or order.now (at + 2) 0 < length values.old) × (get_or order.now (at + 3) 0 < length values.old) × (get_or order.now (at + 4) 0 < length values.old) × (get_or order.now (at + 5) 0 < length values.old) }
-    ensures { values.new ≡ lookedUp order.now at values.old }
+    ensures { values.new ≡ looked_up order.now at values.old }
 {
     let a = values[wide(order[at + 2])];
     let b = values[wide(order[at + 3])];
@@ -55,7 +55,7 @@ pub fn settle_coded(
     bytes: &[u8],
     values: &mut [u8],
 )
-    requires { Prepared signals.now exprs.now stmts.now expr_table.now signal_table.now × Starts exprs.now starts.now × Driven stmts.now driver_table.now × Room signals.now exprs.now bytes.now values.old × (n ≡ length (recordsIn exprs.now)) × Coded signals.now exprs.now stmts.now n from k order.now × (base ≡ bitsIn exprs.now) × (state ≡ bitsIn signals.now) × (bitsIn exprs.now + bitsIn signals.now ≤ length values.old) × (looped (modelIn signals.now exprs.now stmts.now) ≡ none) × Filled (widthsIn exprs.now) values.old }
+    requires { Prepared signals.now exprs.now stmts.now expr_table.now signal_table.now × Starts exprs.now starts.now × Driven stmts.now driver_table.now × Room signals.now exprs.now bytes.now values.old × (n ≡ length (records_in exprs.now)) × Coded signals.now exprs.now stmts.now n from k order.now × (base ≡ bits_in exprs.now) × (state ≡ bits_in signals.now) × (bits_in exprs.now + bits_in signals.now ≤ length values.old) × (looped (model_in signals.now exprs.now stmts.now) ≡ none) × Filled (widths_in exprs.now) values.old }
     ensures { SettlesCode signals.now exprs.now stmts.now order.now from k bytes.now values.new }
 {
     copy(values, base, bytes, 0, state);

@@ -2,15 +2,15 @@
 // value is stored, as a register's control may be a register.
 ghost use Rattle.std.specs.Prelude.{◌≡◌, Bool, List, [], ℕ, ◌+◌, ◌≤◌, ◌<◌, length, get_or};
 ghost use Rattle.bits.specs.Bits.{Bits};
-ghost use Rattle.settle.specs.Table.{at as signalsAt};
-ghost use Rattle.simulation.specs.Index.{recordsIn, widthsIn, offset as sum_to, start_of, Indexed, driverOf};
-ghost use Rattle.simulation.specs.Run.{firedOf, firing};
-ghost use Rattle.simulation.specs.Tick.{asserted as assertedIn};
+ghost use Rattle.settle.specs.Table.{at as signals_at};
+ghost use Rattle.simulation.specs.Index.{records_in, widths_in, offset as sum_to, start_of, Indexed, driver_of};
+ghost use Rattle.simulation.specs.Run.{fired_of, firing};
+ghost use Rattle.simulation.specs.Tick.{asserted as asserted_in};
 ghost use Rattle.evaluation.specs.Bytes.{Holds};
 ghost use Rattle.evaluation.specs.Ready.{Prepared, Room};
 ghost use Rattle.evaluation.specs.Ticks.{Commits};
 ghost use Rattle.evaluation.specs.Late.{Registers, LoadsMarked, LoadsListed};
-ghost use Rattle.evaluation.specs.Loads.{stmtIn, Stated, Begins, Control, controlAt, enableAt, byMarks, Markable, MarkOf, NotesOne, Noted, StoresMarked, StoresLoad};
+ghost use Rattle.evaluation.specs.Loads.{stmt_in, Stated, Begins, Control, control_at, enable_at, by_marks, Markable, MarkOf, NotesOne, Noted, StoresMarked, StoresLoad};
 
 use crate::store::store;
 use crate::tables::offset;
@@ -19,7 +19,7 @@ use simulation::{Driver, Fired};
 
 // An edge (0 rises, 1 falls) of signal c fires.
 fn fires(fired: Fired, c: u32, edge: u32) -> bool
-    ensures { result ≡ firing (firedOf fired) c edge }
+    ensures { result ≡ firing (fired_of fired) c edge }
 {
     match fired {
         Fired::Nothing => false,
@@ -34,8 +34,8 @@ fn fires(fired: Fired, c: u32, edge: u32) -> bool
 
 // Signal s, of one bit, has the level that a control asks for.
 fn asserted(signals: &[u32], signal_table: &[u32], bytes: &[u8], s: usize, active: u32) -> bool
-    requires { Indexed (widthsIn signals.now) signal_table.now × (sum_to (widthsIn signals.now) (length (recordsIn signals.now)) ≤ length bytes.now) × (s < length (recordsIn signals.now)) × (get_or (widthsIn signals.now) s 0 ≡ 1) }
-    ensures { (t : List Bits) (behind : List ℕ) → Holds (widthsIn signals.now) t behind bytes.now → result ≡ assertedIn (signalsAt [] t) s active }
+    requires { Indexed (widths_in signals.now) signal_table.now × (sum_to (widths_in signals.now) (length (records_in signals.now)) ≤ length bytes.now) × (s < length (records_in signals.now)) × (get_or (widths_in signals.now) s 0 ≡ 1) }
+    ensures { (t : List Bits) (behind : List ℕ) → Holds (widths_in signals.now) t behind bytes.now → result ≡ asserted_in (signals_at [] t) s active }
 {
     let level = bytes[offset(signals, signal_table, s)];
     (level as u32) == active
@@ -50,8 +50,8 @@ fn control(
     absent: bool,
     bytes: &[u8],
 ) -> bool
-    requires { Indexed (widthsIn signals.now) signal_table.now × (sum_to (widthsIn signals.now) (length (recordsIn signals.now)) ≤ length bytes.now) × Control signals.now stmts.now at }
-    ensures { (t : List Bits) (behind : List ℕ) → Holds (widthsIn signals.now) t behind bytes.now → result ≡ controlAt (signalsAt [] t) stmts.now at absent }
+    requires { Indexed (widths_in signals.now) signal_table.now × (sum_to (widths_in signals.now) (length (records_in signals.now)) ≤ length bytes.now) × Control signals.now stmts.now at }
+    ensures { (t : List Bits) (behind : List ℕ) → Holds (widths_in signals.now) t behind bytes.now → result ≡ control_at (signals_at [] t) stmts.now at absent }
 {
     if stmts[at] == 0 {
         return absent;
@@ -68,7 +68,7 @@ fn control(
 // The word of the enable of the register at a word.
 pub fn enable_at(stmts: &[u32], at: usize) -> usize
     requires { at + 7 < length stmts.now }
-    ensures { result ≡ enableAt stmts.now at }
+    ensures { result ≡ enable_at stmts.now at }
 {
     if stmts[at + 6] == 0 {
         return at + 7;
@@ -85,8 +85,8 @@ fn load_of(
     fired: Fired,
     bytes: &[u8],
 ) -> u8
-    requires { Indexed (widthsIn signals.now) signal_table.now × (sum_to (widthsIn signals.now) (length (recordsIn signals.now)) ≤ length bytes.now) × Stated signals.now stmts.now × Begins stmts.now at × (get_or stmts.now (at + 1) 0 ≡ 1) }
-    ensures { (k : ℕ) → k < length (recordsIn stmts.now) → at ≡ start_of stmts.now k → MarkOf signals.now stmts.now (firing (firedOf fired)) bytes.now k result }
+    requires { Indexed (widths_in signals.now) signal_table.now × (sum_to (widths_in signals.now) (length (records_in signals.now)) ≤ length bytes.now) × Stated signals.now stmts.now × Begins stmts.now at × (get_or stmts.now (at + 1) 0 ≡ 1) }
+    ensures { (k : ℕ) → k < length (records_in stmts.now) → at ≡ start_of stmts.now k → MarkOf signals.now stmts.now (firing (fired_of fired)) bytes.now k result }
 {
     if control(signals, stmts, signal_table, at + 6, false, bytes) {
         return 2;
@@ -117,8 +117,8 @@ fn note_load(
     bytes: &[u8],
     marks: &mut [u8],
 )
-    requires { Indexed (widthsIn signals.now) signal_table.now × (sum_to (widthsIn signals.now) (length (recordsIn signals.now)) ≤ length bytes.now) × Stated signals.now stmts.now × Begins stmts.now at × (length (recordsIn signals.now) ≤ length marks.old) }
-    ensures { (k : ℕ) → k < length (recordsIn stmts.now) → at ≡ start_of stmts.now k → NotesOne signals.now stmts.now (firing (firedOf fired)) bytes.now k marks.old marks.new }
+    requires { Indexed (widths_in signals.now) signal_table.now × (sum_to (widths_in signals.now) (length (records_in signals.now)) ≤ length bytes.now) × Stated signals.now stmts.now × Begins stmts.now at × (length (records_in signals.now) ≤ length marks.old) }
+    ensures { (k : ℕ) → k < length (records_in stmts.now) → at ≡ start_of stmts.now k → NotesOne signals.now stmts.now (firing (fired_of fired)) bytes.now k marks.old marks.new }
 {
     if stmts[at + 1] != 1 {
         return;
@@ -136,8 +136,8 @@ fn note_loads(
     bytes: &[u8],
     marks: &mut [u8],
 )
-    requires { Indexed (widthsIn signals.now) signal_table.now × (sum_to (widthsIn signals.now) (length (recordsIn signals.now)) ≤ length bytes.now) × Stated signals.now stmts.now × (length (recordsIn signals.now) ≤ length marks.old) }
-    ensures { Noted signals.now stmts.now (firing (firedOf fired)) bytes.now (length (recordsIn stmts.now)) marks.new }
+    requires { Indexed (widths_in signals.now) signal_table.now × (sum_to (widths_in signals.now) (length (records_in signals.now)) ≤ length bytes.now) × Stated signals.now stmts.now × (length (records_in signals.now) ≤ length marks.old) }
+    ensures { Noted signals.now stmts.now (firing (fired_of fired)) bytes.now (length (records_in stmts.now)) marks.new }
 {
     let mut at: usize = 0;
     while at < stmts.len() {
@@ -153,7 +153,7 @@ fn note_loads(
 // The expression that the statement at a word loads, by the marks.
 fn loaded(stmts: &[u32], at: usize, marks: &[u8]) -> Driver
     requires { Begins stmts.now at × Markable stmts.now marks.now }
-    ensures { (k : ℕ) → k < length (recordsIn stmts.now) → at ≡ start_of stmts.now k → driverOf result ≡ byMarks marks.now (stmtIn stmts.now k) }
+    ensures { (k : ℕ) → k < length (records_in stmts.now) → at ≡ start_of stmts.now k → driver_of result ≡ by_marks marks.now (stmt_in stmts.now k) }
 {
     if stmts[at + 1] != 1 {
         return Driver::None;
@@ -183,8 +183,8 @@ fn store_load(
     at: usize,
     bytes: &mut [u8],
 )
-    requires { Prepared signals.now exprs.now stmts.now expr_table.now signal_table.now × Room signals.now exprs.now bytes.old values.now × (length (recordsIn signals.now) ≤ length marks.now) × Begins stmts.now at }
-    ensures { (k : ℕ) → k < length (recordsIn stmts.now) → at ≡ start_of stmts.now k → StoresLoad signals.now exprs.now stmts.now values.now marks.now k bytes.old bytes.new }
+    requires { Prepared signals.now exprs.now stmts.now expr_table.now signal_table.now × Room signals.now exprs.now bytes.old values.now × (length (records_in signals.now) ≤ length marks.now) × Begins stmts.now at }
+    ensures { (k : ℕ) → k < length (records_in stmts.now) → at ≡ start_of stmts.now k → StoresLoad signals.now exprs.now stmts.now values.now marks.now k bytes.old bytes.new }
 {
     match loaded(stmts, at, marks) {
         Driver::By(d) => store(
@@ -212,7 +212,7 @@ fn store_loads(
     marks: &[u8],
     bytes: &mut [u8],
 )
-    requires { Prepared signals.now exprs.now stmts.now expr_table.now signal_table.now × Room signals.now exprs.now bytes.old values.now × (length (recordsIn signals.now) ≤ length marks.now) }
+    requires { Prepared signals.now exprs.now stmts.now expr_table.now signal_table.now × Room signals.now exprs.now bytes.old values.now × (length (records_in signals.now) ≤ length marks.now) }
     ensures { StoresMarked signals.now exprs.now stmts.now values.now marks.now bytes.old bytes.new }
 {
     let mut at: usize = 0;
@@ -249,8 +249,8 @@ fn note_listed(
     bytes: &[u8],
     marks: &mut [u8],
 )
-    requires { Indexed (widthsIn signals.now) signal_table.now × (sum_to (widthsIn signals.now) (length (recordsIn signals.now)) ≤ length bytes.now) × Stated signals.now stmts.now × (length (recordsIn signals.now) ≤ length marks.old) × (from + k ≤ length order.now) × Registers stmts.now order.now from k }
-    ensures { Noted signals.now stmts.now (firing (firedOf fired)) bytes.now (length (recordsIn stmts.now)) marks.new }
+    requires { Indexed (widths_in signals.now) signal_table.now × (sum_to (widths_in signals.now) (length (records_in signals.now)) ≤ length bytes.now) × Stated signals.now stmts.now × (length (records_in signals.now) ≤ length marks.old) × (from + k ≤ length order.now) × Registers stmts.now order.now from k }
+    ensures { Noted signals.now stmts.now (firing (fired_of fired)) bytes.now (length (records_in stmts.now)) marks.new }
 {
     let mut j: usize = 0;
     while j < k {
@@ -273,7 +273,7 @@ fn load_listed(
     marks: &[u8],
     bytes: &mut [u8],
 )
-    requires { Prepared signals.now exprs.now stmts.now expr_table.now signal_table.now × Room signals.now exprs.now bytes.old values.now × (length (recordsIn signals.now) ≤ length marks.now) × (from + k ≤ length order.now) × Registers stmts.now order.now from k }
+    requires { Prepared signals.now exprs.now stmts.now expr_table.now signal_table.now × Room signals.now exprs.now bytes.old values.now × (length (records_in signals.now) ≤ length marks.now) × (from + k ≤ length order.now) × Registers stmts.now order.now from k }
     ensures { LoadsMarked signals.now exprs.now stmts.now values.now marks.now bytes.old bytes.new }
 {
     let mut j: usize = 0;
@@ -309,8 +309,8 @@ pub fn commit_listed(
     marks: &mut [u8],
     bytes: &mut [u8],
 )
-    requires { Prepared signals.now exprs.now stmts.now expr_table.now signal_table.now × Room signals.now exprs.now bytes.old values.now × (length (recordsIn signals.now) ≤ length marks.old) × (from + k ≤ length order.now) × Registers stmts.now order.now from k }
-    ensures { LoadsListed signals.now exprs.now stmts.now (firing (firedOf fired)) values.now bytes.old bytes.new }
+    requires { Prepared signals.now exprs.now stmts.now expr_table.now signal_table.now × Room signals.now exprs.now bytes.old values.now × (length (records_in signals.now) ≤ length marks.old) × (from + k ≤ length order.now) × Registers stmts.now order.now from k }
+    ensures { LoadsListed signals.now exprs.now stmts.now (firing (fired_of fired)) values.now bytes.old bytes.new }
 {
     note_listed(
         signals,
@@ -350,8 +350,8 @@ pub fn commit(
     marks: &mut [u8],
     bytes: &mut [u8],
 )
-    requires { Prepared signals.now exprs.now stmts.now expr_table.now signal_table.now × Room signals.now exprs.now bytes.old values.now × (length (recordsIn signals.now) ≤ length marks.old) }
-    ensures { Commits signals.now exprs.now stmts.now (firing (firedOf fired)) values.now bytes.old bytes.new }
+    requires { Prepared signals.now exprs.now stmts.now expr_table.now signal_table.now × Room signals.now exprs.now bytes.old values.now × (length (records_in signals.now) ≤ length marks.old) }
+    ensures { Commits signals.now exprs.now stmts.now (firing (fired_of fired)) values.now bytes.old bytes.new }
 {
     note_loads(signals, stmts, signal_table, fired, bytes, marks);
     store_loads(

@@ -1,9 +1,9 @@
 // The checks of a model and of a call, lent no more of the tables than the lists can need: what is lent is cleared.
 ghost use Rattle.std.specs.Prelude.{◌≡◌, min};
 ghost use Rattle.recorder.specs.Lists.{lists};
-ghost use Rattle.simulation.specs.Wellformed.{malformed as malformedBy};
-ghost use Rattle.simulation.specs.Fault.{faultOf, call_of, checkedBy};
-ghost use Rattle.simulation.specs.Run.{answer_of, firedOf, zeroed};
+ghost use Rattle.simulation.specs.Wellformed.{malformed as malformed_by};
+ghost use Rattle.simulation.specs.Fault.{fault_of, call_of, checked_by};
+ghost use Rattle.simulation.specs.Run.{answer_of, fired_of, zeroed};
 
 use model_check::{call, check};
 use simulation::{Fault, Fired, Ran};
@@ -24,7 +24,7 @@ pub fn malformed(
     bytes: &mut [u8],
     widest: u32,
 ) -> Fault
-    ensures fault { faultOf result ≡ malformedBy widest (lists signals.now exprs.now stmts.now) }
+    ensures fault { fault_of result ≡ malformed_by widest (lists signals.now exprs.now stmts.now) }
     ensures zeros { bytes.new ≡ zeroed bytes.old }
 {
     let s = least(signals.len(), signal_table.len());
@@ -55,7 +55,7 @@ pub fn check_call(
     work_signals: &mut [u8],
     widest: u32,
 ) -> Ran
-    ensures answer { answer_of result ≡ checkedBy widest (call_of (lists signals.now exprs.now stmts.now) bytes.now ticks.now (firedOf fired) work_bits.now work_exprs.now work_signals.old) }
+    ensures answer { answer_of result ≡ checked_by widest (call_of (lists signals.now exprs.now stmts.now) bytes.now ticks.now (fired_of fired) work_bits.now work_exprs.now work_signals.old) }
     ensures zeros { work_signals.new ≡ zeroed work_signals.old }
 {
     let s = least(signals.len(), signal_table.len());

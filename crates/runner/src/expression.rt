@@ -2,7 +2,7 @@
 // expression e begins at word `at`: its length, kind, width, operands.
 ghost use Rattle.std.specs.Prelude.{◌≡◌, Bool, ℕ, ◌+◌, ◌≤◌, ◌<◌, length, get_or, set};
 ghost use Rattle.bits.specs.Bits.{digit};
-ghost use Rattle.simulation.specs.Index.{recordsIn, widthsIn, offset as sum_to, start_of, Indexed, Starts, Driven};
+ghost use Rattle.simulation.specs.Index.{records_in, widths_in, offset as sum_to, start_of, Indexed, Starts, Driven};
 ghost use Rattle.evaluation.specs.Ready.{Ready, Evaluated, Prepared, Room, Computed};
 
 use crate::bytes::{copy, copy_within, equal, gate, number, product, put_number};
@@ -12,8 +12,8 @@ use simulation::index::wide;
 
 // Where the value of an operand begins, whose number is word i.
 fn operand(exprs: &[u32], table: &[u32], i: usize) -> usize
-    requires { (i < length exprs.now) × Indexed (widthsIn exprs.now) table.now × (get_or exprs.now i 0 ≤ length (recordsIn exprs.now)) × (sum_to (widthsIn exprs.now) (length (recordsIn exprs.now)) ≤ 18446744073709551615) }
-    ensures { result ≡ sum_to (widthsIn exprs.now) (get_or exprs.now i 0) }
+    requires { (i < length exprs.now) × Indexed (widths_in exprs.now) table.now × (get_or exprs.now i 0 ≤ length (records_in exprs.now)) × (sum_to (widths_in exprs.now) (length (records_in exprs.now)) ≤ 18446744073709551615) }
+    ensures { result ≡ sum_to (widths_in exprs.now) (get_or exprs.now i 0) }
 {
     offset(exprs, table, wide(exprs[i]))
 }
@@ -152,7 +152,7 @@ fn eval_read(
     e: usize,
     values: &mut [u8],
 )
-    requires { Prepared signals.now exprs.now stmts.now expr_table.now signal_table.now × Room signals.now exprs.now bytes.now values.old × (e < length (recordsIn exprs.now)) × (at ≡ start_of exprs.now e) × (get_or exprs.now (at + 1) 0 ≡ 1) × Driven stmts.now driver_table.now }
+    requires { Prepared signals.now exprs.now stmts.now expr_table.now signal_table.now × Room signals.now exprs.now bytes.now values.old × (e < length (records_in exprs.now)) × (at ≡ start_of exprs.now e) × (get_or exprs.now (at + 1) 0 ≡ 1) × Driven stmts.now driver_table.now }
     ensures { Computed signals.now exprs.now stmts.now bytes.now e values.old values.new }
 {
     let to = offset(exprs, expr_table, e);
@@ -184,7 +184,7 @@ pub fn eval_expr(
     e: usize,
     values: &mut [u8],
 )
-    requires { Prepared signals.now exprs.now stmts.now expr_table.now signal_table.now × Starts exprs.now starts.now × Room signals.now exprs.now bytes.now values.old × (e < length (recordsIn exprs.now)) × Driven stmts.now driver_table.now }
+    requires { Prepared signals.now exprs.now stmts.now expr_table.now signal_table.now × Starts exprs.now starts.now × Room signals.now exprs.now bytes.now values.old × (e < length (records_in exprs.now)) × Driven stmts.now driver_table.now }
     ensures { Computed signals.now exprs.now stmts.now bytes.now e values.old values.new }
 {
     let at = start(exprs, starts, e);

@@ -26,10 +26,10 @@ mod whole; // whole.rt: a whole list's run
 ghost use Rattle.std.specs.Prelude.{◌≡◌};
 ghost use Rattle.recorder.specs.Lists.{lists};
 ghost use Rattle.simulation.specs.Fault.{call_of};
-ghost use Rattle.simulation.specs.Run.{firedOf, zeroed};
+ghost use Rattle.simulation.specs.Run.{fired_of, zeroed};
 ghost use Rattle.runner.specs.Calls.{Runs, Answers, RunsList};
 ghost use Rattle.runner.specs.Parts.{Unrefused, Tries};
-ghost use Rattle.runner.specs.Whole.{listCall};
+ghost use Rattle.runner.specs.Whole.{list_call};
 
 use cut::check_call;
 use ordering::Loop;
@@ -61,8 +61,8 @@ fn run_checked(
     driver_table: &mut [u32],
     order: &mut [u32],
 ) -> Ran
-    requires { Unrefused (lists signals.now exprs.now stmts.now) bytes.old ticks.now (firedOf fired) work_bits.old work_exprs.old work_signals.old }
-    ensures { Tries (lists signals.now exprs.now stmts.now) bytes.old ticks.now (firedOf fired) result bytes.new }
+    requires { Unrefused (lists signals.now exprs.now stmts.now) bytes.old ticks.now (fired_of fired) work_bits.old work_exprs.old work_signals.old }
+    ensures { Tries (lists signals.now exprs.now stmts.now) bytes.old ticks.now (fired_of fired) result bytes.new }
 {
     let counted_exprs = count(exprs);
     let n = counted_exprs.count;
@@ -127,7 +127,7 @@ fn run_with(
     driver_table: &mut [u32],
     order: &mut [u32],
 ) -> Ran
-    ensures { Answers (call_of (lists signals.now exprs.now stmts.now) bytes.old ticks.now (firedOf fired) work_bits.old work_exprs.old work_signals.old) result bytes.new }
+    ensures { Answers (call_of (lists signals.now exprs.now stmts.now) bytes.old ticks.now (fired_of fired) work_bits.old work_exprs.old work_signals.old) result bytes.new }
 {
     let checked = check_call(
         signals,
@@ -176,7 +176,7 @@ pub fn run(
     work_exprs: &mut [u8],
     work_signals: &mut [u8],
 ) -> Ran
-    ensures { Runs (call_of (lists signals.now exprs.now stmts.now) bytes.old ticks.now (firedOf fired) work_bits.old work_exprs.old work_signals.old) result bytes.new work_bits.new work_exprs.new work_signals.new }
+    ensures { Runs (call_of (lists signals.now exprs.now stmts.now) bytes.old ticks.now (fired_of fired) work_bits.old work_exprs.old work_signals.old) result bytes.new work_bits.new work_exprs.new work_signals.new }
 {
     let mut starts = [0u32; 65536];
     let mut expr_table = [0u32; 65536];
@@ -225,7 +225,7 @@ pub fn run_list(
     answers: &mut [u64],
     shown: &mut [u8],
 ) -> Ran
-    ensures runs { RunsList (listCall (lists signals.now exprs.now stmts.now) heads.now bits.now bytes.old work_bits.old work_exprs.old work_signals.old answers.old shown.old) result bytes.new answers.new shown.new }
+    ensures runs { RunsList (list_call (lists signals.now exprs.now stmts.now) heads.now bits.now bytes.old work_bits.old work_exprs.old work_signals.old answers.old shown.old) result bytes.new answers.new shown.new }
     ensures works { (work_bits.new ≡ zeroed work_bits.old) × (work_exprs.new ≡ zeroed work_exprs.old) × (work_signals.new ≡ zeroed work_signals.old) }
     ensures tables { (starts.new ≡ zeroed starts.old) × (expr_table.new ≡ zeroed expr_table.old) × (signal_table.new ≡ zeroed signal_table.old) × (driver_table.new ≡ zeroed driver_table.old) × (order.new ≡ zeroed order.old) }
 {

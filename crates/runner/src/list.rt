@@ -3,14 +3,14 @@ ghost use Rattle.std.specs.Prelude.{◌≡◌, ◌*◌, ◌/◌, ◌≤◌, leng
 ghost use Rattle.std.proofs.Math.Option.{none};
 ghost use Rattle.recorder.specs.Lists.{lists};
 ghost use Rattle.simulation.specs.Wellformed.{largest, malformed};
-ghost use Rattle.simulation.specs.Index.{recordsIn, widthsIn, Starts, Driven};
-ghost use Rattle.simulation.specs.Run.{answer_of, firedOf, firing, total, inputWidth};
+ghost use Rattle.simulation.specs.Index.{records_in, widths_in, Starts, Driven};
+ghost use Rattle.simulation.specs.Run.{answer_of, fired_of, firing, total, input_width};
 ghost use Rattle.simulation.specs.Tick.{looped};
-ghost use Rattle.evaluation.specs.Ready.{Prepared, Room, modelIn};
+ghost use Rattle.evaluation.specs.Ready.{Prepared, Room, model_in};
 ghost use Rattle.evaluation.specs.Late.{TicksLate};
-ghost use Rattle.evaluation.specs.Ticks.{Filled, Ordered, GoodTicks, signalsIn};
-ghost use Rattle.runner.specs.Calls.{outputWidth, handed};
-ghost use Rattle.runner.specs.Parts.{tickCauses, isMade, RunsLate, RunsTicks, Finishes};
+ghost use Rattle.evaluation.specs.Ticks.{Filled, Ordered, GoodTicks, signals_in};
+ghost use Rattle.runner.specs.Calls.{output_width, handed};
+ghost use Rattle.runner.specs.Parts.{tick_causes, is_made, RunsLate, RunsTicks, Finishes};
 ghost use Rattle.runner.specs.Plan.{Planning};
 
 use crate::code::Code;
@@ -44,9 +44,9 @@ fn tick_either(
     work_exprs: &mut [u8],
     work_signals: &mut [u8],
 )
-    requires { Prepared signals.now exprs.now stmts.now expr_table.now signal_table.now × Starts exprs.now starts.now × Driven stmts.now driver_table.now × Room signals.now exprs.now bytes.old values.old × (n ≡ length (recordsIn exprs.now)) × (count ≡ length (recordsIn signals.now)) × (n ≤ length work_exprs.old) × (count ≤ length work_signals.old) × Ordered (modelIn signals.now exprs.now stmts.now) n order.now × (looped (modelIn signals.now exprs.now stmts.now) ≡ none) × Filled (widthsIn exprs.now) values.old × Filled (widthsIn signals.now) bytes.old × GoodTicks signals.now ticks.now × Planning signals.now exprs.now stmts.now n count code order.now values.old }
-    ensures ticked { TicksLate signals.now exprs.now stmts.now ticks.now (firing (firedOf fired)) bytes.old bytes.new }
-    ensures filled { Filled (widthsIn exprs.now) values.new }
+    requires { Prepared signals.now exprs.now stmts.now expr_table.now signal_table.now × Starts exprs.now starts.now × Driven stmts.now driver_table.now × Room signals.now exprs.now bytes.old values.old × (n ≡ length (records_in exprs.now)) × (count ≡ length (records_in signals.now)) × (n ≤ length work_exprs.old) × (count ≤ length work_signals.old) × Ordered (model_in signals.now exprs.now stmts.now) n order.now × (looped (model_in signals.now exprs.now stmts.now) ≡ none) × Filled (widths_in exprs.now) values.old × Filled (widths_in signals.now) bytes.old × GoodTicks signals.now ticks.now × Planning signals.now exprs.now stmts.now n count code order.now values.old }
+    ensures ticked { TicksLate signals.now exprs.now stmts.now ticks.now (firing (fired_of fired)) bytes.old bytes.new }
+    ensures filled { Filled (widths_in exprs.now) values.new }
 {
     if code.usable {
         tick_late(
@@ -91,7 +91,7 @@ fn tick_either(
 
 // 14 for one tick of which `asked` bits are asked for and `ticks` are there.
 pub fn head_fault(count: usize, inputs: usize, asked: usize, ticks: &[u8], fired: Fired) -> Ran
-    ensures { answer_of result ≡ tickCauses count inputs (handed inputs asked ticks.now) (firedOf fired) }
+    ensures { answer_of result ≡ tick_causes count inputs (handed inputs asked ticks.now) (fired_of fired) }
 {
     if ticks.len() < asked {
         return Ran::Refused(Refusal::BadTick(inputs));
@@ -121,10 +121,10 @@ fn run_tick(
     work_exprs: &mut [u8],
     work_signals: &mut [u8],
 ) -> Ran
-    requires { Prepared signals.now exprs.now stmts.now expr_table.now signal_table.now × Starts exprs.now starts.now × Driven stmts.now driver_table.now × Room signals.now exprs.now bytes.old values.old × (n ≡ length (recordsIn exprs.now)) × (count ≡ length (recordsIn signals.now)) × (n ≤ length work_exprs.old) × (count ≤ length work_signals.old) × Ordered (modelIn signals.now exprs.now stmts.now) n order.now × (looped (modelIn signals.now exprs.now stmts.now) ≡ none) × Filled (widthsIn exprs.now) values.old × Filled (widthsIn signals.now) bytes.old × (inputs ≡ total inputWidth (signalsIn signals.now)) × Planning signals.now exprs.now stmts.now n count code order.now values.old }
-    ensures answered { answer_of result ≡ tickCauses count inputs (handed inputs asked ticks.now) (firedOf fired) }
-    ensures runs { RunsLate signals.now exprs.now stmts.now (handed inputs asked ticks.now) (firedOf fired) (answer_of result) bytes.old bytes.new }
-    ensures filled { Filled (widthsIn exprs.now) values.new }
+    requires { Prepared signals.now exprs.now stmts.now expr_table.now signal_table.now × Starts exprs.now starts.now × Driven stmts.now driver_table.now × Room signals.now exprs.now bytes.old values.old × (n ≡ length (records_in exprs.now)) × (count ≡ length (records_in signals.now)) × (n ≤ length work_exprs.old) × (count ≤ length work_signals.old) × Ordered (model_in signals.now exprs.now stmts.now) n order.now × (looped (model_in signals.now exprs.now stmts.now) ≡ none) × Filled (widths_in exprs.now) values.old × Filled (widths_in signals.now) bytes.old × (inputs ≡ total input_width (signals_in signals.now)) × Planning signals.now exprs.now stmts.now n count code order.now values.old }
+    ensures answered { answer_of result ≡ tick_causes count inputs (handed inputs asked ticks.now) (fired_of fired) }
+    ensures runs { RunsLate signals.now exprs.now stmts.now (handed inputs asked ticks.now) (fired_of fired) (answer_of result) bytes.old bytes.new }
+    ensures filled { Filled (widths_in exprs.now) values.new }
 {
     match head_fault(count, inputs, asked, ticks, fired) {
         Ran::Refused(x) => Ran::Refused(x),
@@ -154,7 +154,7 @@ fn run_tick(
 }
 
 fn is_made(r: Ran) -> bool
-    ensures { result ≡ isMade (answer_of r) }
+    ensures { result ≡ is_made (answer_of r) }
 {
     match r {
         Ran::Done => true,
@@ -179,7 +179,7 @@ fn finish(
     values: &mut [u8],
     work_exprs: &mut [u8],
 )
-    requires { Prepared signals.now exprs.now stmts.now expr_table.now signal_table.now × Starts exprs.now starts.now × Driven stmts.now driver_table.now × Room signals.now exprs.now bytes.old values.old × (n ≡ length (recordsIn exprs.now)) × (count ≡ length (recordsIn signals.now)) × (n ≤ length work_exprs.old) × Ordered (modelIn signals.now exprs.now stmts.now) n order.now × (looped (modelIn signals.now exprs.now stmts.now) ≡ none) × Filled (widthsIn exprs.now) values.old }
+    requires { Prepared signals.now exprs.now stmts.now expr_table.now signal_table.now × Starts exprs.now starts.now × Driven stmts.now driver_table.now × Room signals.now exprs.now bytes.old values.old × (n ≡ length (records_in exprs.now)) × (count ≡ length (records_in signals.now)) × (n ≤ length work_exprs.old) × Ordered (model_in signals.now exprs.now stmts.now) n order.now × (looped (model_in signals.now exprs.now stmts.now) ≡ none) × Filled (widths_in exprs.now) values.old }
     ensures { Finishes signals.now exprs.now stmts.now late bytes.old bytes.new }
 {
     if !late {
@@ -225,7 +225,7 @@ pub fn run_ticks(
     answers: &mut [u64],
     shown: &mut [u8],
 )
-    requires { Prepared signals.now exprs.now stmts.now expr_table.now signal_table.now × Starts exprs.now starts.now × Driven stmts.now driver_table.now × Room signals.now exprs.now bytes.old values.old × (n ≡ length (recordsIn exprs.now)) × (count ≡ length (recordsIn signals.now)) × (n ≤ length work_exprs.old) × (count ≤ length work_signals.old) × Ordered (modelIn signals.now exprs.now stmts.now) n order.now × (looped (modelIn signals.now exprs.now stmts.now) ≡ none) × Filled (widthsIn exprs.now) values.old × Filled (widthsIn signals.now) bytes.old × (inputs ≡ total inputWidth (signalsIn signals.now)) × (2 * (length heads.now / 3) ≤ length answers.old) × (total outputWidth (signalsIn signals.now) * (length heads.now / 3) ≤ length shown.old) × (malformed largest (lists signals.now exprs.now stmts.now) ≡ none) × Planning signals.now exprs.now stmts.now n count code order.now values.old }
+    requires { Prepared signals.now exprs.now stmts.now expr_table.now signal_table.now × Starts exprs.now starts.now × Driven stmts.now driver_table.now × Room signals.now exprs.now bytes.old values.old × (n ≡ length (records_in exprs.now)) × (count ≡ length (records_in signals.now)) × (n ≤ length work_exprs.old) × (count ≤ length work_signals.old) × Ordered (model_in signals.now exprs.now stmts.now) n order.now × (looped (model_in signals.now exprs.now stmts.now) ≡ none) × Filled (widths_in exprs.now) values.old × Filled (widths_in signals.now) bytes.old × (inputs ≡ total input_width (signals_in signals.now)) × (2 * (length heads.now / 3) ≤ length answers.old) × (total output_width (signals_in signals.now) * (length heads.now / 3) ≤ length shown.old) × (malformed largest (lists signals.now exprs.now stmts.now) ≡ none) × Planning signals.now exprs.now stmts.now n count code order.now values.old }
     ensures { RunsTicks (lists signals.now exprs.now stmts.now) heads.now bits.now bytes.old bytes.new answers.old answers.new shown.old shown.new }
 {
     let mut at: usize = 0;

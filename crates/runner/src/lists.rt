@@ -1,9 +1,9 @@
 // What a plan lists: where registers begin, the signals that they ask for, the outputs. A count past the room says that it is too short.
 ghost use Rattle.std.specs.Prelude.{◌≡◌, true, ℕ, ◌+◌, ◌≤◌, ◌<◌, length, get_or, take};
-ghost use Rattle.simulation.specs.Index.{recordsIn, start_of};
+ghost use Rattle.simulation.specs.Index.{records_in, start_of};
 ghost use Rattle.ordering.specs.Marks.{marked};
 ghost use Rattle.evaluation.specs.Ticks.{ReadSignals};
-ghost use Rattle.evaluation.specs.Loads.{stmtIn, Stated, Begins};
+ghost use Rattle.evaluation.specs.Loads.{stmt_in, Stated, Begins};
 ghost use Rattle.evaluation.specs.Late.{Among, Asks, Registers};
 ghost use Rattle.runner.specs.Plan.{Listing, Controls, Outputs};
 
@@ -101,9 +101,9 @@ fn list_asked(
     k: usize,
     marks: &mut [u8],
 ) -> usize
-    requires { Stated signals.now stmts.now × Begins stmts.now at × (from + room ≤ length order.old) × (k ≤ room) × (length (recordsIn signals.now) ≤ length marks.old) × Listing order.old from k marks.old }
+    requires { Stated signals.now stmts.now × Begins stmts.now at × (from + room ≤ length order.old) × (k ≤ room) × (length (records_in signals.now) ≤ length marks.old) × Listing order.old from k marks.old }
     ensures kept { take from order.new ≡ take from order.old }
-    ensures listed { result ≤ room → Listing order.new from result marks.new × ((number x : ℕ) → number < length (recordsIn stmts.now) → at ≡ start_of stmts.now number → Asks (stmtIn stmts.now number) x → Among order.new from result x) × ((y : ℕ) → Among order.old from k y → Among order.new from result y) }
+    ensures listed { result ≤ room → Listing order.new from result marks.new × ((number x : ℕ) → number < length (records_in stmts.now) → at ≡ start_of stmts.now number → Asks (stmt_in stmts.now number) x → Among order.new from result x) × ((y : ℕ) → Among order.old from k y → Among order.new from result y) }
 {
     if stmts[at + 1] != 1 {
         return k;
@@ -126,7 +126,7 @@ pub fn list_controls(
     room: usize,
     marks: &mut [u8],
 ) -> usize
-    requires { Stated signals.now stmts.now × Registers stmts.now order.old loads count × (loads + count ≤ from) × (from + room ≤ length order.old) × (length (recordsIn signals.now) ≤ length marks.old) }
+    requires { Stated signals.now stmts.now × Registers stmts.now order.old loads count × (loads + count ≤ from) × (from + room ≤ length order.old) × (length (records_in signals.now) ≤ length marks.old) }
     ensures kept { take from order.new ≡ take from order.old }
     ensures listed { result ≤ room → Controls stmts.now order.new from result }
 {

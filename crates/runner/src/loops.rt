@@ -1,10 +1,10 @@
 // Refusal 13: the lowest signal on a loop, by marking what leads to it.
 ghost use Rattle.std.specs.Prelude.{◌≡◌, Bool, true, false, ◌||◌, ◌+◌, ◌≤◌, ◌<◌, length, get_or, set};
 ghost use Rattle.settle.specs.Loop.{LowestOnLoop};
-ghost use Rattle.simulation.specs.Index.{recordsIn};
+ghost use Rattle.simulation.specs.Index.{records_in};
 ghost use Rattle.simulation.specs.Tick.{depends, looped};
 ghost use Rattle.ordering.specs.Marks.{Backed};
-ghost use Rattle.ordering.specs.Words.{modelIn, modelWith, Tabled, Faultless};
+ghost use Rattle.ordering.specs.Words.{model_in, model_with, Tabled, Faultless};
 ghost use Rattle.ordering.specs.Loops.{loop_of, finds, Touch, Touches, Found, OnLoop};
 
 use crate::marks::{driver_marked, is_marked, touched};
@@ -20,8 +20,8 @@ fn finds_one(
     s: usize,
     e: usize,
 ) -> bool
-    requires { Tabled exprs.now starts.now stmts.now drivers.now × (e < length (recordsIn exprs.now)) }
-    ensures { result ≡ finds (modelIn exprs.now stmts.now) s marks.now e }
+    requires { Tabled exprs.now starts.now stmts.now drivers.now × (e < length (records_in exprs.now)) }
+    ensures { result ≡ finds (model_in exprs.now stmts.now) s marks.now e }
 {
     if is_marked(marks, e) {
         return false;
@@ -38,8 +38,8 @@ fn touch_one(
     s: usize,
     e: usize,
 ) -> bool
-    requires { Tabled exprs.now starts.now stmts.now drivers.now × (e < length (recordsIn exprs.now)) × (e < length marks.old) }
-    ensures { Touch (modelIn exprs.now stmts.now) s marks.old e result marks.new }
+    requires { Tabled exprs.now starts.now stmts.now drivers.now × (e < length (records_in exprs.now)) × (e < length marks.old) }
+    ensures { Touch (model_in exprs.now stmts.now) s marks.old e result marks.new }
 {
     if !finds_one(exprs, starts, stmts, drivers, marks, s, e) {
         return false;
@@ -68,8 +68,8 @@ fn touch_pass(
     s: usize,
     n: usize,
 ) -> bool
-    requires { Tabled exprs.now starts.now stmts.now drivers.now × (n ≡ length (recordsIn exprs.now)) × (n ≤ length marks.old) × Faultless signals.now exprs.now stmts.now × Backed (modelWith signals.now exprs.now stmts.now) s marks.old }
-    ensures { Touches (modelWith signals.now exprs.now stmts.now) n s marks.old result marks.new }
+    requires { Tabled exprs.now starts.now stmts.now drivers.now × (n ≡ length (records_in exprs.now)) × (n ≤ length marks.old) × Faultless signals.now exprs.now stmts.now × Backed (model_with signals.now exprs.now stmts.now) s marks.old }
+    ensures { Touches (model_with signals.now exprs.now stmts.now) n s marks.old result marks.new }
 {
     let mut any = false;
     let mut e: usize = 0;
@@ -92,8 +92,8 @@ fn mark_leading(
     s: usize,
     n: usize,
 )
-    requires { Tabled exprs.now starts.now stmts.now drivers.now × (n ≡ length (recordsIn exprs.now)) × (n ≤ length marks.old) × Faultless signals.now exprs.now stmts.now }
-    ensures { Found (modelWith signals.now exprs.now stmts.now) s marks.new }
+    requires { Tabled exprs.now starts.now stmts.now drivers.now × (n ≡ length (records_in exprs.now)) × (n ≤ length marks.old) × Faultless signals.now exprs.now stmts.now }
+    ensures { Found (model_with signals.now exprs.now stmts.now) s marks.new }
 {
     zero_bytes(marks);
     loop {
@@ -114,8 +114,8 @@ fn on_loop(
     s: usize,
     n: usize,
 ) -> bool
-    requires { Tabled exprs.now starts.now stmts.now drivers.now × (n ≡ length (recordsIn exprs.now)) × (n ≤ length marks.old) × Faultless signals.now exprs.now stmts.now }
-    ensures { OnLoop (modelWith signals.now exprs.now stmts.now) s result }
+    requires { Tabled exprs.now starts.now stmts.now drivers.now × (n ≡ length (records_in exprs.now)) × (n ≤ length marks.old) × Faultless signals.now exprs.now stmts.now }
+    ensures { OnLoop (model_with signals.now exprs.now stmts.now) s result }
 {
     mark_leading(exprs, starts, stmts, drivers, marks, signals, s, n);
     driver_marked(stmts, drivers, marks, s, false)
@@ -132,8 +132,8 @@ pub fn lowest_on_loop(
     n: usize,
     count: usize,
 ) -> Loop
-    requires { Tabled exprs.now starts.now stmts.now drivers.now × (n ≡ length (recordsIn exprs.now)) × (n ≤ length marks.old) × Faultless signals.now exprs.now stmts.now × (count ≡ length (modelWith signals.now exprs.now stmts.now).signals) }
-    ensures { loop_of result ≡ looped (modelWith signals.now exprs.now stmts.now) }
+    requires { Tabled exprs.now starts.now stmts.now drivers.now × (n ≡ length (records_in exprs.now)) × (n ≤ length marks.old) × Faultless signals.now exprs.now stmts.now × (count ≡ length (model_with signals.now exprs.now stmts.now).signals) }
+    ensures { loop_of result ≡ looped (model_with signals.now exprs.now stmts.now) }
 {
     let mut s: usize = 0;
     while s < count {

@@ -1,9 +1,9 @@
 // Marks: an expression is marked once all that it needs is. What can't be marked is on a loop or behind one.
 ghost use Rattle.std.specs.Prelude.{◌≡◌, Bool, true, false, ◌||◌, ◌+◌, ◌≤◌, ◌<◌, length, get_or, take, drop};
 ghost use Rattle.settle.specs.Tests.{all, any};
-ghost use Rattle.simulation.specs.Index.{recordsIn, Driven};
-ghost use Rattle.ordering.specs.Marks.{marked, ready as readyIn, touched as touchedIn};
-ghost use Rattle.ordering.specs.Words.{modelIn, driverMarked, Tabled};
+ghost use Rattle.simulation.specs.Index.{records_in, Driven};
+ghost use Rattle.ordering.specs.Marks.{marked, ready as ready_in, touched as touched_in};
+ghost use Rattle.ordering.specs.Words.{model_in, driver_marked, Tabled};
 
 use crate::tables::{driver, start};
 use simulation::Driver;
@@ -51,7 +51,7 @@ fn any_marked(exprs: &[u32], at: usize, n: usize, marks: &[u8]) -> bool
 // The expression that is assigned to a signal is marked; `none` where there is none.
 pub fn driver_marked(stmts: &[u32], drivers: &[u32], marks: &[u8], s: usize, none: bool) -> bool
     requires { Driven stmts.now drivers.now }
-    ensures { result ≡ driverMarked stmts.now marks.now s none }
+    ensures { result ≡ driver_marked stmts.now marks.now s none }
 {
     match driver(stmts, drivers, s) {
         Driver::None => none,
@@ -68,8 +68,8 @@ pub fn ready(
     marks: &[u8],
     e: usize,
 ) -> bool
-    requires { Tabled exprs.now starts.now stmts.now drivers.now × (e < length (recordsIn exprs.now)) }
-    ensures { result ≡ readyIn (modelIn exprs.now stmts.now) marks.now e }
+    requires { Tabled exprs.now starts.now stmts.now drivers.now × (e < length (records_in exprs.now)) }
+    ensures { result ≡ ready_in (model_in exprs.now stmts.now) marks.now e }
 {
     let at = start(exprs, starts, e);
     let kind = exprs[at + 1];
@@ -92,8 +92,8 @@ pub fn touched(
     s: usize,
     e: usize,
 ) -> bool
-    requires { Tabled exprs.now starts.now stmts.now drivers.now × (e < length (recordsIn exprs.now)) }
-    ensures { result ≡ touchedIn (modelIn exprs.now stmts.now) marks.now s e }
+    requires { Tabled exprs.now starts.now stmts.now drivers.now × (e < length (records_in exprs.now)) }
+    ensures { result ≡ touched_in (model_in exprs.now stmts.now) marks.now s e }
 {
     let at = start(exprs, starts, e);
     let kind = exprs[at + 1];

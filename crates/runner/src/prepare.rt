@@ -1,9 +1,9 @@
 // What is prepared once for a model without a fault: tables, an order of its expressions, and whether it has a loop.
 ghost use Rattle.std.specs.Prelude.{◌≡◌, ◌≤◌, length, take};
-ghost use Rattle.simulation.specs.Index.{recordsIn, Starts, Driven};
+ghost use Rattle.simulation.specs.Index.{records_in, Starts, Driven};
 ghost use Rattle.simulation.specs.Tick.{looped};
 ghost use Rattle.ordering.specs.Loops.{loop_of};
-ghost use Rattle.evaluation.specs.Ready.{Prepared, modelIn};
+ghost use Rattle.evaluation.specs.Ready.{Prepared, model_in};
 ghost use Rattle.evaluation.specs.Ticks.{NoFault, Ordered};
 
 use crate::loops::lowest_on_loop;
@@ -34,13 +34,13 @@ pub fn prepare(
     count: usize,
     marks: &mut [u8],
 ) -> Readied
-    requires { NoFault signals.now exprs.now stmts.now × (n ≡ length (recordsIn exprs.now)) × (count ≡ length (recordsIn signals.now)) × (n ≤ length marks.old) }
+    requires { NoFault signals.now exprs.now stmts.now × (n ≡ length (records_in exprs.now)) × (count ≡ length (records_in signals.now)) × (n ≤ length marks.old) }
     ensures prepared { Prepared signals.now exprs.now stmts.now expr_table.new signal_table.new }
     ensures started { Starts exprs.now starts.new }
     ensures driven { Driven stmts.now driver_table.new }
-    ensures found { loop_of result.found ≡ looped (modelIn signals.now exprs.now stmts.now) }
+    ensures found { loop_of result.found ≡ looped (model_in signals.now exprs.now stmts.now) }
     ensures inside { result.ordered ≤ length order.new }
-    ensures ordered { Ordered (modelIn signals.now exprs.now stmts.now) n (take result.ordered order.new) }
+    ensures ordered { Ordered (model_in signals.now exprs.now stmts.now) n (take result.ordered order.new) }
 {
     fill_starts(exprs, starts);
     fill_offsets(exprs, expr_table);

@@ -2,14 +2,14 @@
 ghost use Rattle.std.specs.Prelude.{◌≡◌, ◌*◌, ◌/◌, ◌≤◌, length};
 ghost use Rattle.std.proofs.Math.Option.{none};
 ghost use Rattle.recorder.specs.Lists.{lists};
-ghost use Rattle.recorder.specs.Read.{modelOf};
-ghost use Rattle.recorder.specs.Words.{rawOf};
+ghost use Rattle.recorder.specs.Read.{model_of};
+ghost use Rattle.recorder.specs.Words.{raw_of};
 ghost use Rattle.simulation.specs.Wellformed.{largest, malformed};
-ghost use Rattle.simulation.specs.Index.{recordsIn};
-ghost use Rattle.simulation.specs.Run.{answer_of, firedOf, total, inputWidth, signalBytes};
-ghost use Rattle.evaluation.specs.Ticks.{signalsIn};
-ghost use Rattle.runner.specs.Calls.{outputWidth, handed};
-ghost use Rattle.runner.specs.Parts.{tickCauses, RunsTicks};
+ghost use Rattle.simulation.specs.Index.{records_in};
+ghost use Rattle.simulation.specs.Run.{answer_of, fired_of, total, input_width, signal_bytes};
+ghost use Rattle.evaluation.specs.Ticks.{signals_in};
+ghost use Rattle.runner.specs.Calls.{output_width, handed};
+ghost use Rattle.runner.specs.Parts.{tick_causes, RunsTicks};
 ghost use Rattle.runner.specs.Whole.{among, Stopped};
 
 use crate::list::head_fault;
@@ -28,7 +28,7 @@ fn tick_refusal(
     fired: Fired,
     behind: Ran,
 ) -> Ran
-    ensures { answer_of result ≡ among (answer_of ahead) (tickCauses count inputs (handed inputs asked ticks.now) (firedOf fired)) (answer_of behind) }
+    ensures { answer_of result ≡ among (answer_of ahead) (tick_causes count inputs (handed inputs asked ticks.now) (fired_of fired)) (answer_of behind) }
 {
     let own = head_fault(count, inputs, asked, ticks, fired);
     either(ahead, either(own, behind))
@@ -49,7 +49,7 @@ pub fn refuse_ticks(
     answers: &mut [u64],
     shown: &mut [u8],
 )
-    requires { (malformed largest (lists signals.now exprs.now stmts.now) ≡ none) × (signalBytes (modelOf (rawOf (lists signals.now exprs.now stmts.now))) ≤ length bytes.now) × (2 * (length heads.now / 3) ≤ length answers.old) × (total outputWidth (signalsIn signals.now) * (length heads.now / 3) ≤ length shown.old) × (count ≡ length (recordsIn signals.now)) × (inputs ≡ total inputWidth (signalsIn signals.now)) × Stopped (lists signals.now exprs.now stmts.now) bytes.now (answer_of ahead) (answer_of behind) }
+    requires { (malformed largest (lists signals.now exprs.now stmts.now) ≡ none) × (signal_bytes (model_of (raw_of (lists signals.now exprs.now stmts.now))) ≤ length bytes.now) × (2 * (length heads.now / 3) ≤ length answers.old) × (total output_width (signals_in signals.now) * (length heads.now / 3) ≤ length shown.old) × (count ≡ length (records_in signals.now)) × (inputs ≡ total input_width (signals_in signals.now)) × Stopped (lists signals.now exprs.now stmts.now) bytes.now (answer_of ahead) (answer_of behind) }
     ensures { RunsTicks (lists signals.now exprs.now stmts.now) heads.now bits.now bytes.now bytes.now answers.old answers.new shown.old shown.new }
 {
     let ports = ports_end(signals);

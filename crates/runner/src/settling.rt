@@ -1,9 +1,9 @@
 // The values of all expressions: along an order if it has them all, else in passes, marking those that are done.
 ghost use Rattle.std.specs.Prelude.{◌≡◌, ◌≤◌, ◌<◌, length};
 ghost use Rattle.std.proofs.Math.Option.{none};
-ghost use Rattle.simulation.specs.Index.{recordsIn, widthsIn, Starts, Driven};
+ghost use Rattle.simulation.specs.Index.{records_in, widths_in, Starts, Driven};
 ghost use Rattle.simulation.specs.Tick.{looped};
-ghost use Rattle.evaluation.specs.Ready.{Prepared, Room, modelIn};
+ghost use Rattle.evaluation.specs.Ready.{Prepared, Room, model_in};
 ghost use Rattle.evaluation.specs.Settling.{InMarks, RightOn, SettlesOne, SettlesPass};
 ghost use Rattle.evaluation.specs.Ticks.{Filled, Ordered, Settles, SettlesNamed, Settled};
 
@@ -28,7 +28,7 @@ fn settle_ordered(
     bytes: &[u8],
     values: &mut [u8],
 )
-    requires { Prepared signals.now exprs.now stmts.now expr_table.now signal_table.now × Starts exprs.now starts.now × Driven stmts.now driver_table.now × Room signals.now exprs.now bytes.now values.old × (n ≡ length (recordsIn exprs.now)) × (n ≤ length order.now) × Ordered (modelIn signals.now exprs.now stmts.now) n order.now × Filled (widthsIn exprs.now) values.old }
+    requires { Prepared signals.now exprs.now stmts.now expr_table.now signal_table.now × Starts exprs.now starts.now × Driven stmts.now driver_table.now × Room signals.now exprs.now bytes.now values.old × (n ≡ length (records_in exprs.now)) × (n ≤ length order.now) × Ordered (model_in signals.now exprs.now stmts.now) n order.now × Filled (widths_in exprs.now) values.old }
     ensures { Settles signals.now exprs.now stmts.now bytes.now values.new }
 {
     let mut j: usize = 0;
@@ -66,7 +66,7 @@ fn settle_one(
     values: &mut [u8],
     marks: &mut [u8],
 ) -> bool
-    requires { Prepared signals.now exprs.now stmts.now expr_table.now signal_table.now × Starts exprs.now starts.now × Driven stmts.now driver_table.now × Room signals.now exprs.now bytes.now values.old × (e < length (recordsIn exprs.now)) × (e < length marks.old) }
+    requires { Prepared signals.now exprs.now stmts.now expr_table.now signal_table.now × Starts exprs.now starts.now × Driven stmts.now driver_table.now × Room signals.now exprs.now bytes.now values.old × (e < length (records_in exprs.now)) × (e < length marks.old) }
     ensures { SettlesOne signals.now exprs.now stmts.now bytes.now e values.old marks.old result values.new marks.new }
 {
     if !adds_one(exprs, starts, stmts, driver_table, marks, e) {
@@ -102,7 +102,7 @@ fn settle_pass(
     values: &mut [u8],
     marks: &mut [u8],
 ) -> bool
-    requires { Prepared signals.now exprs.now stmts.now expr_table.now signal_table.now × Starts exprs.now starts.now × Driven stmts.now driver_table.now × Room signals.now exprs.now bytes.now values.old × (n ≡ length (recordsIn exprs.now)) × (n ≤ length marks.old) × RightOn signals.now exprs.now stmts.now (InMarks marks.old) bytes.now values.old }
+    requires { Prepared signals.now exprs.now stmts.now expr_table.now signal_table.now × Starts exprs.now starts.now × Driven stmts.now driver_table.now × Room signals.now exprs.now bytes.now values.old × (n ≡ length (records_in exprs.now)) × (n ≤ length marks.old) × RightOn signals.now exprs.now stmts.now (InMarks marks.old) bytes.now values.old }
     ensures { SettlesPass signals.now exprs.now stmts.now n bytes.now marks.old result values.new marks.new }
 {
     let mut any = false;
@@ -141,7 +141,7 @@ fn settle_marked(
     values: &mut [u8],
     marks: &mut [u8],
 )
-    requires { Prepared signals.now exprs.now stmts.now expr_table.now signal_table.now × Starts exprs.now starts.now × Driven stmts.now driver_table.now × Room signals.now exprs.now bytes.now values.old × (n ≡ length (recordsIn exprs.now)) × (n ≤ length marks.old) × (looped (modelIn signals.now exprs.now stmts.now) ≡ none) × Filled (widthsIn exprs.now) values.old }
+    requires { Prepared signals.now exprs.now stmts.now expr_table.now signal_table.now × Starts exprs.now starts.now × Driven stmts.now driver_table.now × Room signals.now exprs.now bytes.now values.old × (n ≡ length (records_in exprs.now)) × (n ≤ length marks.old) × (looped (model_in signals.now exprs.now stmts.now) ≡ none) × Filled (widths_in exprs.now) values.old }
     ensures { Settles signals.now exprs.now stmts.now bytes.now values.new }
 {
     zero_bytes(marks);
@@ -180,7 +180,7 @@ fn settle_plain(
     values: &mut [u8],
     marks: &mut [u8],
 )
-    requires { Prepared signals.now exprs.now stmts.now expr_table.now signal_table.now × Starts exprs.now starts.now × Driven stmts.now driver_table.now × Room signals.now exprs.now bytes.now values.old × (n ≡ length (recordsIn exprs.now)) × (n ≤ length marks.old) × Ordered (modelIn signals.now exprs.now stmts.now) n order.now × (looped (modelIn signals.now exprs.now stmts.now) ≡ none) × Filled (widthsIn exprs.now) values.old }
+    requires { Prepared signals.now exprs.now stmts.now expr_table.now signal_table.now × Starts exprs.now starts.now × Driven stmts.now driver_table.now × Room signals.now exprs.now bytes.now values.old × (n ≡ length (records_in exprs.now)) × (n ≤ length marks.old) × Ordered (model_in signals.now exprs.now stmts.now) n order.now × (looped (model_in signals.now exprs.now stmts.now) ≡ none) × Filled (widths_in exprs.now) values.old }
     ensures { SettlesNamed signals.now exprs.now stmts.now bytes.now values.new }
 {
     if n <= order.len() {
@@ -230,7 +230,7 @@ pub fn settle(
     values: &mut [u8],
     marks: &mut [u8],
 )
-    requires { Prepared signals.now exprs.now stmts.now expr_table.now signal_table.now × Starts exprs.now starts.now × Driven stmts.now driver_table.now × Room signals.now exprs.now bytes.old values.old × (n ≡ length (recordsIn exprs.now)) × (count ≡ length (recordsIn signals.now)) × (n ≤ length marks.old) × Ordered (modelIn signals.now exprs.now stmts.now) n order.now × (looped (modelIn signals.now exprs.now stmts.now) ≡ none) × Filled (widthsIn exprs.now) values.old }
+    requires { Prepared signals.now exprs.now stmts.now expr_table.now signal_table.now × Starts exprs.now starts.now × Driven stmts.now driver_table.now × Room signals.now exprs.now bytes.old values.old × (n ≡ length (records_in exprs.now)) × (count ≡ length (records_in signals.now)) × (n ≤ length marks.old) × Ordered (model_in signals.now exprs.now stmts.now) n order.now × (looped (model_in signals.now exprs.now stmts.now) ≡ none) × Filled (widths_in exprs.now) values.old }
     ensures { Settled signals.now exprs.now stmts.now bytes.old bytes.new values.new }
 {
     settle_plain(

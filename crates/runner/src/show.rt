@@ -1,12 +1,12 @@
 // What a list of ticks reads and shows: each tick's head, its answer, the outputs after it.
 ghost use Rattle.std.specs.Prelude.{◌≡◌, ◌+◌, ◌*◌, ◌≤◌, min, length};
 ghost use Rattle.recorder.specs.Lists.{over};
-ghost use Rattle.simulation.specs.Index.{recordsIn, widthsIn, offset as sum_to};
-ghost use Rattle.simulation.specs.Run.{answer_of, firedOf, total, flat};
-ghost use Rattle.simulation.specs.Shown.{shownBytes};
+ghost use Rattle.simulation.specs.Index.{records_in, widths_in, offset as sum_to};
+ghost use Rattle.simulation.specs.Run.{answer_of, fired_of, total, flat};
+ghost use Rattle.simulation.specs.Shown.{shown_bytes};
 ghost use Rattle.evaluation.specs.Late.{PortsBefore};
-ghost use Rattle.evaluation.specs.Ticks.{ReadSignals, signalsIn};
-ghost use Rattle.runner.specs.Calls.{firedBy, outputWidth, answerWords};
+ghost use Rattle.evaluation.specs.Ticks.{ReadSignals, signals_in};
+ghost use Rattle.runner.specs.Calls.{fired_by, output_width, answer_words};
 
 use crate::bytes::copy;
 use recorder::SignalId;
@@ -15,8 +15,8 @@ use simulation::{Fired, Ran};
 
 // The widths of all outputs together.
 pub fn output_total(signals: &[u32]) -> usize
-    requires { ReadSignals signals.now × (sum_to (widthsIn signals.now) (length (recordsIn signals.now)) ≤ 18446744073709551615) }
-    ensures { result ≡ total outputWidth (signalsIn signals.now) }
+    requires { ReadSignals signals.now × (sum_to (widths_in signals.now) (length (records_in signals.now)) ≤ 18446744073709551615) }
+    ensures { result ≡ total output_width (signals_in signals.now) }
 {
     let mut at: usize = 0;
     let mut sum: usize = 0;
@@ -70,9 +70,9 @@ pub fn times(a: usize, b: usize) -> usize
 
 // The output signals' bytes, one after the other, from an index on; the index behind them. All of them begin before a word.
 pub fn show(signals: &[u32], bytes: &[u8], shown: &mut [u8], from: usize, until: usize) -> usize
-    requires { ReadSignals signals.now × (sum_to (widthsIn signals.now) (length (recordsIn signals.now)) ≤ length bytes.now) × (from + total outputWidth (signalsIn signals.now) ≤ length shown.old) × PortsBefore signals.now until }
-    ensures end { result ≡ from + total outputWidth (signalsIn signals.now) }
-    ensures shows { shown.new ≡ over shown.old from (flat (shownBytes (signalsIn signals.now) bytes.now)) }
+    requires { ReadSignals signals.now × (sum_to (widths_in signals.now) (length (records_in signals.now)) ≤ length bytes.now) × (from + total output_width (signals_in signals.now) ≤ length shown.old) × PortsBefore signals.now until }
+    ensures end { result ≡ from + total output_width (signals_in signals.now) }
+    ensures shows { shown.new ≡ over shown.old from (flat (shown_bytes (signals_in signals.now) bytes.now)) }
 {
     let mut at: usize = 0;
     let mut pos: usize = 0;
@@ -95,7 +95,7 @@ pub fn show(signals: &[u32], bytes: &[u8], shown: &mut [u8], from: usize, until:
 
 // What fires: nothing (0), or an edge (1 rises, 2 falls) of signal s.
 pub fn fired_by(fires: u32, s: u32) -> Fired
-    ensures { firedOf result ≡ firedBy fires s }
+    ensures { fired_of result ≡ fired_by fires s }
 {
     if fires == 0 {
         Fired::Nothing
@@ -107,7 +107,7 @@ pub fn fired_by(fires: u32, s: u32) -> Fired
 // A tick's answer as two numbers, from an index on.
 pub fn put_answer(answers: &mut [u64], at: usize, r: Ran)
     requires { at + 2 ≤ length answers.old }
-    ensures { answers.new ≡ over answers.old at (answerWords (answer_of r)) }
+    ensures { answers.new ≡ over answers.old at (answer_words (answer_of r)) }
 {
     match r {
         Ran::Done => {

@@ -1,9 +1,9 @@
 // An order of all expressions: each behind what it needs.
 ghost use Rattle.std.specs.Prelude.{◌≡◌, Bool, true, false, ◌+◌, ◌*◌, ◌≤◌, ◌<◌, length, get_or, set};
 ghost use Rattle.bits.specs.Bits.{pick};
-ghost use Rattle.simulation.specs.Index.{recordsIn};
+ghost use Rattle.simulation.specs.Index.{records_in};
 ghost use Rattle.ordering.specs.Marks.{adds, Sorting};
-ghost use Rattle.ordering.specs.Words.{modelIn, Tabled};
+ghost use Rattle.ordering.specs.Words.{model_in, Tabled};
 ghost use Rattle.ordering.specs.Sorts.{Step, Sorts, SortsAll};
 
 use crate::marks::{is_marked, ready};
@@ -20,8 +20,8 @@ pub fn adds_one(
     marks: &[u8],
     e: usize,
 ) -> bool
-    requires { Tabled exprs.now starts.now stmts.now drivers.now × (e < length (recordsIn exprs.now)) }
-    ensures { result ≡ adds (modelIn exprs.now stmts.now) marks.now e }
+    requires { Tabled exprs.now starts.now stmts.now drivers.now × (e < length (records_in exprs.now)) }
+    ensures { result ≡ adds (model_in exprs.now stmts.now) marks.now e }
 {
     if is_marked(marks, e) {
         return false;
@@ -50,8 +50,8 @@ fn sort_one(
     k: usize,
     e: usize,
 ) -> usize
-    requires { Tabled exprs.now starts.now stmts.now drivers.now × (e < length (recordsIn exprs.now)) × (e < length marks.old) × (e < 4294967296) × (k < 4294967296) }
-    ensures { Step (modelIn exprs.now stmts.now) marks.old order.old k e result marks.new order.new }
+    requires { Tabled exprs.now starts.now stmts.now drivers.now × (e < length (records_in exprs.now)) × (e < length marks.old) × (e < 4294967296) × (k < 4294967296) }
+    ensures { Step (model_in exprs.now stmts.now) marks.old order.old k e result marks.new order.new }
 {
     if !adds_one(exprs, starts, stmts, drivers, marks, e) {
         return k;
@@ -72,8 +72,8 @@ fn sort_pass(
     n: usize,
     k: usize,
 ) -> usize
-    requires { Tabled exprs.now starts.now stmts.now drivers.now × (n ≡ length (recordsIn exprs.now)) × (n ≤ length marks.old) × (n < 4294967296) × Sorting (modelIn exprs.now stmts.now) n marks.old order.old k }
-    ensures { Sorts (modelIn exprs.now stmts.now) n k result marks.new order.new }
+    requires { Tabled exprs.now starts.now stmts.now drivers.now × (n ≡ length (records_in exprs.now)) × (n ≤ length marks.old) × (n < 4294967296) × Sorting (model_in exprs.now stmts.now) n marks.old order.old k }
+    ensures { Sorts (model_in exprs.now stmts.now) n k result marks.new order.new }
 {
     let mut count = k;
     let mut e: usize = 0;
@@ -294,8 +294,8 @@ fn sort_guessed(
     k: usize,
     j: usize,
 ) -> usize
-    requires { Tabled exprs.now starts.now stmts.now drivers.now × (n ≡ length (recordsIn exprs.now)) × (n ≤ length marks.old) × (n < 4294967296) × (n + j < length order.old) × Sorting (modelIn exprs.now stmts.now) n marks.old order.old k }
-    ensures { Sorting (modelIn exprs.now stmts.now) n marks.new order.new result }
+    requires { Tabled exprs.now starts.now stmts.now drivers.now × (n ≡ length (records_in exprs.now)) × (n ≤ length marks.old) × (n < 4294967296) × (n + j < length order.old) × Sorting (model_in exprs.now stmts.now) n marks.old order.old k }
+    ensures { Sorting (model_in exprs.now stmts.now) n marks.new order.new result }
 {
     let e = wide(order[n + j]);
     if e >= n {
@@ -314,8 +314,8 @@ fn sort_along(
     order: &mut [u32],
     n: usize,
 ) -> usize
-    requires { Tabled exprs.now starts.now stmts.now drivers.now × (n ≡ length (recordsIn exprs.now)) × (n ≤ length marks.old) × (n < 4294967296) × Sorting (modelIn exprs.now stmts.now) n marks.old order.old 0 }
-    ensures { Sorting (modelIn exprs.now stmts.now) n marks.new order.new result }
+    requires { Tabled exprs.now starts.now stmts.now drivers.now × (n ≡ length (records_in exprs.now)) × (n ≤ length marks.old) × (n < 4294967296) × Sorting (model_in exprs.now stmts.now) n marks.old order.old 0 }
+    ensures { Sorting (model_in exprs.now stmts.now) n marks.new order.new result }
 {
     if order.len() / 4 < n {
         return 0;
@@ -339,8 +339,8 @@ pub fn sort(
     order: &mut [u32],
     n: usize,
 ) -> usize
-    requires { Tabled exprs.now starts.now stmts.now drivers.now × (n ≡ length (recordsIn exprs.now)) × (n ≤ length marks.old) × (n < 4294967296) × Sorting (modelIn exprs.now stmts.now) n marks.old order.old 0 }
-    ensures { SortsAll (modelIn exprs.now stmts.now) n result marks.new order.new }
+    requires { Tabled exprs.now starts.now stmts.now drivers.now × (n ≡ length (records_in exprs.now)) × (n ≤ length marks.old) × (n < 4294967296) × Sorting (model_in exprs.now stmts.now) n marks.old order.old 0 }
+    ensures { SortsAll (model_in exprs.now stmts.now) n result marks.new order.new }
 {
     guess_order(exprs, starts, stmts, drivers, marks, order, n);
     zero_bytes(marks);

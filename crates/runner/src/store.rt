@@ -1,6 +1,6 @@
 // What is stored in the signals' bytes: the inputs, and the values of expressions.
 ghost use Rattle.std.specs.Prelude.{◌≡◌, ◌+◌, ◌≤◌, ◌<◌, length, get_or};
-ghost use Rattle.simulation.specs.Index.{recordsIn, widthsIn, offset as sum_to, Indexed, Driven};
+ghost use Rattle.simulation.specs.Index.{records_in, widths_in, offset as sum_to, Indexed, Driven};
 ghost use Rattle.evaluation.specs.Ready.{Prepared, Room};
 ghost use Rattle.evaluation.specs.Late.{PortsBefore, StoresDriven, StoresListed};
 ghost use Rattle.evaluation.specs.Ticks.{ReadSignals, GoodTicks, Inputs, StoresOne, Stores};
@@ -21,7 +21,7 @@ pub fn store(
     d: usize,
     bytes: &mut [u8],
 )
-    requires { Indexed (widthsIn exprs.now) expr_table.now × Indexed (widthsIn signals.now) signal_table.now × Room signals.now exprs.now bytes.old values.now × (t < length (recordsIn signals.now)) × (d < length (recordsIn exprs.now)) × (get_or (widthsIn exprs.now) d 0 ≡ get_or (widthsIn signals.now) t 0) }
+    requires { Indexed (widths_in exprs.now) expr_table.now × Indexed (widths_in signals.now) signal_table.now × Room signals.now exprs.now bytes.old values.now × (t < length (records_in signals.now)) × (d < length (records_in exprs.now)) × (get_or (widths_in exprs.now) d 0 ≡ get_or (widths_in signals.now) t 0) }
     ensures { StoresOne signals.now exprs.now values.now t d bytes.old bytes.new }
 {
     let to = offset(signals, signal_table, t);
@@ -43,7 +43,7 @@ fn store_driven(
     s: usize,
     bytes: &mut [u8],
 )
-    requires { Prepared signals.now exprs.now stmts.now expr_table.now signal_table.now × Driven stmts.now driver_table.now × Room signals.now exprs.now bytes.old values.now × (count ≡ length (recordsIn signals.now)) }
+    requires { Prepared signals.now exprs.now stmts.now expr_table.now signal_table.now × Driven stmts.now driver_table.now × Room signals.now exprs.now bytes.old values.now × (count ≡ length (records_in signals.now)) }
     ensures { StoresDriven signals.now exprs.now stmts.now s values.now bytes.old bytes.new }
 {
     if s >= count {
@@ -76,7 +76,7 @@ pub fn store_assigned(
     count: usize,
     bytes: &mut [u8],
 )
-    requires { Prepared signals.now exprs.now stmts.now expr_table.now signal_table.now × Driven stmts.now driver_table.now × Room signals.now exprs.now bytes.old values.now × (count ≡ length (recordsIn signals.now)) }
+    requires { Prepared signals.now exprs.now stmts.now expr_table.now signal_table.now × Driven stmts.now driver_table.now × Room signals.now exprs.now bytes.old values.now × (count ≡ length (records_in signals.now)) }
     ensures { Stores signals.now exprs.now stmts.now values.now bytes.old bytes.new }
 {
     let mut s: usize = 0;
@@ -113,7 +113,7 @@ pub fn store_listed(
     count: usize,
     bytes: &mut [u8],
 )
-    requires { Prepared signals.now exprs.now stmts.now expr_table.now signal_table.now × Driven stmts.now driver_table.now × Room signals.now exprs.now bytes.old values.now × (count ≡ length (recordsIn signals.now)) × (from + k ≤ length order.now) }
+    requires { Prepared signals.now exprs.now stmts.now expr_table.now signal_table.now × Driven stmts.now driver_table.now × Room signals.now exprs.now bytes.old values.now × (count ≡ length (records_in signals.now)) × (from + k ≤ length order.now) }
     ensures { StoresListed signals.now exprs.now stmts.now order.now from k values.now bytes.old bytes.new }
 {
     let mut j: usize = 0;
@@ -137,7 +137,7 @@ pub fn store_listed(
 
 // The input signals take the tick's bits, in order. All of them begin before a word.
 pub fn set_inputs(signals: &[u32], ticks: &[u8], bytes: &mut [u8], until: usize)
-    requires { ReadSignals signals.now × GoodTicks signals.now ticks.now × (sum_to (widthsIn signals.now) (length (recordsIn signals.now)) ≤ length bytes.old) × PortsBefore signals.now until }
+    requires { ReadSignals signals.now × GoodTicks signals.now ticks.now × (sum_to (widths_in signals.now) (length (records_in signals.now)) ≤ length bytes.old) × PortsBefore signals.now until }
     ensures { Inputs signals.now ticks.now bytes.old bytes.new }
 {
     let mut at: usize = 0;

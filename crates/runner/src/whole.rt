@@ -2,11 +2,11 @@
 ghost use Rattle.std.specs.Prelude.{◌≡◌, ◌≤◌, [], length};
 ghost use Rattle.recorder.specs.Lists.{lists};
 ghost use Rattle.simulation.specs.Wellformed.{largest};
-ghost use Rattle.simulation.specs.Index.{recordsIn, widthsIn, offset as sum_to};
+ghost use Rattle.simulation.specs.Index.{records_in, widths_in, offset as sum_to};
 ghost use Rattle.simulation.specs.Run.{answer_of, first_of, zeroed};
 ghost use Rattle.evaluation.specs.Ticks.{ReadSignals};
-ghost use Rattle.runner.specs.Calls.{listAnswer};
-ghost use Rattle.runner.specs.Whole.{listCall, shownCauses, faultCauses, ListFits, ListUnrefused, Leaves};
+ghost use Rattle.runner.specs.Calls.{list_answer};
+ghost use Rattle.runner.specs.Whole.{list_call, shown_causes, fault_causes, ListFits, ListUnrefused, Leaves};
 ghost use Rattle.runner.specs.Parts.{RunsTicks};
 
 use crate::WIDEST;
@@ -49,8 +49,8 @@ pub fn zero_tables(
 
 // 1 for the two buffers of what is shown.
 fn shown_lengths(signals: &[u32], heads: &[u32], answers: &[u64], shown: &[u8]) -> Ran
-    requires { ReadSignals signals.now × (sum_to (widthsIn signals.now) (length (recordsIn signals.now)) ≤ 18446744073709551615) }
-    ensures { answer_of result ≡ first_of (shownCauses signals.now heads.now answers.now shown.now) }
+    requires { ReadSignals signals.now × (sum_to (widths_in signals.now) (length (records_in signals.now)) ≤ 18446744073709551615) }
+    ensures { answer_of result ≡ first_of (shown_causes signals.now heads.now answers.now shown.now) }
 {
     let k = heads.len() / 3;
     if answers.len() < 2 * k {
@@ -76,7 +76,7 @@ fn list_fault(
     shown: &[u8],
 ) -> Ran
     requires { ReadSignals signals.now }
-    ensures { answer_of result ≡ faultCauses (listCall (lists signals.now exprs.now []) heads.now [] bytes.now work_bits.now work_exprs.now work_signals.now answers.now shown.now) }
+    ensures { answer_of result ≡ fault_causes (list_call (lists signals.now exprs.now []) heads.now [] bytes.now work_bits.now work_exprs.now work_signals.now answers.now shown.now) }
 {
     let a = call_lengths(signals, exprs, bytes, work_bits, work_exprs, work_signals);
     let Ran::Done = a else {
@@ -101,7 +101,7 @@ fn check_list(
     answers: &[u64],
     shown: &[u8],
 ) -> Ran
-    ensures { answer_of result ≡ listAnswer largest (listCall (lists signals.now exprs.now stmts.now) heads.now bits.now bytes.now work_bits.now work_exprs.now work_signals.old answers.now shown.now) }
+    ensures { answer_of result ≡ list_answer largest (list_call (lists signals.now exprs.now stmts.now) heads.now bits.now bytes.now work_bits.now work_exprs.now work_signals.old answers.now shown.now) }
 {
     let f = malformed(
         signals,
@@ -316,7 +316,7 @@ pub fn run_list_with(
     answers: &mut [u64],
     shown: &mut [u8],
 ) -> Ran
-    ensures { Leaves (listCall (lists signals.now exprs.now stmts.now) heads.now bits.now bytes.old work_bits.old work_exprs.old work_signals.old answers.old shown.old) (listAnswer largest (listCall (lists signals.now exprs.now stmts.now) heads.now bits.now bytes.old work_bits.old work_exprs.old work_signals.old answers.old shown.old)) result bytes.new answers.new shown.new }
+    ensures { Leaves (list_call (lists signals.now exprs.now stmts.now) heads.now bits.now bytes.old work_bits.old work_exprs.old work_signals.old answers.old shown.old) (list_answer largest (list_call (lists signals.now exprs.now stmts.now) heads.now bits.now bytes.old work_bits.old work_exprs.old work_signals.old answers.old shown.old)) result bytes.new answers.new shown.new }
 {
     let checked = check_list(
         signals,

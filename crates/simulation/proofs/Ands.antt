@@ -6,19 +6,19 @@ use native.Mathlib.Omega.{arith}
 use lib.Dec.{eqb}
 use borrow.Author.Tests.{ne_eqb}
 
-pub and-true : (b : Bool) → (b && true) ≡ b
-and-true true = refl
-and-true false = refl
+pub and_true : (b : Bool) → (b && true) ≡ b
+and_true true = refl
+and_true false = refl
 
-pub and-false : (b : Bool) → (b && false) ≡ false
-and-false true = refl
-and-false false = refl
+pub and_false : (b : Bool) → (b && false) ≡ false
+and_false true = refl
+and_false false = refl
 
-pub and-stop : {a : Bool} (b : Bool) → a ≡ false → false ≡ (a && b)
-and-stop b h = sym (rw h)
+pub and_stop : {a : Bool} (b : Bool) → a ≡ false → false ≡ (a && b)
+and_stop b h = sym (rw h)
 
-pub and-go : {a b x : Bool} → a ≡ true → x ≡ b → x ≡ (a && b)
-and-go {a} {b} {x} h e = e ∙ sym (rw h)
+pub and_go : {a b x : Bool} → a ≡ true → x ≡ b → x ≡ (a && b)
+and_go {a} {b} {x} h e = e ∙ sym (rw h)
 
 -- the second of two fails
 pub and_second : (a : Bool) {b : Bool} → b ≡ false → false ≡ (a && b)
@@ -30,11 +30,11 @@ pub long : (m k : ℕ) (x : Bool) → k < m → false ≡ (eqb m k && x)
 long m k x h = sym (ap (λ (b : Bool). b && x) (ne_eqb m k (λ e. absurd (omega arith))))
 
 -- three in a row
-pub and3-first : {a : Bool} (b d : Bool) → a ≡ false → false ≡ (a && b && d)
-and3-first b d h = sym (rw h)
+pub and3_first : {a : Bool} (b d : Bool) → a ≡ false → false ≡ (a && b && d)
+and3_first b d h = sym (rw h)
 
-pub and3-second : {a b : Bool} (d : Bool) → a ≡ true → b ≡ false → false ≡ (a && b && d)
-and3-second d h g = sym (rw (h, g))
+pub and3_second : {a b : Bool} (d : Bool) → a ≡ true → b ≡ false → false ≡ (a && b && d)
+and3_second d h g = sym (rw (h, g))
 
-pub and3-third : {a b d x : Bool} → a ≡ true → b ≡ true → x ≡ d → x ≡ (a && b && d)
-and3-third h g e = e ∙ sym (rw (h, g))
+pub and3_third : {a b d x : Bool} → a ≡ true → b ≡ true → x ≡ d → x ≡ (a && b && d)
+and3_third h g e = e ∙ sym (rw (h, g))

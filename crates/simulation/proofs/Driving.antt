@@ -12,13 +12,13 @@ use lib.Seq.{get_or-set_same, get_or-set_other, set_out}
 use borrow.Author.Tests.{eq-eqb, ne_eqb, eqb-true}
 use Rattle.bits.specs.Bits.{pick}
 use Rattle.recorder.specs.Record.{Stmt, assign, reg}
-use Rattle.recorder.specs.Read.{readStmt, read_all}
-use Rattle.recorder.proofs.Roundtrip.{stmt-said}
+use Rattle.recorder.specs.Read.{read_stmt, read_all}
+use Rattle.recorder.proofs.Roundtrip.{stmt_said}
 use Rattle.simulation.specs.Tick.{given, assigns}
-use Rattle.simulation.specs.Index.{stmtsIn, clipped, coded, Driven, isAssign, assignsTo, noted}
-use Rattle.simulation.proofs.Ands.{and-false, long}
-use Rattle.simulation.proofs.Tally.{getD-zeros}
-use Rattle.simulation.proofs.Steps.{leftFrom}
+use Rattle.simulation.specs.Index.{stmts_in, clipped, coded, Driven, is_assign, assigns_to, noted}
+use Rattle.simulation.proofs.Ands.{and_false, long}
+use Rattle.simulation.proofs.Tally.{get_d_zeros}
+use Rattle.simulation.proofs.Steps.{left_from}
 
 -- ONE RECORD
 
@@ -33,56 +33,56 @@ passed (some (reg t n c d r e)) ts s h = same (eqb t s)
     same false = refl
 
 -- a record of a kind other than 0 assigns nothing
-other-kind : (k : ℕ) (l : List ℕ) → (k ≡ 0 → ⊥) → (x : Stmt) → readStmt (k ∷ l) ≡ some x → assigns x ≡ none
-other-kind k l d (reg t n c p r e) h = refl
-other-kind k l d (assign t e) h = let z : ◌≡◌ {A = ℕ} k 0 = ap (λ (ws : List ℕ). get_or (tail ws) 0 0) (sym (stmt-said (k ∷ l) h)) in absurd (d z)
+other_kind : (k : ℕ) (l : List ℕ) → (k ≡ 0 → ⊥) → (x : Stmt) → read_stmt (k ∷ l) ≡ some x → assigns x ≡ none
+other_kind k l d (reg t n c p r e) h = refl
+other_kind k l d (assign t e) h = let z : ◌≡◌ {A = ℕ} k 0 = ap (λ (ws : List ℕ). get_or (tail ws) 0 0) (sym (stmt_said (k ∷ l) h)) in absurd (d z)
 
-no-assign : (k : ℕ) (l : List ℕ) (s : ℕ) → (k ≡ 0 → ⊥) → assignsTo s (k ∷ l) ≡ false
-no-assign k l s d = ap (λ (b : Bool). (eqb (suc (length l)) 3 && b) && eqb (get_or l 0 0) s) (ne_eqb k 0 d) ∙ ap (λ (b : Bool). b && eqb (get_or l 0 0) s) (and-false (eqb (suc (length l)) 3))
+no_assign : (k : ℕ) (l : List ℕ) (s : ℕ) → (k ≡ 0 → ⊥) → assigns_to s (k ∷ l) ≡ false
+no_assign k l s d = ap (λ (b : Bool). (eqb (suc (length l)) 3 && b) && eqb (get_or l 0 0) s) (ne_eqb k 0 d) ∙ ap (λ (b : Bool). b && eqb (get_or l 0 0) s) (and_false (eqb (suc (length l)) 3))
 
-pub given-step : (s : ℕ) (r : List ℕ) (rs : List (List ℕ)) → given assigns (read_all readStmt (r ∷ rs)) s ≡ pick (assignsTo s r) (some (get_or r 2 0)) (given assigns (read_all readStmt rs) s)
-given-step s [] rs = refl
-given-step s (zero ∷ []) rs = refl
-given-step s (zero ∷ t ∷ []) rs = refl
-given-step s (zero ∷ t ∷ e ∷ []) rs = refl
-given-step s (zero ∷ t ∷ e ∷ x ∷ l) rs =
-    sym (ap (λ (b : Bool). pick (b && eqb t s) (some e) (given assigns (read_all readStmt rs) s)) (sym (long (suc (suc (suc (suc (length l))))) 3 true (omega arith))))
-given-step s (suc k ∷ l) rs =
-    passed (readStmt (suc k ∷ l)) (read_all readStmt rs) s (other-kind (suc k) l (λ z. absurd (omega arith)))
-    ∙ sym (ap (λ (b : Bool). pick b (some (get_or (suc k ∷ l) 2 0)) (given assigns (read_all readStmt rs) s)) (no-assign (suc k) l s (λ z. absurd (omega arith))))
+pub given_step : (s : ℕ) (r : List ℕ) (rs : List (List ℕ)) → given assigns (read_all read_stmt (r ∷ rs)) s ≡ pick (assigns_to s r) (some (get_or r 2 0)) (given assigns (read_all read_stmt rs) s)
+given_step s [] rs = refl
+given_step s (zero ∷ []) rs = refl
+given_step s (zero ∷ t ∷ []) rs = refl
+given_step s (zero ∷ t ∷ e ∷ []) rs = refl
+given_step s (zero ∷ t ∷ e ∷ x ∷ l) rs =
+    sym (ap (λ (b : Bool). pick (b && eqb t s) (some e) (given assigns (read_all read_stmt rs) s)) (sym (long (suc (suc (suc (suc (length l))))) 3 true (omega arith))))
+given_step s (suc k ∷ l) rs =
+    passed (read_stmt (suc k ∷ l)) (read_all read_stmt rs) s (other_kind (suc k) l (λ z. absurd (omega arith)))
+    ∙ sym (ap (λ (b : Bool). pick b (some (get_or (suc k ∷ l) 2 0)) (given assigns (read_all read_stmt rs) s)) (no_assign (suc k) l s (λ z. absurd (omega arith))))
 
 -- WALKING
 
-abbrev pub givenFrom : List ℕ → ℕ → ℕ → Option ℕ
-givenFrom l at s = given assigns (read_all readStmt (leftFrom l at)) s
+abbrev pub given_from : List ℕ → ℕ → ℕ → Option ℕ
+given_from l at s = given assigns (read_all read_stmt (left_from l at)) s
 
 -- what is still to be found is what there is to find
 pub record Driving (l : List ℕ) (at s : ℕ) : Type 0 where
-  pub sought : givenFrom l at s ≡ given assigns (stmtsIn l) s
+  pub sought : given_from l at s ≡ given assigns (stmts_in l) s
 
-pub driving-start : (l : List ℕ) (s : ℕ) → Driving l 0 s
-driving-start l s = record { sought = refl }
+pub driving_start : (l : List ℕ) (s : ℕ) → Driving l 0 s
+driving_start l s = record { sought = refl }
 
 module _ {l : List ℕ} {at s : ℕ} (w : Driving l at s) where
-  pub driving-next : (r : List ℕ) (at' : ℕ) → leftFrom l at ≡ r ∷ leftFrom l at' → assignsTo s r ≡ false → Driving l at' s
-  driving-next r at' e h = record {
+  pub driving_next : (r : List ℕ) (at' : ℕ) → left_from l at ≡ r ∷ left_from l at' → assigns_to s r ≡ false → Driving l at' s
+  driving_next r at' e h = record {
     sought =
-        sym (ap (λ (rs : List (List ℕ)). given assigns (read_all readStmt rs) s) e
-        ∙ given-step s r (leftFrom l at')
-        ∙ ap (λ (b : Bool). pick b (some (get_or r 2 0)) (givenFrom l at' s)) h)
+        sym (ap (λ (rs : List (List ℕ)). given assigns (read_all read_stmt rs) s) e
+        ∙ given_step s r (left_from l at')
+        ∙ ap (λ (b : Bool). pick b (some (get_or r 2 0)) (given_from l at' s)) h)
         ∙ w.sought;
   }
 
-  pub driving-here : (r : List ℕ) (at' : ℕ) → leftFrom l at ≡ r ∷ leftFrom l at' → assignsTo s r ≡ true → (e : ℕ) → e ≡ get_or r 2 0 → some e ≡ given assigns (stmtsIn l) s
-  driving-here r at' q h e v =
+  pub driving_here : (r : List ℕ) (at' : ℕ) → left_from l at ≡ r ∷ left_from l at' → assigns_to s r ≡ true → (e : ℕ) → e ≡ get_or r 2 0 → some e ≡ given assigns (stmts_in l) s
+  driving_here r at' q h e v =
       ap some v
-      ∙ sym (ap (λ (rs : List (List ℕ)). given assigns (read_all readStmt rs) s) q
-      ∙ given-step s r (leftFrom l at')
-      ∙ ap (λ (b : Bool). pick b (some (get_or r 2 0)) (givenFrom l at' s)) h)
+      ∙ sym (ap (λ (rs : List (List ℕ)). given assigns (read_all read_stmt rs) s) q
+      ∙ given_step s r (left_from l at')
+      ∙ ap (λ (b : Bool). pick b (some (get_or r 2 0)) (given_from l at' s)) h)
       ∙ w.sought
 
-  pub driving-none : leftFrom l at ≡ [] → none ≡ given assigns (stmtsIn l) s
-  driving-none e = ap (λ (rs : List (List ℕ)). given assigns (read_all readStmt rs) s) (sym e) ∙ w.sought
+  pub driving_none : left_from l at ≡ [] → none ≡ given assigns (stmts_in l) s
+  driving_none e = ap (λ (rs : List (List ℕ)). given assigns (read_all read_stmt rs) s) (sym e) ∙ w.sought
 
 -- THE TABLE
 
@@ -91,16 +91,16 @@ abbrev pub known : ℕ → Option ℕ → ℕ
 known v o = pick (eqb v 0) (coded o) v
 
 pub record Noting (l : List ℕ) (at : ℕ) (table : List ℕ) : Type 0 where
-  pub so_far : (i : ℕ) → i < length table → known (get_or table i 0) (givenFrom l at i) ≡ coded (given assigns (stmtsIn l) i)
+  pub so_far : (i : ℕ) → i < length table → known (get_or table i 0) (given_from l at i) ≡ coded (given assigns (stmts_in l) i)
 
-pub noting-start : (l : List ℕ) (n : ℕ) → Noting l 0 (replicate n 0)
-noting-start l n = record { so_far = λ i h. ap (λ (v : ℕ). known v (given assigns (stmtsIn l) i)) (getD-zeros n i) }
+pub noting_start : (l : List ℕ) (n : ℕ) → Noting l 0 (replicate n 0)
+noting_start l n = record { so_far = λ i h. ap (λ (v : ℕ). known v (given assigns (stmts_in l) i)) (get_d_zeros n i) }
 
-known-set : (e : ℕ) (o : Option ℕ) → known (clipped (e + 1)) o ≡ clipped (e + 1)
-known-set e o = ap (λ (b : Bool). pick b (coded o) (clipped (e + 1))) (ne_eqb (clipped (e + 1)) 0 (λ z. absurd (omega arith)))
+known_set : (e : ℕ) (o : Option ℕ) → known (clipped (e + 1)) o ≡ clipped (e + 1)
+known_set e o = ap (λ (b : Bool). pick b (coded o) (clipped (e + 1))) (ne_eqb (clipped (e + 1)) 0 (λ z. absurd (omega arith)))
 
-known-none : (v : ℕ) → known v none ≡ v
-known-none v = go (eqb v 0) refl
+known_none : (v : ℕ) → known v none ≡ v
+known_none v = go (eqb v 0) refl
   where
     go : (b : Bool) → eqb v 0 ≡ b → pick b 0 v ≡ v
     go true e = sym (eqb-true v 0 e)
@@ -127,59 +127,59 @@ module _ (r table : List ℕ) (i : ℕ) (h : i < length table) (o : Option ℕ) 
   at_home false z d q = refl
   at_home true true d q =
       ap (λ (v : ℕ). known v o) (ap (λ (j : ℕ). get_or (set table t (clipped (e + 1))) j 0) d ∙ get_or-set_same table t (clipped (e + 1)) 0 (subst (λ (j : ℕ). j < length table) d h))
-      ∙ known-set e o
+      ∙ known_set e o
       ∙ sym (ap (λ (v : ℕ). known v (some e)) (ap (λ (j : ℕ). get_or table j 0) d ∙ eqb-true (get_or table t 0) 0 q))
   at_home true false d q =
       let n : eqb (get_or table i 0) 0 ≡ false = ap (λ (j : ℕ). eqb (get_or table j 0) 0) d ∙ q in
       ap (λ (b : Bool). pick b (coded o) (get_or table i 0)) n ∙ sym (ap (λ (b : Bool). pick b (coded (some e)) (get_or table i 0)) n)
 
-  noted-at : known (get_or (noted r table) i 0) o ≡ known (get_or table i 0) (pick (assignsTo i r) (some e) o)
-  noted-at = go (ℕ_discrete i t)
+  noted_at : known (get_or (noted r table) i 0) o ≡ known (get_or table i 0) (pick (assigns_to i r) (some e) o)
+  noted_at = go (ℕ_discrete i t)
     where
-      go : Dec (i ≡ t) → known (get_or (noted r table) i 0) o ≡ known (get_or table i 0) (pick (assignsTo i r) (some e) o)
-      go (yes d) = at_home (isAssign r) (eqb (get_or table t 0) 0) d refl ∙ ap (λ (b : Bool). known (get_or table i 0) (pick (isAssign r && b) (some e) o)) (sym (eq-eqb t i (sym d)))
-      go (no d) = elsewhere (isAssign r) (eqb (get_or table t 0) 0) d ∙ ap (λ (b : Bool). known (get_or table i 0) (pick (isAssign r && b) (some e) o)) (sym (ne_eqb t i (λ z. d (sym z))))
+      go : Dec (i ≡ t) → known (get_or (noted r table) i 0) o ≡ known (get_or table i 0) (pick (assigns_to i r) (some e) o)
+      go (yes d) = at_home (is_assign r) (eqb (get_or table t 0) 0) d refl ∙ ap (λ (b : Bool). known (get_or table i 0) (pick (is_assign r && b) (some e) o)) (sym (eq-eqb t i (sym d)))
+      go (no d) = elsewhere (is_assign r) (eqb (get_or table t 0) 0) d ∙ ap (λ (b : Bool). known (get_or table i 0) (pick (is_assign r && b) (some e) o)) (sym (ne_eqb t i (λ z. d (sym z))))
 
-pub noted-length : (r table : List ℕ) → length (noted r table) ≡ length table
-noted-length r table = go (isAssign r && eqb (get_or table (get_or r 1 0) 0) 0)
+pub noted_length : (r table : List ℕ) → length (noted r table) ≡ length table
+noted_length r table = go (is_assign r && eqb (get_or table (get_or r 1 0) 0) 0)
   where
     go : (b : Bool) → length (pick b (set table (get_or r 1 0) (clipped (get_or r 2 0 + 1))) table) ≡ length table
     go true = length-set table (get_or r 1 0) (clipped (get_or r 2 0 + 1))
     go false = refl
 
-pub noting-next : {l : List ℕ} {at : ℕ} {table : List ℕ} → Noting l at table → (r : List ℕ) (at' : ℕ) → leftFrom l at ≡ r ∷ leftFrom l at' → {table' : List ℕ} → table' ≡ noted r table → Noting l at' table'
-noting-next {l} {at} {table} w r at' e {table'} q = subst (λ (x : List ℕ). Noting l at' x) (sym q) (record {
+pub noting_next : {l : List ℕ} {at : ℕ} {table : List ℕ} → Noting l at table → (r : List ℕ) (at' : ℕ) → left_from l at ≡ r ∷ left_from l at' → {table' : List ℕ} → table' ≡ noted r table → Noting l at' table'
+noting_next {l} {at} {table} w r at' e {table'} q = subst (λ (x : List ℕ). Noting l at' x) (sym q) (record {
   so_far = λ i h.
-      let k = subst (λ (n : ℕ). i < n) (noted-length r table) h in
-      noted-at r table i k (givenFrom l at' i)
-      ∙ ap (known (get_or table i 0)) (sym (ap (λ (rs : List (List ℕ)). given assigns (read_all readStmt rs) i) e ∙ given-step i r (leftFrom l at')))
+      let k = subst (λ (n : ℕ). i < n) (noted_length r table) h in
+      noted_at r table i k (given_from l at' i)
+      ∙ ap (known (get_or table i 0)) (sym (ap (λ (rs : List (List ℕ)). given assigns (read_all read_stmt rs) i) e ∙ given_step i r (left_from l at')))
       ∙ w.so_far i k;
 })
 
-pub noting-end : {l : List ℕ} {at : ℕ} {table : List ℕ} → Noting l at table → leftFrom l at ≡ [] → Driven l table
-noting-end {l} {at} {table} w e = record {
-  driver-at = λ s h. sym (known-none (get_or table s 0)) ∙ ap (λ (rs : List (List ℕ)). known (get_or table s 0) (given assigns (read_all readStmt rs) s)) (sym e) ∙ w.so_far s h;
+pub noting_end : {l : List ℕ} {at : ℕ} {table : List ℕ} → Noting l at table → left_from l at ≡ [] → Driven l table
+noting_end {l} {at} {table} w e = record {
+  driver_at = λ s h. sym (known_none (get_or table s 0)) ∙ ap (λ (rs : List (List ℕ)). known (get_or table s 0) (given assigns (read_all read_stmt rs) s)) (sym e) ∙ w.so_far s h;
 }
 
 -- A TABLE'S WORD NOTED, by the code's tests
 
 module _ (r table : List ℕ) where
-  pub noted_other : isAssign r ≡ false → table ≡ noted r table
+  pub noted_other : is_assign r ≡ false → table ≡ noted r table
   noted_other h = sym (ap (λ (b : Bool). pick (b && eqb (get_or table (get_or r 1 0) 0) 0) (set table (get_or r 1 0) (clipped (get_or r 2 0 + 1))) table) h)
 
-  module _ (a : isAssign r ≡ true) (t : ℕ) (q : t ≡ get_or r 1 0) where
-    pub noted-taken : (get_or table t 0 ≡ 0 → ⊥) → table ≡ noted r table
-    noted-taken d = sym (ap (λ (b : Bool). pick (b && eqb (get_or table (get_or r 1 0) 0) 0) (set table (get_or r 1 0) (clipped (get_or r 2 0 + 1))) table) a
+  module _ (a : is_assign r ≡ true) (t : ℕ) (q : t ≡ get_or r 1 0) where
+    pub noted_taken : (get_or table t 0 ≡ 0 → ⊥) → table ≡ noted r table
+    noted_taken d = sym (ap (λ (b : Bool). pick (b && eqb (get_or table (get_or r 1 0) 0) 0) (set table (get_or r 1 0) (clipped (get_or r 2 0 + 1))) table) a
         ∙ ap (λ (b : Bool). pick b (set table (get_or r 1 0) (clipped (get_or r 2 0 + 1))) table) (ne_eqb (get_or table (get_or r 1 0) 0) 0 (λ z. d (ap (λ (j : ℕ). get_or table j 0) q ∙ z))))
 
-    pub noted-first : get_or table t 0 ≡ 0 → (v : ℕ) → v ≡ clipped (get_or r 2 0 + 1) → set table t v ≡ noted r table
-    noted-first z v e =
+    pub noted_first : get_or table t 0 ≡ 0 → (v : ℕ) → v ≡ clipped (get_or r 2 0 + 1) → set table t v ≡ noted r table
+    noted_first z v e =
         ap (λ (j : ℕ). set table j v) q ∙ ap (set table (get_or r 1 0)) e
         ∙ sym (ap (λ (b : Bool). pick (b && eqb (get_or table (get_or r 1 0) 0) 0) (set table (get_or r 1 0) (clipped (get_or r 2 0 + 1))) table) a
         ∙ ap (λ (b : Bool). pick b (set table (get_or r 1 0) (clipped (get_or r 2 0 + 1))) table) (eq-eqb (get_or table (get_or r 1 0) 0) 0 (ap (λ (j : ℕ). get_or table j 0) (sym q) ∙ z)))
 
-    pub noted-out : length table ≤ t → table ≡ noted r table
-    noted-out h =
+    pub noted_out : length table ≤ t → table ≡ noted r table
+    noted_out h =
         sym (ap (λ (b : Bool). pick (b && eqb (get_or table (get_or r 1 0) 0) 0) (set table (get_or r 1 0) (clipped (get_or r 2 0 + 1))) table) a ∙ go (eqb (get_or table (get_or r 1 0) 0) 0))
       where
         go : (b : Bool) → pick b (set table (get_or r 1 0) (clipped (get_or r 2 0 + 1))) table ≡ table

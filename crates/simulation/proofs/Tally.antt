@@ -16,37 +16,37 @@ use Rattle.simulation.specs.Wellformed.{drives, count_of, unsplit, behind}
 use Rattle.simulation.specs.Fault.{stands, Tallied}
 
 -- zeros
-pub getD-zeros : (n i : ℕ) → ◌≡◌ {A = ℕ} (get_or (replicate n 0) i 0) 0
-getD-zeros zero i = refl
-getD-zeros (suc n) zero = refl
-getD-zeros (suc n) (suc i) = getD-zeros n i
+pub get_d_zeros : (n i : ℕ) → ◌≡◌ {A = ℕ} (get_or (replicate n 0) i 0) 0
+get_d_zeros zero i = refl
+get_d_zeros (suc n) zero = refl
+get_d_zeros (suc n) (suc i) = get_d_zeros n i
 
 -- A RECORD'S TARGET
 
 module _ (r : List ℕ) where
-  pub stands-short : length r < 2 → stands r ≡ false
-  stands-short h = rw (lt-leb 2 (length r) h)
+  pub stands_short : length r < 2 → stands r ≡ false
+  stands_short h = rw (lt-leb 2 (length r) h)
 
-  pub stands-not : 1 < get_or r 0 0 → stands r ≡ false
-  stands-not h = go (leb 2 (length r))
+  pub stands_not : 1 < get_or r 0 0 → stands r ≡ false
+  stands_not h = go (leb 2 (length r))
     where
       go : (b : Bool) → (b && leb (get_or r 0 0) 1) ≡ false
       go true = lt-leb (get_or r 0 0) 1 h
       go false = refl
 
-  pub stands-so : 2 ≤ length r → get_or r 0 0 ≤ 1 → stands r ≡ true
-  stands-so h g = rw (le-leb 2 (length r) h) (le-leb (get_or r 0 0) 1 g)
+  pub stands_so : 2 ≤ length r → get_or r 0 0 ≤ 1 → stands r ≡ true
+  stands_so h g = rw (le-leb 2 (length r) h) (le-leb (get_or r 0 0) 1 g)
 
   pub target_none : (t o : ℕ) → stands r ≡ false → o ≡ pick (stands r) t o
   target_none t o h = rw h
 
-  pub target-some : (t v o : ℕ) → stands r ≡ true → t ≡ v → t ≡ pick (stands r) v o
-  target-some t v o h e = rw h e
+  pub target_some : (t v o : ℕ) → stands r ≡ true → t ≡ v → t ≡ pick (stands r) v o
+  target_some t v o h e = rw h e
 
-pub drives-stands : (s : ℕ) (r : List ℕ) → drives s r ≡ (stands r && eqb (get_or r 1 0) s)
-drives-stands s [] = refl
-drives-stands s (k ∷ []) = refl
-drives-stands s (k ∷ t ∷ l) = ap (λ (b : Bool). b && leb k 1 && eqb t s) (sym (le-leb 2 (suc (suc (length l))) (omega arith)))
+pub drives_stands : (s : ℕ) (r : List ℕ) → drives s r ≡ (stands r && eqb (get_or r 1 0) s)
+drives_stands s [] = refl
+drives_stands s (k ∷ []) = refl
+drives_stands s (k ∷ t ∷ l) = ap (λ (b : Bool). b && leb k 1 && eqb t s) (sym (le-leb 2 (suc (suc (length l))) (omega arith)))
 
 -- THE LOOP: what is counted and what is left
 
@@ -54,22 +54,22 @@ pub record Tallying (rs left : List (List ℕ)) (table : List ℕ) : Type 0 wher
   pub so_far : (i : ℕ) → i < length table → min (get_or table i 0 + count_of (drives i) left) 2 ≡ min (count_of (drives i) rs) 2
   pub small : (i : ℕ) → get_or table i 0 ≤ 2
 
-pub tallying-start : (rs : List (List ℕ)) (n : ℕ) → Tallying rs rs (replicate n 0)
-tallying-start rs n = record { so_far = λ i h. ap (λ (k : ℕ). min (k + count_of (drives i) rs) 2) (getD-zeros n i) ∙ omega arith; small = λ i. let z = getD-zeros n i in omega arith }
+pub tallying_start : (rs : List (List ℕ)) (n : ℕ) → Tallying rs rs (replicate n 0)
+tallying_start rs n = record { so_far = λ i h. ap (λ (k : ℕ). min (k + count_of (drives i) rs) 2) (get_d_zeros n i) ∙ omega arith; small = λ i. let z = get_d_zeros n i in omega arith }
 
 module _ (rs : List (List ℕ)) (r : List ℕ) (left : List (List ℕ)) (table : List ℕ) (t : ℕ) (w : Tallying rs (r ∷ left) table) (e : t ≡ pick (stands r) (get_or r 1 0) (length table)) where
   at_target : (i : ℕ) → i < length table → (b : Bool) → stands r ≡ b → t ≡ pick b (get_or r 1 0) (length table) → Dec (i ≡ t) → min (get_or (set table t (min (get_or table t 0 + 1) 2)) i 0 + count_of (drives i) left) 2 ≡ min (get_or table i 0 + count_of (drives i) (r ∷ left)) 2
   at_target i h false s q p =
       ap (λ (l : List ℕ). min (get_or l i 0 + count_of (drives i) left) 2) (set_out table t (min (get_or table t 0 + 1) 2) (omega arith))
-      ∙ sym (ap (λ (b : Bool). min (get_or table i 0 + pick b (suc (count_of (drives i) left)) (count_of (drives i) left)) 2) (drives-stands i r ∙ ap (λ (b : Bool). b && eqb (get_or r 1 0) i) s))
+      ∙ sym (ap (λ (b : Bool). min (get_or table i 0 + pick b (suc (count_of (drives i) left)) (count_of (drives i) left)) 2) (drives_stands i r ∙ ap (λ (b : Bool). b && eqb (get_or r 1 0) i) s))
   at_target i h true s q (yes p) =
-      let d : drives i r ≡ true = drives-stands i r ∙ ap (λ (b : Bool). b && eqb (get_or r 1 0) i) s ∙ eq-eqb (get_or r 1 0) i (omega arith) in
+      let d : drives i r ≡ true = drives_stands i r ∙ ap (λ (b : Bool). b && eqb (get_or r 1 0) i) s ∙ eq-eqb (get_or r 1 0) i (omega arith) in
       let g : get_or (set table t (min (get_or table t 0 + 1) 2)) i 0 ≡ min (get_or table i 0 + 1) 2 = ap (λ (j : ℕ). get_or (set table j (min (get_or table j 0 + 1) 2)) i 0) (sym p) ∙ get_or-set_same table i (min (get_or table i 0 + 1) 2) 0 h in
       ap (λ (k : ℕ). min (k + count_of (drives i) left) 2) g
       ∙ (let z : min (min (get_or table i 0 + 1) 2 + count_of (drives i) left) 2 ≡ min (get_or table i 0 + suc (count_of (drives i) left)) 2 = omega arith in z)
       ∙ sym (ap (λ (b : Bool). min (get_or table i 0 + pick b (suc (count_of (drives i) left)) (count_of (drives i) left)) 2) d)
   at_target i h true s q (no p) =
-      let d : drives i r ≡ false = drives-stands i r ∙ ap (λ (b : Bool). b && eqb (get_or r 1 0) i) s ∙ ne_eqb (get_or r 1 0) i (λ z. p (omega arith)) in
+      let d : drives i r ≡ false = drives_stands i r ∙ ap (λ (b : Bool). b && eqb (get_or r 1 0) i) s ∙ ne_eqb (get_or r 1 0) i (λ z. p (omega arith)) in
       ap (λ (k : ℕ). min (k + count_of (drives i) left) 2) (get_or-set_other table t i (min (get_or table t 0 + 1) 2) 0 p)
       ∙ sym (ap (λ (b : Bool). min (get_or table i 0 + pick b (suc (count_of (drives i) left)) (count_of (drives i) left)) 2) d)
 
@@ -81,17 +81,17 @@ module _ (rs : List (List ℕ)) (r : List ℕ) (left : List (List ℕ)) (table :
       inside (yes q) = omega (arith, ap (λ (j : ℕ). get_or (set table t (min (get_or table t 0 + 1) 2)) j 0) p, get_or-set_same table t (min (get_or table t 0 + 1) 2) 0 q)
       inside (no q) = let z = w.small i in omega (arith, ap (λ (l : List ℕ). get_or l i 0) (set_out table t (min (get_or table t 0 + 1) 2) (omega arith)))
 
-  pub tallying-more : {table' : List ℕ} → table' ≡ set table t (min (get_or table t 0 + 1) 2) → Tallying rs left table'
-  tallying-more q = subst (Tallying rs left) (sym q) (record { so_far = λ i h. let k = subst (λ (n : ℕ). i < n) (length-set table t (min (get_or table t 0 + 1) 2)) h in at_target i k (stands r) refl e (ℕ_discrete i t) ∙ w.so_far i k; small = λ i. smaller i (ℕ_discrete i t) })
+  pub tallying_more : {table' : List ℕ} → table' ≡ set table t (min (get_or table t 0 + 1) 2) → Tallying rs left table'
+  tallying_more q = subst (Tallying rs left) (sym q) (record { so_far = λ i h. let k = subst (λ (n : ℕ). i < n) (length-set table t (min (get_or table t 0 + 1) 2)) h in at_target i k (stands r) refl e (ℕ_discrete i t) ∙ w.so_far i k; small = λ i. smaller i (ℕ_discrete i t) })
 
-pub tallying-end : {rs left : List (List ℕ)} {table : List ℕ} → Tallying rs left table → left ≡ [] → Tallied rs table
-tallying-end {rs} {left} {table} w e = record { tally-at = λ i h. let q = w.so_far i h in let g = ap (λ (l : List (List ℕ)). count_of (drives i) l) e in let z = w.small i in omega arith }
+pub tallying_end : {rs left : List (List ℕ)} {table : List ℕ} → Tallying rs left table → left ≡ [] → Tallied rs table
+tallying_end {rs} {left} {table} w e = record { tally_at = λ i h. let q = w.so_far i h in let g = ap (λ (l : List (List ℕ)). count_of (drives i) l) e in let z = w.small i in omega arith }
 
 -- WHOLE LISTS
 
 module _ (c : Cut) (o : Option ℕ) (n : ℕ) (b : Bool) (s : n ≡ length c.records) (w : b ≡ c.whole) where
-  pub unsplit-not : b ≡ false → some n ≡ unsplit c o
-  unsplit-not f = sym (ap (λ (x : Bool). pick x (behind (length c.records) o) (some (length c.records))) (sym w ∙ f) ∙ ap some (sym s))
+  pub unsplit_not : b ≡ false → some n ≡ unsplit c o
+  unsplit_not f = sym (ap (λ (x : Bool). pick x (behind (length c.records) o) (some (length c.records))) (sym w ∙ f) ∙ ap some (sym s))
 
-  pub unsplit-so : {p : Option ℕ} → b ≡ true → p ≡ o → behind n p ≡ unsplit c o
-  unsplit-so {p} f q = sym (ap (λ (x : Bool). pick x (behind (length c.records) o) (some (length c.records))) (sym w ∙ f) ∙ ap (λ (k : ℕ). behind k o) (sym s) ∙ ap (behind n) (sym q))
+  pub unsplit_so : {p : Option ℕ} → b ≡ true → p ≡ o → behind n p ≡ unsplit c o
+  unsplit_so {p} f q = sym (ap (λ (x : Bool). pick x (behind (length c.records) o) (some (length c.records))) (sym w ∙ f) ∙ ap (λ (k : ℕ). behind k o) (sym s) ∙ ap (behind n) (sym q))

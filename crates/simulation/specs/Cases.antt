@@ -2,10 +2,10 @@
 use Rattle.std.specs.Prelude.{ℕ, ◌≡◌, refl, List, [], ◌∷◌, map, replicate}
 use Rattle.std.proofs.Math.Option.{Option, none, some}
 use Rattle.recorder.specs.Lists.{lists}
-use Rattle.recorder.specs.Read.{split, modelOf}
-use Rattle.recorder.specs.Evaluate.{evalAll}
-use Rattle.simulation.specs.Wellformed.{largest, malformed, firstFault}
-use Rattle.simulation.specs.Tick.{settle, commit, tick, readsAll, looped}
+use Rattle.recorder.specs.Read.{split, model_of}
+use Rattle.recorder.specs.Evaluate.{eval_all}
+use Rattle.simulation.specs.Wellformed.{largest, malformed, first_fault}
+use Rattle.simulation.specs.Tick.{settle, commit, tick, reads_all, looped}
 use Rattle.simulation.specs.Run.{Call, Outcome, run, answer, refusal, ticked}
 
 -- a call, and what is due
@@ -16,8 +16,8 @@ pub record Case : Type 0 where
 -- three lists, signal bytes, tick bits, what fires, the lengths of the works; the answer and the signal bytes afterwards
 abbrev pub row : List ℕ → List ℕ → List ℕ → List ℕ → List ℕ → Option (ℕ × ℕ) → ℕ → ℕ → ℕ → Option (ℕ × ℕ) → List ℕ → Case
 row s e t b k f i j n a b' = record {
-  asked = record { lists = lists s e t; bytes = b; ticks = k; fired = f; workBits = replicate i 7; workExprs = replicate j 7; workSignals = replicate n 7 };
-  due = record { answer = a; bytes = b'; workBits = replicate i 0; workExprs = replicate j 0; workSignals = replicate n 0 };
+  asked = record { lists = lists s e t; bytes = b; ticks = k; fired = f; work_bits = replicate i 7; work_exprs = replicate j 7; work_signals = replicate n 7 };
+  due = record { answer = a; bytes = b'; work_bits = replicate i 0; work_exprs = replicate j 0; work_signals = replicate n 0 };
 }
 
 -- inputs s0 (2 bits), s4 and s5; s2 is the and of s0's bits, s1 is s2 xor s3, and s3 a register of s2 on s4, set to 1 by s5
@@ -76,14 +76,14 @@ ticks =
     ∷ row (4 ∷ 0 ∷ 1 ∷ 0 ∷ 4 ∷ 2 ∷ 1 ∷ 0 ∷ 4 ∷ 2 ∷ 1 ∷ 1 ∷ 4 ∷ 2 ∷ 1 ∷ 2 ∷ 4 ∷ 2 ∷ 1 ∷ 3 ∷ []) (5 ∷ 1 ∷ 1 ∷ 0 ∷ 0 ∷ 5 ∷ 1 ∷ 1 ∷ 1 ∷ 0 ∷ 5 ∷ 1 ∷ 1 ∷ 2 ∷ 0 ∷ 5 ∷ 1 ∷ 1 ∷ 3 ∷ 0 ∷ 5 ∷ 1 ∷ 1 ∷ 4 ∷ 0 ∷ []) (4 ∷ 0 ∷ 1 ∷ 2 ∷ 4 ∷ 0 ∷ 2 ∷ 3 ∷ 4 ∷ 0 ∷ 3 ∷ 4 ∷ 8 ∷ 1 ∷ 4 ∷ 3 ∷ 0 ∷ 0 ∷ 0 ∷ 0 ∷ []) (0 ∷ 0 ∷ 0 ∷ 0 ∷ 1 ∷ []) (1 ∷ []) (some (0, 0)) 5 5 5 none (1 ∷ 1 ∷ 1 ∷ 1 ∷ 1 ∷ [])
     ∷ []
 
-pub ticks-hold : map (λ c. run largest c.asked) ticks ≡ map (λ c. c.due) ticks
-unfolding run answer malformed firstFault split modelOf refusal looped readsAll ticked tick settle commit evalAll
-ticks-hold = refl
+pub ticks_hold : map (λ c. run largest c.asked) ticks ≡ map (λ c. c.due) ticks
+unfolding run answer malformed first_fault split model_of refusal looped reads_all ticked tick settle commit eval_all
+ticks_hold = refl
 
 -- 12
 
-abbrev pub malformed-models : List Case
-malformed-models =
+abbrev pub malformed_models : List Case
+malformed_models =
     -- 12: a length of 0; the split is checked first
     row (4 ∷ 16 ∷ 2 ∷ 0 ∷ 4 ∷ 1 ∷ 1 ∷ 1 ∷ 4 ∷ 2 ∷ 1 ∷ 0 ∷ 4 ∷ 7 ∷ 1 ∷ 0 ∷ 4 ∷ 0 ∷ 1 ∷ 2 ∷ 4 ∷ 0 ∷ 1 ∷ 3 ∷ []) (4 ∷ 0 ∷ 1 ∷ 0 ∷ 4 ∷ 0 ∷ 1 ∷ 1 ∷ 5 ∷ 1 ∷ 1 ∷ 0 ∷ 0 ∷ 5 ∷ 1 ∷ 1 ∷ 0 ∷ 1 ∷ 5 ∷ 4 ∷ 1 ∷ 2 ∷ 3 ∷ 5 ∷ 1 ∷ 1 ∷ 2 ∷ 0 ∷ 5 ∷ 1 ∷ 1 ∷ 3 ∷ 0 ∷ 5 ∷ 6 ∷ 1 ∷ 5 ∷ 6 ∷ 0 ∷ 1 ∷ []) stmts (0 ∷ 0 ∷ 0 ∷ 0 ∷ 0 ∷ 0 ∷ 0 ∷ []) (1 ∷ 1 ∷ 0 ∷ 0 ∷ []) none 8 8 6 (some (12, 14)) (0 ∷ 0 ∷ 0 ∷ 0 ∷ 0 ∷ 0 ∷ 0 ∷ [])
     -- 12: a record that runs past its list
@@ -158,14 +158,14 @@ malformed-models =
     ∷ row signals exprs (4 ∷ 0 ∷ 2 ∷ 4 ∷ 4 ∷ 0 ∷ 1 ∷ 7 ∷ 9 ∷ 1 ∷ 3 ∷ 5 ∷ 4 ∷ 0 ∷ 0 ∷ 0 ∷ 0 ∷ []) (0 ∷ 0 ∷ 0 ∷ 0 ∷ 0 ∷ 0 ∷ 0 ∷ []) (1 ∷ 1 ∷ 0 ∷ 0 ∷ []) none 8 8 6 (some (12, 16)) (0 ∷ 0 ∷ 0 ∷ 0 ∷ 0 ∷ 0 ∷ 0 ∷ [])
     ∷ []
 
-pub malformed-models-hold : map (λ c. run largest c.asked) malformed-models ≡ map (λ c. c.due) malformed-models
-unfolding run answer malformed firstFault split modelOf refusal looped readsAll ticked tick settle commit evalAll
-malformed-models-hold = refl
+pub malformed_models_hold : map (λ c. run largest c.asked) malformed_models ≡ map (λ c. c.due) malformed_models
+unfolding run answer malformed first_fault split model_of refusal looped reads_all ticked tick settle commit eval_all
+malformed_models_hold = refl
 
 -- 1
 
-abbrev pub short-buffers : List Case
-short-buffers =
+abbrev pub short_buffers : List Case
+short_buffers =
     -- 1: signal bytes come first
     row signals exprs stmts (0 ∷ 0 ∷ 0 ∷ 0 ∷ 0 ∷ 0 ∷ []) (1 ∷ 1 ∷ 0 ∷ 0 ∷ []) none 7 8 6 (some (1, 7)) (0 ∷ 0 ∷ 0 ∷ 0 ∷ 0 ∷ 0 ∷ [])
     -- 1: expression bits
@@ -178,14 +178,14 @@ short-buffers =
     ∷ row signals (4 ∷ 0 ∷ 1 ∷ 0 ∷ 4 ∷ 0 ∷ 1 ∷ 1 ∷ 5 ∷ 1 ∷ 1 ∷ 0 ∷ 0 ∷ 5 ∷ 1 ∷ 1 ∷ 0 ∷ 1 ∷ 5 ∷ 4 ∷ 1 ∷ 2 ∷ 3 ∷ 5 ∷ 1 ∷ 1 ∷ 2 ∷ 0 ∷ 5 ∷ 1 ∷ 1 ∷ 3 ∷ 0 ∷ 5 ∷ 6 ∷ 1 ∷ 5 ∷ 6 ∷ 4 ∷ 0 ∷ 4096 ∷ 7 ∷ []) stmts (0 ∷ 0 ∷ 0 ∷ 0 ∷ 0 ∷ 0 ∷ 0 ∷ []) (1 ∷ 1 ∷ 0 ∷ 0 ∷ []) none 8 9 6 (some (1, 4104)) (0 ∷ 0 ∷ 0 ∷ 0 ∷ 0 ∷ 0 ∷ 0 ∷ [])
     ∷ []
 
-pub short-buffers-hold : map (λ c. run largest c.asked) short-buffers ≡ map (λ c. c.due) short-buffers
-unfolding run answer malformed firstFault split modelOf refusal looped readsAll ticked tick settle commit evalAll
-short-buffers-hold = refl
+pub short_buffers_hold : map (λ c. run largest c.asked) short_buffers ≡ map (λ c. c.due) short_buffers
+unfolding run answer malformed first_fault split model_of refusal looped reads_all ticked tick settle commit eval_all
+short_buffers_hold = refl
 
 -- 14
 
-abbrev pub bad-ticks : List Case
-bad-ticks =
+abbrev pub bad_ticks : List Case
+bad_ticks =
     -- 14: a signal byte
     row signals exprs stmts (0 ∷ 0 ∷ 0 ∷ 2 ∷ 0 ∷ 0 ∷ 3 ∷ []) (1 ∷ []) (some (9, 0)) 8 8 6 (some (14, 3)) (0 ∷ 0 ∷ 0 ∷ 2 ∷ 0 ∷ 0 ∷ 3 ∷ [])
     -- 14: the count of tick bits
@@ -200,9 +200,9 @@ bad-ticks =
     ∷ row (4 ∷ 0 ∷ 1 ∷ 0 ∷ 4 ∷ 2 ∷ 1 ∷ 0 ∷ 4 ∷ 2 ∷ 1 ∷ 1 ∷ 4 ∷ 2 ∷ 1 ∷ 2 ∷ 4 ∷ 2 ∷ 1 ∷ 3 ∷ []) (5 ∷ 1 ∷ 1 ∷ 0 ∷ 0 ∷ 5 ∷ 1 ∷ 1 ∷ 1 ∷ 0 ∷ 5 ∷ 1 ∷ 1 ∷ 2 ∷ 0 ∷ 5 ∷ 1 ∷ 1 ∷ 3 ∷ 0 ∷ 5 ∷ 1 ∷ 1 ∷ 4 ∷ 0 ∷ []) (4 ∷ 0 ∷ 1 ∷ 2 ∷ 4 ∷ 0 ∷ 2 ∷ 3 ∷ 4 ∷ 0 ∷ 3 ∷ 4 ∷ 4 ∷ 0 ∷ 4 ∷ 3 ∷ []) (0 ∷ 0 ∷ 0 ∷ 0 ∷ 0 ∷ []) (1 ∷ []) (some (0, 2)) 5 5 5 (some (14, 0)) (0 ∷ 0 ∷ 0 ∷ 0 ∷ 0 ∷ [])
     ∷ []
 
-pub bad-ticks-hold : map (λ c. run largest c.asked) bad-ticks ≡ map (λ c. c.due) bad-ticks
-unfolding run answer malformed firstFault split modelOf refusal looped readsAll ticked tick settle commit evalAll
-bad-ticks-hold = refl
+pub bad_ticks_hold : map (λ c. run largest c.asked) bad_ticks ≡ map (λ c. c.due) bad_ticks
+unfolding run answer malformed first_fault split model_of refusal looped reads_all ticked tick settle commit eval_all
+bad_ticks_hold = refl
 
 -- 13
 
@@ -212,6 +212,6 @@ loops =
     row (4 ∷ 0 ∷ 1 ∷ 0 ∷ 4 ∷ 2 ∷ 1 ∷ 0 ∷ 4 ∷ 2 ∷ 1 ∷ 1 ∷ 4 ∷ 2 ∷ 1 ∷ 2 ∷ 4 ∷ 2 ∷ 1 ∷ 3 ∷ []) (5 ∷ 1 ∷ 1 ∷ 0 ∷ 0 ∷ 5 ∷ 1 ∷ 1 ∷ 1 ∷ 0 ∷ 5 ∷ 1 ∷ 1 ∷ 2 ∷ 0 ∷ 5 ∷ 1 ∷ 1 ∷ 3 ∷ 0 ∷ 5 ∷ 1 ∷ 1 ∷ 4 ∷ 0 ∷ []) (4 ∷ 0 ∷ 1 ∷ 2 ∷ 4 ∷ 0 ∷ 2 ∷ 3 ∷ 4 ∷ 0 ∷ 3 ∷ 4 ∷ 4 ∷ 0 ∷ 4 ∷ 3 ∷ []) (0 ∷ 0 ∷ 0 ∷ 0 ∷ 0 ∷ []) (1 ∷ []) none 5 5 5 (some (13, 3)) (0 ∷ 0 ∷ 0 ∷ 0 ∷ 0 ∷ [])
     ∷ []
 
-pub loops-hold : map (λ c. run largest c.asked) loops ≡ map (λ c. c.due) loops
-unfolding run answer malformed firstFault split modelOf refusal looped readsAll ticked tick settle commit evalAll
-loops-hold = refl
+pub loops_hold : map (λ c. run largest c.asked) loops ≡ map (λ c. c.due) loops
+unfolding run answer malformed first_fault split model_of refusal looped reads_all ticked tick settle commit eval_all
+loops_hold = refl

@@ -2,19 +2,19 @@
 use Rattle.std.specs.Prelude.{ℕ, ◌+◌, ◌^◌, ◌<◌, min, ◌≡◌, Bool, true, ◌&&◌, List, [], ◌∷◌, eqb, leb, ltb, length, get_or, take, drop}
 use Rattle.std.proofs.Math.Option.{Option, none, some}
 use Rattle.bits.specs.Bits.{pick}
-use Rattle.recorder.specs.Read.{readSignal, readExpr, readStmt}
+use Rattle.recorder.specs.Read.{read_signal, read_expr, read_stmt}
 use Rattle.recorder.specs.Record.{Model}
 use Rattle.recorder.specs.Lists.{Lists}
 use Rattle.simulation.specs.declared.Fault.{Fault}
 use Rattle.simulation.specs.declared.Fault.TheVariants.{Fine, At}
-use Rattle.simulation.specs.Index.{recordsIn, widthsIn, Listed}
-use Rattle.simulation.specs.Wellformed.{widths, count_of, drives, wide, in_range, earlier, widthSum, broad, suits, fits, firstFailing, signalFits, exprFits, stmtFits, or_else, malformed}
-use Rattle.simulation.specs.Run.{Call, callModel, total, short, noBit, wrongCount, wrongFired, first_of, causes}
+use Rattle.simulation.specs.Index.{records_in, widths_in, Listed}
+use Rattle.simulation.specs.Wellformed.{widths, count_of, drives, wide, in_range, earlier, width_sum, broad, suits, fits, first_failing, signal_fits, expr_fits, stmt_fits, or_else, malformed}
+use Rattle.simulation.specs.Run.{Call, call_model, total, short, no_bit, wrong_count, wrong_fired, first_of, causes}
 
 -- the first faulty record
-abbrev pub faultOf : Fault → Option ℕ
-faultOf Fine = none
-faultOf (At n) = some n
+abbrev pub fault_of : Fault → Option ℕ
+fault_of Fine = none
+fault_of (At n) = some n
 
 -- a record that counts as a statement
 abbrev pub stands : List ℕ → Bool
@@ -22,123 +22,123 @@ stands r = leb 2 (length r) && leb (get_or r 0 0) 1
 
 -- for each signal, as far as the table goes, how many statements stand on it: none, one, or more
 pub record Tallied (rs : List (List ℕ)) (table : List ℕ) : Type 0 where
-  pub tally-at : (i : ℕ) → i < length table → get_or table i 0 ≡ min (count_of (drives i) rs) 2
+  pub tally_at : (i : ℕ) → i < length table → get_or table i 0 ≡ min (count_of (drives i) rs) 2
 
 -- the test of signal n, and the first that fails it
-abbrev pub signalTest : ℕ → List (List ℕ) → ℕ → List ℕ → Bool
-signalTest widest ts n r = fits (signalFits widest (count_of (drives n) ts)) (readSignal r)
+abbrev pub signal_test : ℕ → List (List ℕ) → ℕ → List ℕ → Bool
+signal_test widest ts n r = fits (signal_fits widest (count_of (drives n) ts)) (read_signal r)
 
-abbrev pub signalFaultOf : ℕ → List (List ℕ) → List (List ℕ) → Option ℕ
-signalFaultOf widest ss ts = firstFailing (signalTest widest ts) 0 ss
+abbrev pub signal_fault_of : ℕ → List (List ℕ) → List (List ℕ) → Option ℕ
+signal_fault_of widest ss ts = first_failing (signal_test widest ts) 0 ss
 
 -- all these operands come before expression n and are w wide
-abbrev pub allWide : List ℕ → ℕ → ℕ → List ℕ → Bool
-allWide ew n w [] = true
-allWide ew n w (a ∷ l) = wide ew n a w && allWide ew n w l
+abbrev pub all_wide : List ℕ → ℕ → ℕ → List ℕ → Bool
+all_wide ew n w [] = true
+all_wide ew n w (a ∷ l) = wide ew n a w && all_wide ew n w l
 
 -- the test of expression n, and the same for each kind: how many fields, which widths
-abbrev pub exprTest : ℕ → List ℕ → List ℕ → ℕ → List ℕ → Bool
-exprTest widest sw ew n r = fits (exprFits widest sw ew n) (readExpr r)
+abbrev pub expr_test : ℕ → List ℕ → List ℕ → ℕ → List ℕ → Bool
+expr_test widest sw ew n r = fits (expr_fits widest sw ew n) (read_expr r)
 
-abbrev pub constTest : ℕ → List ℕ → Bool
-constTest widest r = eqb (length r) 3 && (in_range widest (get_or r 1 0) && ltb (get_or r 2 0) (2 ^ get_or r 1 0))
+abbrev pub const_test : ℕ → List ℕ → Bool
+const_test widest r = eqb (length r) 3 && (in_range widest (get_or r 1 0) && ltb (get_or r 2 0) (2 ^ get_or r 1 0))
 
-abbrev pub readTest : ℕ → List ℕ → List ℕ → Bool
-readTest widest sw r = eqb (length r) 4 && (in_range widest (get_or r 1 0) && ltb (get_or r 2 0) (length sw) && leb (get_or r 3 0 + get_or r 1 0) (get_or sw (get_or r 2 0) 0))
+abbrev pub read_test : ℕ → List ℕ → List ℕ → Bool
+read_test widest sw r = eqb (length r) 4 && (in_range widest (get_or r 1 0) && ltb (get_or r 2 0) (length sw) && leb (get_or r 3 0 + get_or r 1 0) (get_or sw (get_or r 2 0) 0))
 
-abbrev pub concatTest : ℕ → List ℕ → ℕ → List ℕ → Bool
-concatTest widest ew n r = leb 2 (length r) && (in_range widest (get_or r 1 0) && earlier n (drop 2 r) && eqb (widthSum ew (drop 2 r)) (get_or r 1 0))
+abbrev pub concat_test : ℕ → List ℕ → ℕ → List ℕ → Bool
+concat_test widest ew n r = leb 2 (length r) && (in_range widest (get_or r 1 0) && earlier n (drop 2 r) && eqb (width_sum ew (drop 2 r)) (get_or r 1 0))
 
 -- operands as wide as the expression itself
-abbrev pub fixedTest : List ℕ → ℕ → ℕ → ℕ → List ℕ → Bool
-fixedTest ew n fields w r = eqb (length r) fields && (eqb (get_or r 1 0) w && allWide ew n w (drop 2 r))
+abbrev pub fixed_test : List ℕ → ℕ → ℕ → ℕ → List ℕ → Bool
+fixed_test ew n fields w r = eqb (length r) fields && (eqb (get_or r 1 0) w && all_wide ew n w (drop 2 r))
 
-abbrev pub muxTest : ℕ → List ℕ → ℕ → List ℕ → Bool
-muxTest widest ew n r = eqb (length r) 5 && (in_range widest (get_or r 1 0) && wide ew n (get_or r 2 0) 1 && wide ew n (get_or r 3 0) (get_or r 1 0) && wide ew n (get_or r 4 0) (get_or r 1 0))
+abbrev pub mux_test : ℕ → List ℕ → ℕ → List ℕ → Bool
+mux_test widest ew n r = eqb (length r) 5 && (in_range widest (get_or r 1 0) && wide ew n (get_or r 2 0) 1 && wide ew n (get_or r 3 0) (get_or r 1 0) && wide ew n (get_or r 4 0) (get_or r 1 0))
 
-abbrev pub eqTest : List ℕ → ℕ → List ℕ → Bool
-eqTest ew n r = eqb (length r) 4 && (eqb (get_or r 1 0) 1 && (ltb (get_or r 2 0) n && wide ew n (get_or r 3 0) (get_or ew (get_or r 2 0) 0)))
+abbrev pub eq_test : List ℕ → ℕ → List ℕ → Bool
+eq_test ew n r = eqb (length r) 4 && (eqb (get_or r 1 0) 1 && (ltb (get_or r 2 0) n && wide ew n (get_or r 3 0) (get_or ew (get_or r 2 0) 0)))
 
-abbrev pub exprFaultOf : ℕ → List (List ℕ) → List (List ℕ) → Option ℕ
-exprFaultOf widest ss es = firstFailing (exprTest widest (widths ss) (widths es)) 0 es
+abbrev pub expr_fault_of : ℕ → List (List ℕ) → List (List ℕ) → Option ℕ
+expr_fault_of widest ss es = first_failing (expr_test widest (widths ss) (widths es)) 0 es
 
 -- tables of widths and the numbers of signals and of expressions, as the code hands them on
-pub record Widths (signals signalTable : List ℕ) (count : ℕ) (exprs exprTable : List ℕ) (n : ℕ) : Type 0 where
-  pub signals-listed : Listed (widthsIn signals) signalTable
-  pub signals-counted : count ≡ length (recordsIn signals)
-  pub exprs-listed : Listed (widthsIn exprs) exprTable
-  pub exprs-counted : n ≡ length (recordsIn exprs)
+pub record Widths (signals signal_table : List ℕ) (count : ℕ) (exprs expr_table : List ℕ) (n : ℕ) : Type 0 where
+  pub signals_listed : Listed (widths_in signals) signal_table
+  pub signals_counted : count ≡ length (records_in signals)
+  pub exprs_listed : Listed (widths_in exprs) expr_table
+  pub exprs_counted : n ≡ length (records_in exprs)
 
 -- the test of a statement, and the same for each kind
-abbrev pub stmtTest : List ℕ → List ℕ → List ℕ → Bool
-stmtTest sw ew r = fits (stmtFits sw ew) (readStmt r)
+abbrev pub stmt_test : List ℕ → List ℕ → List ℕ → Bool
+stmt_test sw ew r = fits (stmt_fits sw ew) (read_stmt r)
 
-abbrev pub assignTest : List ℕ → List ℕ → List ℕ → Bool
-assignTest sw ew r = eqb (length r) 3 && suits sw ew (get_or r 1 0) (get_or r 2 0)
+abbrev pub assign_test : List ℕ → List ℕ → List ℕ → Bool
+assign_test sw ew r = eqb (length r) 3 && suits sw ew (get_or r 1 0) (get_or r 2 0)
 
 -- target and next value, clock and edge of a register
-abbrev pub headTest : List ℕ → List ℕ → List ℕ → Bool
-headTest sw ew r = suits sw ew (get_or r 1 0) (get_or r 2 0) && broad sw (get_or r 3 0) 1 && leb (get_or r 4 0) 1
+abbrev pub head_test : List ℕ → List ℕ → List ℕ → Bool
+head_test sw ew r = suits sw ew (get_or r 1 0) (get_or r 2 0) && broad sw (get_or r 3 0) 1 && leb (get_or r 4 0) 1
 
 -- its reset, which stands from the sixth field on
-abbrev pub resetTest : List ℕ → List ℕ → List ℕ → Bool
-resetTest sw ew r = broad sw (get_or r 6 0) 1 && leb (get_or r 7 0) 1 && suits sw ew (get_or r 1 0) (get_or r 8 0)
+abbrev pub reset_test : List ℕ → List ℕ → List ℕ → Bool
+reset_test sw ew r = broad sw (get_or r 6 0) 1 && leb (get_or r 7 0) 1 && suits sw ew (get_or r 1 0) (get_or r 8 0)
 
 -- its enable, the last fields
-abbrev pub enableTest : List ℕ → List ℕ → Bool
-enableTest sw e = pick (eqb (get_or e 0 0) 0) (eqb (length e) 1) (eqb (get_or e 0 0) 1 && (eqb (length e) 3 && (broad sw (get_or e 1 0) 1 && leb (get_or e 2 0) 1)))
+abbrev pub enable_test : List ℕ → List ℕ → Bool
+enable_test sw e = pick (eqb (get_or e 0 0) 0) (eqb (length e) 1) (eqb (get_or e 0 0) 1 && (eqb (length e) 3 && (broad sw (get_or e 1 0) 1 && leb (get_or e 2 0) 1)))
 
-abbrev pub regTest : List ℕ → List ℕ → List ℕ → Bool
-regTest sw ew r = leb 7 (length r) && (headTest sw ew r && pick (eqb (get_or r 5 0) 0) (enableTest sw (drop 6 r)) (eqb (get_or r 5 0) 1 && (leb 10 (length r) && (resetTest sw ew r && enableTest sw (drop 9 r)))))
+abbrev pub reg_test : List ℕ → List ℕ → List ℕ → Bool
+reg_test sw ew r = leb 7 (length r) && (head_test sw ew r && pick (eqb (get_or r 5 0) 0) (enable_test sw (drop 6 r)) (eqb (get_or r 5 0) 1 && (leb 10 (length r) && (reset_test sw ew r && enable_test sw (drop 9 r)))))
 
-abbrev pub stmtFaultOf : List (List ℕ) → List (List ℕ) → List (List ℕ) → Option ℕ
-stmtFaultOf ss es ts = firstFailing (λ (n : ℕ) r. stmtTest (widths ss) (widths es) r) 0 ts
+abbrev pub stmt_fault_of : List (List ℕ) → List (List ℕ) → List (List ℕ) → Option ℕ
+stmt_fault_of ss es ts = first_failing (λ (n : ℕ) r. stmt_test (widths ss) (widths es) r) 0 ts
 
 -- A CALL
 
 -- the widths of all records of a list together, and those of inputs
-abbrev pub secondField : List ℕ → ℕ
-secondField r = get_or r 1 0
+abbrev pub second_field : List ℕ → ℕ
+second_field r = get_or r 1 0
 
-abbrev pub widthTotal : List ℕ → ℕ
-widthTotal list = total secondField (recordsIn list)
+abbrev pub width_total : List ℕ → ℕ
+width_total list = total second_field (records_in list)
 
-abbrev pub inputField : List ℕ → ℕ
-inputField r = pick (eqb (get_or r 0 0) 0) (get_or r 1 0) 0
+abbrev pub input_field : List ℕ → ℕ
+input_field r = pick (eqb (get_or r 0 0) 0) (get_or r 1 0) 0
 
-abbrev pub inputTotal : List ℕ → ℕ
-inputTotal list = total inputField (recordsIn list)
+abbrev pub input_total : List ℕ → ℕ
+input_total list = total input_field (records_in list)
 
 -- buffers that are too short, and then bits that are none
-abbrev pub lengthCauses : List ℕ → List ℕ → List ℕ → List ℕ → List ℕ → List ℕ → List (Option (ℕ × ℕ))
-lengthCauses signals exprs bytes workBits workExprs workSignals =
-    short (widthTotal signals) bytes
-    ∷ short (widthTotal exprs) workBits
-    ∷ short (length (recordsIn exprs)) workExprs
-    ∷ short (length (recordsIn signals)) workSignals
+abbrev pub length_causes : List ℕ → List ℕ → List ℕ → List ℕ → List ℕ → List ℕ → List (Option (ℕ × ℕ))
+length_causes signals exprs bytes work_bits work_exprs work_signals =
+    short (width_total signals) bytes
+    ∷ short (width_total exprs) work_bits
+    ∷ short (length (records_in exprs)) work_exprs
+    ∷ short (length (records_in signals)) work_signals
     ∷ []
 
 -- what can be wrong with one tick on a model of so many signals and input bits
-abbrev pub tickCauses : ℕ → ℕ → List ℕ → Option (ℕ × ℕ) → List (Option (ℕ × ℕ))
-tickCauses signals bits ticks fired = wrongCount bits ticks ∷ noBit 0 ticks ∷ wrongFired signals fired ∷ []
+abbrev pub tick_causes : ℕ → ℕ → List ℕ → Option (ℕ × ℕ) → List (Option (ℕ × ℕ))
+tick_causes signals bits ticks fired = wrong_count bits ticks ∷ no_bit 0 ticks ∷ wrong_fired signals fired ∷ []
 
-abbrev pub bitCauses : List ℕ → List ℕ → List ℕ → Option (ℕ × ℕ) → List (Option (ℕ × ℕ))
-bitCauses signals bytes ticks fired =
-    noBit 0 (take (widthTotal signals) bytes) ∷ tickCauses (length (recordsIn signals)) (inputTotal signals) ticks fired
+abbrev pub bit_causes : List ℕ → List ℕ → List ℕ → Option (ℕ × ℕ) → List (Option (ℕ × ℕ))
+bit_causes signals bytes ticks fired =
+    no_bit 0 (take (width_total signals) bytes) ∷ tick_causes (length (records_in signals)) (input_total signals) ticks fired
 
-abbrev pub callCauses : Call → Option (ℕ × ℕ)
-callCauses c =
-    or_else (first_of (lengthCauses c.lists.signals c.lists.exprs c.bytes c.workBits c.workExprs c.workSignals))
-    (first_of (bitCauses c.lists.signals c.bytes c.ticks c.fired))
+abbrev pub call_causes : Call → Option (ℕ × ℕ)
+call_causes c =
+    or_else (first_of (length_causes c.lists.signals c.lists.exprs c.bytes c.work_bits c.work_exprs c.work_signals))
+    (first_of (bit_causes c.lists.signals c.bytes c.ticks c.fired))
 
 abbrev pub call_of : Lists → List ℕ → List ℕ → Option (ℕ × ℕ) → List ℕ → List ℕ → List ℕ → Call
-call_of l bytes ticks fired workBits workExprs workSignals =
-    record { lists = l; bytes = bytes; ticks = ticks; fired = fired; workBits = workBits; workExprs = workExprs; workSignals = workSignals }
+call_of l bytes ticks fired work_bits work_exprs work_signals =
+    record { lists = l; bytes = bytes; ticks = ticks; fired = fired; work_bits = work_bits; work_exprs = work_exprs; work_signals = work_signals }
 
 -- refusals 12, 1 and 14: all causes but the last, which is a loop
 abbrev pub checked : Model → Call → Option ℕ → Option (ℕ × ℕ)
 checked m c (some n) = some (12, n)
 checked m c none = first_of (take 8 (causes m c))
 
-unfoldable pub checkedBy : ℕ → Call → Option (ℕ × ℕ)
-checkedBy widest c = checked (callModel c) c (malformed widest c.lists)
+unfoldable pub checked_by : ℕ → Call → Option (ℕ × ℕ)
+checked_by widest c = checked (call_model c) c (malformed widest c.lists)

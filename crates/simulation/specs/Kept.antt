@@ -3,10 +3,10 @@ use Rattle.std.specs.Prelude.{ℕ, ◌≤◌, ◌≡◌, List, [], ◌∷◌, le
 use Rattle.std.proofs.Math.Option.{none}
 use Rattle.bits.specs.Bits.{Bits}
 use Rattle.recorder.specs.Record.{Signal}
-use Rattle.recorder.specs.Words.{rawOf}
-use Rattle.simulation.specs.Wellformed.{firstFault}
+use Rattle.recorder.specs.Words.{raw_of}
+use Rattle.simulation.specs.Wellformed.{first_fault}
 use Rattle.simulation.specs.Tick.{looped}
-use Rattle.simulation.specs.Run.{Call, callModel, signalBytes, exprBits, tickBits, noBit, wrongFired}
+use Rattle.simulation.specs.Run.{Call, call_model, signal_bytes, expr_bits, tick_bits, no_bit, wrong_fired}
 
 -- each signal has as many bits as it is wide
 abbrev pub Fits : List Signal → List Bits → Type 0
@@ -17,14 +17,14 @@ Fits (s ∷ ss) (v ∷ t) = (length v ≡ s.width) × Fits ss t
 
 -- what an accepted call has
 pub record Good (widest : ℕ) (c : Call) : Type 0 where
-  pub faultless : firstFault widest (rawOf c.lists) ≡ none
-  pub enough : signalBytes (callModel c) ≤ length c.bytes
-  pub exprs-enough : (exprBits (callModel c) ≤ length c.workBits) × (length (callModel c).exprs ≤ length c.workExprs) × (length (callModel c).signals ≤ length c.workSignals)
-  pub all-bits : noBit 0 (take (signalBytes (callModel c)) c.bytes) ≡ none
-  pub right-count : length c.ticks ≡ tickBits (callModel c)
-  pub all-tick-bits : noBit 0 c.ticks ≡ none
-  pub right-fired : wrongFired (length (callModel c).signals) c.fired ≡ none
-  pub loopless : looped (callModel c) ≡ none
+  pub faultless : first_fault widest (raw_of c.lists) ≡ none
+  pub enough : signal_bytes (call_model c) ≤ length c.bytes
+  pub exprs_enough : (expr_bits (call_model c) ≤ length c.work_bits) × (length (call_model c).exprs ≤ length c.work_exprs) × (length (call_model c).signals ≤ length c.work_signals)
+  pub all_bits : no_bit 0 (take (signal_bytes (call_model c)) c.bytes) ≡ none
+  pub right_count : length c.ticks ≡ tick_bits (call_model c)
+  pub all_tick_bits : no_bit 0 c.ticks ≡ none
+  pub right_fired : wrong_fired (length (call_model c).signals) c.fired ≡ none
+  pub loopless : looped (call_model c) ≡ none
 
 -- bytes that are bits
 abbrev pub AllBits : List ℕ → Type 0

@@ -7,8 +7,8 @@ use Rattle.refusal.specs.Refusal.{number_of, place_of}
 use Rattle.recorder.specs.Record.{Signal, Expr, Model}
 use Rattle.recorder.specs.Record.{const, read, concat, not, and, or, xor, mux, eq, mul}
 use Rattle.recorder.specs.Lists.{Lists}
-use Rattle.recorder.specs.Read.{only, modelOf}
-use Rattle.recorder.specs.Words.{rawOf}
+use Rattle.recorder.specs.Read.{only, model_of}
+use Rattle.recorder.specs.Words.{raw_of}
 pub use Rattle.recorder.specs.Words.{zeroed}
 use Rattle.simulation.specs.declared.Fired.{Fired}
 use Rattle.simulation.specs.declared.Fired.TheVariants.{Nothing, Edge}
@@ -22,9 +22,9 @@ abbrev pub answer_of : Ran → Option (ℕ × ℕ)
 answer_of Done = none
 answer_of (Refused x) = some (number_of x, place_of x)
 
-abbrev pub firedOf : Fired → Option (ℕ × ℕ)
-firedOf Nothing = none
-firedOf (Edge s d) = some (s.0, d)
+abbrev pub fired_of : Fired → Option (ℕ × ℕ)
+fired_of Nothing = none
+fired_of (Edge s d) = some (s.0, d)
 
 -- nothing fires, or one edge of one signal
 abbrev pub firing : Option (ℕ × ℕ) → Firing
@@ -37,51 +37,51 @@ pub record Call : Type 0 where
   pub bytes : List ℕ
   pub ticks : List ℕ
   pub fired : Option (ℕ × ℕ)
-  pub workBits : List ℕ
-  pub workExprs : List ℕ
-  pub workSignals : List ℕ
+  pub work_bits : List ℕ
+  pub work_exprs : List ℕ
+  pub work_signals : List ℕ
 
 -- the model that its lists hold
-abbrev pub callModel : Call → Model
-callModel c = modelOf (rawOf c.lists)
+abbrev pub call_model : Call → Model
+call_model c = model_of (raw_of c.lists)
 
 -- what the caller has afterwards
 pub record Outcome : Type 0 where
   pub answer : Option (ℕ × ℕ)
   pub bytes : List ℕ
-  pub workBits : List ℕ
-  pub workExprs : List ℕ
-  pub workSignals : List ℕ
+  pub work_bits : List ℕ
+  pub work_exprs : List ℕ
+  pub work_signals : List ℕ
 
 -- SIZES
 
-abbrev pub exprWidth : Expr → ℕ
-exprWidth (const w v) = w
-exprWidth (read w s l) = w
-exprWidth (concat w ps) = w
-exprWidth (not a) = 1
-exprWidth (and a b) = 1
-exprWidth (or a b) = 1
-exprWidth (xor a b) = 1
-exprWidth (mux w s t f) = w
-exprWidth (eq a b) = 1
-exprWidth (mul a b) = 36
+abbrev pub expr_width : Expr → ℕ
+expr_width (const w v) = w
+expr_width (read w s l) = w
+expr_width (concat w ps) = w
+expr_width (not a) = 1
+expr_width (and a b) = 1
+expr_width (or a b) = 1
+expr_width (xor a b) = 1
+expr_width (mux w s t f) = w
+expr_width (eq a b) = 1
+expr_width (mul a b) = 36
 
-abbrev pub inputWidth : Signal → ℕ
-inputWidth s = pick (eqb s.label 0) s.width 0
+abbrev pub input_width : Signal → ℕ
+input_width s = pick (eqb s.label 0) s.width 0
 
 abbrev pub total : {A : Type 0} → (A → ℕ) → List A → ℕ
 total w [] = 0
 total w (a ∷ l) = w a + total w l
 
-abbrev pub signalBytes : Model → ℕ
-signalBytes m = total (λ (s : Signal). s.width) m.signals
+abbrev pub signal_bytes : Model → ℕ
+signal_bytes m = total (λ (s : Signal). s.width) m.signals
 
-abbrev pub exprBits : Model → ℕ
-exprBits m = total exprWidth m.exprs
+abbrev pub expr_bits : Model → ℕ
+expr_bits m = total expr_width m.exprs
 
-abbrev pub tickBits : Model → ℕ
-tickBits m = total inputWidth m.signals
+abbrev pub tick_bits : Model → ℕ
+tick_bits m = total input_width m.signals
 
 -- REFUSALS 1, 14 AND 13
 
@@ -90,20 +90,20 @@ abbrev pub short : ℕ → List ℕ → Option (ℕ × ℕ)
 short n buffer = only (ltb (length buffer) n) (some (1, min n 18446744073709551615))
 
 -- the first byte that is no bit, counted from n
-abbrev pub noBit : ℕ → List ℕ → Option (ℕ × ℕ)
-noBit n [] = none
-noBit n (b ∷ bs) = pick (leb b 1) (noBit (suc n) bs) (some (14, n))
+abbrev pub no_bit : ℕ → List ℕ → Option (ℕ × ℕ)
+no_bit n [] = none
+no_bit n (b ∷ bs) = pick (leb b 1) (no_bit (suc n) bs) (some (14, n))
 
-abbrev pub wrongCount : ℕ → List ℕ → Option (ℕ × ℕ)
-wrongCount n ticks = pick (eqb (length ticks) n) none (some (14, n))
+abbrev pub wrong_count : ℕ → List ℕ → Option (ℕ × ℕ)
+wrong_count n ticks = pick (eqb (length ticks) n) none (some (14, n))
 
-abbrev pub wrongFired : ℕ → Option (ℕ × ℕ) → Option (ℕ × ℕ)
-wrongFired signals none = none
-wrongFired signals (some f) = pick (ltb f.0 signals && leb f.1 1) none (some (14, 0))
+abbrev pub wrong_fired : ℕ → Option (ℕ × ℕ) → Option (ℕ × ℕ)
+wrong_fired signals none = none
+wrong_fired signals (some f) = pick (ltb f.0 signals && leb f.1 1) none (some (14, 0))
 
-abbrev pub onLoop : Option ℕ → Option (ℕ × ℕ)
-onLoop none = none
-onLoop (some s) = some (13, s)
+abbrev pub on_loop : Option ℕ → Option (ℕ × ℕ)
+on_loop none = none
+on_loop (some s) = some (13, s)
 
 -- the first of some answers
 abbrev pub first_of : List (Option (ℕ × ℕ)) → Option (ℕ × ℕ)
@@ -113,15 +113,15 @@ first_of (o ∷ os) = or_else o (first_of os)
 -- the refusals of a well-formed model's call, in their order
 abbrev pub causes : Model → Call → List (Option (ℕ × ℕ))
 causes m c =
-    short (signalBytes m) c.bytes
-    ∷ short (exprBits m) c.workBits
-    ∷ short (length m.exprs) c.workExprs
-    ∷ short (length m.signals) c.workSignals
-    ∷ noBit 0 (take (signalBytes m) c.bytes)
-    ∷ wrongCount (tickBits m) c.ticks
-    ∷ noBit 0 c.ticks
-    ∷ wrongFired (length m.signals) c.fired
-    ∷ onLoop (looped m)
+    short (signal_bytes m) c.bytes
+    ∷ short (expr_bits m) c.work_bits
+    ∷ short (length m.exprs) c.work_exprs
+    ∷ short (length m.signals) c.work_signals
+    ∷ no_bit 0 (take (signal_bytes m) c.bytes)
+    ∷ wrong_count (tick_bits m) c.ticks
+    ∷ no_bit 0 c.ticks
+    ∷ wrong_fired (length m.signals) c.fired
+    ∷ on_loop (looped m)
     ∷ []
 
 unfoldable pub refusal : Model → Call → Option (ℕ × ℕ)
@@ -130,29 +130,29 @@ refusal m c = first_of (causes m c)
 -- THE SIGNAL BYTES
 
 -- the bits of each signal, from those of all
-abbrev pub perSignal : List Signal → Bits → List Bits
-perSignal [] bs = []
-perSignal (s ∷ ss) bs = take s.width bs ∷ perSignal ss (drop s.width bs)
+abbrev pub per_signal : List Signal → Bits → List Bits
+per_signal [] bs = []
+per_signal (s ∷ ss) bs = take s.width bs ∷ per_signal ss (drop s.width bs)
 
-abbrev pub isOne : ℕ → Bool
-isOne b = eqb b 1
+abbrev pub is_one : ℕ → Bool
+is_one b = eqb b 1
 
 -- the signals before a tick and after it
-abbrev pub stateBefore : Call → List Bits
-stateBefore c = perSignal (callModel c).signals (map isOne c.bytes)
+abbrev pub state_before : Call → List Bits
+state_before c = per_signal (call_model c).signals (map is_one c.bytes)
 
-abbrev pub stateAfter : Call → List Bits
-stateAfter c = tick (callModel c) (map isOne c.ticks) (firing c.fired) (stateBefore c)
+abbrev pub state_after : Call → List Bits
+state_after c = tick (call_model c) (map is_one c.ticks) (firing c.fired) (state_before c)
 
 -- the signal bytes after a tick; those behind the needed ones are kept
 unfoldable pub ticked : Call → List ℕ
-ticked c = map digit (flat (stateAfter c)) ++ drop (signalBytes (callModel c)) c.bytes
+ticked c = map digit (flat (state_after c)) ++ drop (signal_bytes (call_model c)) c.bytes
 
 -- THE CALL
 
-abbrev pub bytesAfter : Call → Option (ℕ × ℕ) → List ℕ
-bytesAfter c none = ticked c
-bytesAfter c (some r) = c.bytes
+abbrev pub bytes_after : Call → Option (ℕ × ℕ) → List ℕ
+bytes_after c none = ticked c
+bytes_after c (some r) = c.bytes
 
 -- 12 comes first
 abbrev pub verdict : Model → Call → Option ℕ → Option (ℕ × ℕ)
@@ -160,13 +160,13 @@ verdict m c (some n) = some (12, n)
 verdict m c none = refusal m c
 
 unfoldable pub answer : ℕ → Call → Option (ℕ × ℕ)
-answer widest c = verdict (callModel c) c (malformed widest c.lists)
+answer widest c = verdict (call_model c) c (malformed widest c.lists)
 
 unfoldable pub run : ℕ → Call → Outcome
 run widest c = record {
   answer = answer widest c;
-  bytes = bytesAfter c (answer widest c);
-  workBits = zeroed c.workBits;
-  workExprs = zeroed c.workExprs;
-  workSignals = zeroed c.workSignals;
+  bytes = bytes_after c (answer widest c);
+  work_bits = zeroed c.work_bits;
+  work_exprs = zeroed c.work_exprs;
+  work_signals = zeroed c.work_signals;
 }

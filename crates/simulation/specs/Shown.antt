@@ -10,17 +10,17 @@ use Rattle.simulation.specs.Run.{Call, run}
 pub record Entry : Type 0 where
   pub ticks : List ℕ
   pub fired : Option (ℕ × ℕ)
-  pub workBits : List ℕ
-  pub workExprs : List ℕ
-  pub workSignals : List ℕ
+  pub work_bits : List ℕ
+  pub work_exprs : List ℕ
+  pub work_signals : List ℕ
 
-abbrev pub entryCall : Lists → List ℕ → Entry → Call
-entryCall l bytes e = record { lists = l; bytes = bytes; ticks = e.ticks; fired = e.fired; workBits = e.workBits; workExprs = e.workExprs; workSignals = e.workSignals }
+abbrev pub entry_call : Lists → List ℕ → Entry → Call
+entry_call l bytes e = record { lists = l; bytes = bytes; ticks = e.ticks; fired = e.fired; work_bits = e.work_bits; work_exprs = e.work_exprs; work_signals = e.work_signals }
 
 -- the bytes of the output ports' signals (label 1), in order
-abbrev pub shownBytes : List Signal → List ℕ → List (List ℕ)
-shownBytes [] bytes = []
-shownBytes (s ∷ ss) bytes = pick (eqb s.label 1) (take s.width bytes ∷ shownBytes ss (drop s.width bytes)) (shownBytes ss (drop s.width bytes))
+abbrev pub shown_bytes : List Signal → List ℕ → List (List ℕ)
+shown_bytes [] bytes = []
+shown_bytes (s ∷ ss) bytes = pick (eqb s.label 1) (take s.width bytes ∷ shown_bytes ss (drop s.width bytes)) (shown_bytes ss (drop s.width bytes))
 
 -- after a call: how it ended, and what the output ports show
 pub record ByModel : Type 0 where
@@ -28,13 +28,13 @@ pub record ByModel : Type 0 where
   pub outputs : List (List ℕ)
 
 -- each call gets the signal bytes as the last one left them
-abbrev pub shownByModel : ℕ → Lists → List Signal → List ℕ → List Entry → List ByModel
-shownByModel widest l ss bytes [] = []
-shownByModel widest l ss bytes (e ∷ es) =
-    let o = run widest (entryCall l bytes e) in
-    record { answer = o.answer; outputs = shownBytes ss o.bytes } ∷ shownByModel widest l ss o.bytes es
+abbrev pub shown_by_model : ℕ → Lists → List Signal → List ℕ → List Entry → List ByModel
+shown_by_model widest l ss bytes [] = []
+shown_by_model widest l ss bytes (e ∷ es) =
+    let o = run widest (entry_call l bytes e) in
+    record { answer = o.answer; outputs = shown_bytes ss o.bytes } ∷ shown_by_model widest l ss o.bytes es
 
 -- the signal bytes after all of them
-abbrev pub bytesAfterAll : ℕ → Lists → List ℕ → List Entry → List ℕ
-bytesAfterAll widest l bytes [] = bytes
-bytesAfterAll widest l bytes (e ∷ es) = bytesAfterAll widest l (run widest (entryCall l bytes e)).bytes es
+abbrev pub bytes_after_all : ℕ → Lists → List ℕ → List Entry → List ℕ
+bytes_after_all widest l bytes [] = bytes
+bytes_after_all widest l bytes (e ∷ es) = bytes_after_all widest l (run widest (entry_call l bytes e)).bytes es

@@ -5,8 +5,8 @@ use Rattle.bits.specs.Bits.{pick}
 use Rattle.recorder.specs.Record.{Signal, Expr, RegReset, RegEnable, Stmt}
 use Rattle.recorder.specs.Record.{const, read, concat, not, and, or, xor, mux, eq, mul, assign, reg}
 use Rattle.recorder.specs.Lists.{Lists}
-use Rattle.recorder.specs.Read.{Cut, Raw, split, readSignal, readExpr, readStmt}
-use Rattle.recorder.specs.Words.{rawOf}
+use Rattle.recorder.specs.Read.{Cut, Raw, split, read_signal, read_expr, read_stmt}
+use Rattle.recorder.specs.Words.{raw_of}
 
 -- the largest width of this delivery
 abbrev pub largest : ℕ
@@ -45,45 +45,45 @@ statements zero = 0
 statements (suc label) = 1
 
 -- a signal on which k statements stand
-abbrev pub signalFits : ℕ → ℕ → Signal → Bool
-signalFits widest k s = leb s.label 15 && in_range widest s.width && eqb k (statements s.label)
+abbrev pub signal_fits : ℕ → ℕ → Signal → Bool
+signal_fits widest k s = leb s.label 15 && in_range widest s.width && eqb k (statements s.label)
 
 abbrev pub earlier : ℕ → List ℕ → Bool
 earlier n [] = true
 earlier n (p ∷ ps) = ltb p n && earlier n ps
 
-abbrev pub widthSum : List ℕ → List ℕ → ℕ
-widthSum ew [] = 0
-widthSum ew (p ∷ ps) = get_or ew p 0 + widthSum ew ps
+abbrev pub width_sum : List ℕ → List ℕ → ℕ
+width_sum ew [] = 0
+width_sum ew (p ∷ ps) = get_or ew p 0 + width_sum ew ps
 
 -- expression n; the kinds that have one width only (not, and, or, xor, eq: 1, mul: 36) are read with that width or not at all
-abbrev pub exprFits : ℕ → List ℕ → List ℕ → ℕ → Expr → Bool
-exprFits widest sw ew n (const w v) = in_range widest w && ltb v (2 ^ w)
-exprFits widest sw ew n (read w s l) = in_range widest w && ltb s (length sw) && leb (l + w) (get_or sw s 0)
-exprFits widest sw ew n (concat w ps) = in_range widest w && earlier n ps && eqb (widthSum ew ps) w
-exprFits widest sw ew n (not a) = wide ew n a 1
-exprFits widest sw ew n (and a b) = wide ew n a 1 && wide ew n b 1
-exprFits widest sw ew n (or a b) = wide ew n a 1 && wide ew n b 1
-exprFits widest sw ew n (xor a b) = wide ew n a 1 && wide ew n b 1
-exprFits widest sw ew n (mux w s t f) = in_range widest w && wide ew n s 1 && wide ew n t w && wide ew n f w
-exprFits widest sw ew n (eq a b) = ltb a n && wide ew n b (get_or ew a 0)
-exprFits widest sw ew n (mul a b) = wide ew n a 36 && wide ew n b 36
+abbrev pub expr_fits : ℕ → List ℕ → List ℕ → ℕ → Expr → Bool
+expr_fits widest sw ew n (const w v) = in_range widest w && ltb v (2 ^ w)
+expr_fits widest sw ew n (read w s l) = in_range widest w && ltb s (length sw) && leb (l + w) (get_or sw s 0)
+expr_fits widest sw ew n (concat w ps) = in_range widest w && earlier n ps && eqb (width_sum ew ps) w
+expr_fits widest sw ew n (not a) = wide ew n a 1
+expr_fits widest sw ew n (and a b) = wide ew n a 1 && wide ew n b 1
+expr_fits widest sw ew n (or a b) = wide ew n a 1 && wide ew n b 1
+expr_fits widest sw ew n (xor a b) = wide ew n a 1 && wide ew n b 1
+expr_fits widest sw ew n (mux w s t f) = in_range widest w && wide ew n s 1 && wide ew n t w && wide ew n f w
+expr_fits widest sw ew n (eq a b) = ltb a n && wide ew n b (get_or ew a 0)
+expr_fits widest sw ew n (mul a b) = wide ew n a 36 && wide ew n b 36
 
 -- signal t and expression e are there, and equally wide
 abbrev pub suits : List ℕ → List ℕ → ℕ → ℕ → Bool
 suits sw ew t e = ltb t (length sw) && wide ew (length ew) e (get_or sw t 0)
 
-abbrev pub resetFits : List ℕ → List ℕ → ℕ → Option RegReset → Bool
-resetFits sw ew t none = true
-resetFits sw ew t (some r) = broad sw r.signal 1 && leb r.active 1 && suits sw ew t r.value
+abbrev pub reset_fits : List ℕ → List ℕ → ℕ → Option RegReset → Bool
+reset_fits sw ew t none = true
+reset_fits sw ew t (some r) = broad sw r.signal 1 && leb r.active 1 && suits sw ew t r.value
 
-abbrev pub enableFits : List ℕ → Option RegEnable → Bool
-enableFits sw none = true
-enableFits sw (some e) = broad sw e.signal 1 && leb e.active 1
+abbrev pub enable_fits : List ℕ → Option RegEnable → Bool
+enable_fits sw none = true
+enable_fits sw (some e) = broad sw e.signal 1 && leb e.active 1
 
-abbrev pub stmtFits : List ℕ → List ℕ → Stmt → Bool
-stmtFits sw ew (assign t e) = suits sw ew t e
-stmtFits sw ew (reg t n c d r e) = suits sw ew t n && broad sw c 1 && leb d 1 && resetFits sw ew t r && enableFits sw e
+abbrev pub stmt_fits : List ℕ → List ℕ → Stmt → Bool
+stmt_fits sw ew (assign t e) = suits sw ew t e
+stmt_fits sw ew (reg t n c d r e) = suits sw ew t n && broad sw c 1 && leb d 1 && reset_fits sw ew t r && enable_fits sw e
 
 -- a record that cannot be read is a fault
 abbrev pub fits : {A : Type 0} → (A → Bool) → Option A → Bool
@@ -91,9 +91,9 @@ fits p none = false
 fits p (some a) = p a
 
 -- the first record, counted from n, that fails a test of its number and its fields
-abbrev pub firstFailing : (ℕ → List ℕ → Bool) → ℕ → List (List ℕ) → Option ℕ
-firstFailing p n [] = none
-firstFailing p n (r ∷ rs) = pick (p n r) (firstFailing p (suc n) rs) (some n)
+abbrev pub first_failing : (ℕ → List ℕ → Bool) → ℕ → List (List ℕ) → Option ℕ
+first_failing p n [] = none
+first_failing p n (r ∷ rs) = pick (p n r) (first_failing p (suc n) rs) (some n)
 
 abbrev pub or_else : {A : Type 0} → Option A → Option A → Option A
 or_else (some a) o = some a
@@ -103,26 +103,26 @@ abbrev pub behind : ℕ → Option ℕ → Option ℕ
 behind k none = none
 behind k (some n) = some (k + n)
 
-abbrev pub signalFault : ℕ → Raw → Option ℕ
-signalFault widest c = firstFailing (λ n r. fits (signalFits widest (count_of (drives n) c.stmts)) (readSignal r)) 0 c.signals
+abbrev pub signal_fault : ℕ → Raw → Option ℕ
+signal_fault widest c = first_failing (λ n r. fits (signal_fits widest (count_of (drives n) c.stmts)) (read_signal r)) 0 c.signals
 
-abbrev pub exprFault : ℕ → Raw → Option ℕ
-exprFault widest c = firstFailing (λ n r. fits (exprFits widest (widths c.signals) (widths c.exprs) n) (readExpr r)) 0 c.exprs
+abbrev pub expr_fault : ℕ → Raw → Option ℕ
+expr_fault widest c = first_failing (λ n r. fits (expr_fits widest (widths c.signals) (widths c.exprs) n) (read_expr r)) 0 c.exprs
 
-abbrev pub stmtFault : Raw → Option ℕ
-stmtFault c = firstFailing (λ n r. fits (stmtFits (widths c.signals) (widths c.exprs)) (readStmt r)) 0 c.stmts
+abbrev pub stmt_fault : Raw → Option ℕ
+stmt_fault c = first_failing (λ n r. fits (stmt_fits (widths c.signals) (widths c.exprs)) (read_stmt r)) 0 c.stmts
 
-unfoldable pub firstFault : ℕ → Raw → Option ℕ
-firstFault widest c =
-    or_else (signalFault widest c) (behind (length c.signals) (or_else (exprFault widest c) (behind (length c.exprs) (stmtFault c))))
+unfoldable pub first_fault : ℕ → Raw → Option ℕ
+first_fault widest c =
+    or_else (signal_fault widest c) (behind (length c.signals) (or_else (expr_fault widest c) (behind (length c.exprs) (stmt_fault c))))
 
 -- the first record of three lists that does not stand whole
 abbrev pub unsplit : Cut → Option ℕ → Option ℕ
 unsplit c o = pick c.whole (behind (length c.records) o) (some (length c.records))
 
-abbrev pub unsplitAll : Lists → Option ℕ
-unsplitAll l = unsplit (split l.signals) (unsplit (split l.exprs) (unsplit (split l.stmts) none))
+abbrev pub unsplit_all : Lists → Option ℕ
+unsplit_all l = unsplit (split l.signals) (unsplit (split l.exprs) (unsplit (split l.stmts) none))
 
 -- three lists of words: that they split is checked first
 unfoldable pub malformed : ℕ → Lists → Option ℕ
-malformed widest l = or_else (unsplitAll l) (firstFault widest (rawOf l))
+malformed widest l = or_else (unsplit_all l) (first_fault widest (raw_of l))

@@ -2,8 +2,8 @@
 // is walked.
 ghost use Rattle.std.specs.Prelude.{◌≡◌, ◌+◌, ◌≤◌, min, length, get_or};
 ghost use Rattle.recorder.specs.Read.{split};
-ghost use Rattle.simulation.specs.Index.{size_at, fields_at, recordsIn, widthsIn, offset as sum_to, start_of, clipped, startTable, start_by, offsetTable, offsetBy, stmtsIn, driverOf, driverTable, driverBy, isAssign, assignsTo, noted};
-ghost use Rattle.simulation.specs.Tick.{given, assigns as byAssign};
+ghost use Rattle.simulation.specs.Index.{size_at, fields_at, records_in, widths_in, offset as sum_to, start_of, clipped, start_table, start_by, offset_table, offset_by, stmts_in, driver_of, driver_table, driver_by, is_assign, assigns_to, noted};
+ghost use Rattle.simulation.specs.Tick.{given, assigns as by_assign};
 
 use crate::Driver;
 use crate::zero::zero_words;
@@ -66,7 +66,7 @@ pub struct Counted {
 
 // How many records stand whole from the left, and whether they are the whole list.
 pub fn count(list: &[u32]) -> Counted
-    ensures { (result.count ≡ length (recordsIn list.now)) × (result.whole ≡ (split list.now).whole) }
+    ensures { (result.count ≡ length (records_in list.now)) × (result.whole ≡ (split list.now).whole) }
 {
     let mut at: usize = 0;
     let mut n: usize = 0;
@@ -89,7 +89,7 @@ pub fn count(list: &[u32]) -> Counted
 
 // The sum of the first widths of a list, as far as it can be named.
 pub fn sum_to(list: &[u32], limit: usize) -> usize
-    ensures { result ≡ min (sum_to (widthsIn list.now) limit) 18446744073709551615 }
+    ensures { result ≡ min (sum_to (widths_in list.now) limit) 18446744073709551615 }
 {
     let mut at: usize = 0;
     let mut k: usize = 0;
@@ -153,7 +153,7 @@ pub fn start(list: &[u32], table: &[u32], k: usize) -> usize
 
 // Fills the table with the words at which the first records begin; what it has room for behind them is kept.
 pub fn fill_starts(list: &[u32], table: &mut [u32])
-    ensures { table.new ≡ startTable list.now table.old }
+    ensures { table.new ≡ start_table list.now table.old }
 {
     let mut at: usize = 0;
     let mut k: usize = 0;
@@ -170,7 +170,7 @@ pub fn fill_starts(list: &[u32], table: &mut [u32])
 
 // The sum of the first k widths, from the table, or else from the list.
 pub fn offset(list: &[u32], table: &[u32], k: usize) -> usize
-    ensures { result ≡ offsetBy list.now table.now k }
+    ensures { result ≡ offset_by list.now table.now k }
 {
     let w = entry(table, k);
     if w < 4294967295 {
@@ -181,7 +181,7 @@ pub fn offset(list: &[u32], table: &[u32], k: usize) -> usize
 
 // Fills the table with the first offsets; what it has room for behind them is kept.
 pub fn fill_offsets(list: &[u32], table: &mut [u32])
-    ensures { table.new ≡ offsetTable list.now table.old }
+    ensures { table.new ≡ offset_table list.now table.old }
 {
     let mut at: usize = 0;
     let mut k: usize = 0;
@@ -201,7 +201,7 @@ pub fn fill_offsets(list: &[u32], table: &mut [u32])
 // The statement at an index is an assignment.
 fn is_assign(stmts: &[u32], at: usize, size: usize) -> bool
     requires { at + size ≤ length stmts.now }
-    ensures { result ≡ isAssign (fields_at stmts.now at size) }
+    ensures { result ≡ is_assign (fields_at stmts.now at size) }
 {
     if size != 4 {
         return false;
@@ -212,7 +212,7 @@ fn is_assign(stmts: &[u32], at: usize, size: usize) -> bool
 // It is one on signal s.
 fn assigns(stmts: &[u32], at: usize, size: usize, s: usize) -> bool
     requires { at + size ≤ length stmts.now }
-    ensures { result ≡ assignsTo s (fields_at stmts.now at size) }
+    ensures { result ≡ assigns_to s (fields_at stmts.now at size) }
 {
     if !is_assign(stmts, at, size) {
         return false;
@@ -221,7 +221,7 @@ fn assigns(stmts: &[u32], at: usize, size: usize, s: usize) -> bool
 }
 
 fn walk_driver(stmts: &[u32], s: usize) -> Driver
-    ensures { driverOf result ≡ given byAssign (stmtsIn stmts.now) s }
+    ensures { driver_of result ≡ given by_assign (stmts_in stmts.now) s }
 {
     let mut at: usize = 0;
     while at < stmts.len() {
@@ -239,7 +239,7 @@ fn walk_driver(stmts: &[u32], s: usize) -> Driver
 
 // The expression that is assigned to signal s, from the table, or else from the list.
 pub fn driver(stmts: &[u32], table: &[u32], s: usize) -> Driver
-    ensures { driverOf result ≡ driverBy stmts.now table.now s }
+    ensures { driver_of result ≡ driver_by stmts.now table.now s }
 {
     let w = entry(table, s);
     if w == 0 {
@@ -271,7 +271,7 @@ fn note(stmts: &[u32], at: usize, size: usize, table: &mut [u32])
 
 // Fills the table with what is assigned to the first signals.
 pub fn fill_drivers(stmts: &[u32], table: &mut [u32])
-    ensures { table.new ≡ driverTable stmts.now table.old }
+    ensures { table.new ≡ driver_table stmts.now table.old }
 {
     zero_words(table);
     let mut at: usize = 0;

@@ -8,28 +8,28 @@ use native.Mathlib.Omega.{arith}
 use lib.ListN.{length, length-replicate}
 use Rattle.bits.specs.Bits.{pick}
 use Rattle.netlist.specs.Netlist.{Netlist}
-use Rattle.netlist.specs.Reader.{base, netlist, readWords, Read}
+use Rattle.netlist.specs.Reader.{base, netlist, read_words, Read}
 use Rattle.recorder.specs.declared.Tapes.{Tapes}
 use Rattle.recorder.specs.Record.{Model}
 use Rattle.recorder.specs.Lists.{Lists}
-use Rattle.recorder.specs.Read.{modelOf}
-use Rattle.recorder.specs.Words.{rawOf, blank}
-use Rattle.recorder.proofs.Roundtrip.{model-read}
-use Rattle.lowering.specs.Lower.{Lowered, Accepted, Refused, Lowering, lowered, loweredRead, lowerWords}
+use Rattle.recorder.specs.Read.{model_of}
+use Rattle.recorder.specs.Words.{raw_of, blank}
+use Rattle.recorder.proofs.Roundtrip.{model_read}
+use Rattle.lowering.specs.Lower.{Lowered, Accepted, Refused, Lowering, lowered, lowered_read, lower_words}
 use Rattle.behaviour.specs.Behaviour.{NoWireLoop}
 use Rattle.simulation.specs.Wellformed.{largest, malformed}
-use Rattle.simulation.specs.Run.{zeroed, signalBytes, tickBits}
-use Rattle.simulation.specs.Shown.{ByModel, shownByModel}
+use Rattle.simulation.specs.Run.{zeroed, signal_bytes, tick_bits}
+use Rattle.simulation.specs.Shown.{ByModel, shown_by_model}
 use Rattle.simulation.proofs.Kept.{all_none, short_none}
-use Rattle.forms.specs.Lowered.{loweredModel, Roomy}
-use Rattle.equivalence.specs.Demand.{usedLists, Fresh}
-use Rattle.equivalence.proofs.Acceptance.{accepted-kept, used-words}
-use Rattle.equivalence.proofs.Shows.{zeros-fresh}
-use Rattle.equivalence.proofs.Demanded.{demand3, all-answered}
-use Rattle.converter.specs.Entry.{anyShort}
-use Rattle.runner.specs.Calls.{ListCall, entries, listModel, listCauses, listVerdict, listAnswer, answersOf, outputsOf, filled, listOutcome, runList}
-use Rattle.simulator.specs.Entry.{Simulation, Simulated, ShowsCells, entriesOf, ticksOn, ran, simulateCall}
-use Rattle.simulator.specs.Entry.{lowered as loweredTo}
+use Rattle.forms.specs.Lowered.{lowered_model, Roomy}
+use Rattle.equivalence.specs.Demand.{used_lists, Fresh}
+use Rattle.equivalence.proofs.Acceptance.{accepted_kept, used_words}
+use Rattle.equivalence.proofs.Shows.{zeros_fresh}
+use Rattle.equivalence.proofs.Demanded.{demand3, all_answered}
+use Rattle.converter.specs.Entry.{any_short}
+use Rattle.runner.specs.Calls.{ListCall, entries, list_model, list_causes, list_verdict, list_answer, answers_of, outputs_of, filled, list_outcome, run_list}
+use Rattle.simulator.specs.Entry.{Simulation, Simulated, ShowsCells, entries_of, ticks_on, ran, simulate_call}
+use Rattle.simulator.specs.Entry.{lowered as lowered_to}
 
 abbrev pub IsAccepted : Lowered → Type 0
 IsAccepted (Accepted t) = Unit {0}
@@ -39,15 +39,15 @@ pub room : Roomy base largest
 room = record { ports = omega arith; banks = omega arith; products = omega arith }
 
 -- a list is accepted only if the signal bytes are long enough
-bytes-long : (c : ListCall) → listAnswer largest c ≡ none → signalBytes (listModel c) ≤ length c.bytes
-unfolding listAnswer
-bytes-long c = go (malformed largest c.lists)
+bytes_long : (c : ListCall) → list_answer largest c ≡ none → signal_bytes (list_model c) ≤ length c.bytes
+unfolding list_answer
+bytes_long c = go (malformed largest c.lists)
   where
-    go : (o : Option ℕ) → listVerdict (listModel c) c o ≡ none → signalBytes (listModel c) ≤ length c.bytes
+    go : (o : Option ℕ) → list_verdict (list_model c) c o ≡ none → signal_bytes (list_model c) ≤ length c.bytes
     go (some n) h = absurd (mathlib.Core.Option.some-ne-none (12, n) h)
-    go none h = short_none (signalBytes (listModel c)) c.bytes (all_none (listCauses (listModel c) c) h).0
+    go none h = short_none (signal_bytes (list_model c)) c.bytes (all_none (list_causes (list_model c) c) h).0
 
-module _ (x : Simulation) (n : Netlist) (q : readWords base x.words ≡ netlist n) (loopless : NoWireLoop n) where
+module _ (x : Simulation) (n : Netlist) (q : read_words base x.words ≡ netlist n) (loopless : NoWireLoop n) where
   abbrev s : ℕ
   s = length x.lists.signals
 
@@ -58,55 +58,55 @@ module _ (x : Simulation) (n : Netlist) (q : readWords base x.words ≡ netlist 
   m = length x.lists.stmts
 
   -- lowered, and the list accepted
-  shows : (t : Tapes) (l : Lists) → lowerWords base x.words s e m ≡ record { answer = Accepted t; lists = l } → listAnswer largest (ticksOn x l t) ≡ none
-      → ShowsCells base.wires n x (runList largest (ticksOn x l t)).answers (runList largest (ticksOn x l t)).shown
-  unfolding runList
+  shows : (t : Tapes) (l : Lists) → lower_words base x.words s e m ≡ record { answer = Accepted t; lists = l } → list_answer largest (ticks_on x l t) ≡ none
+      → ShowsCells base.wires n x (run_list largest (ticks_on x l t)).answers (run_list largest (ticks_on x l t)).shown
+  unfolding run_list
   shows t l h a = record {
-    ticks = shownByModel largest (usedLists l t) (loweredModel base.wires n).signals (zeroed x.bytes) (entriesOf base.wires n x);
-    agree = demand3 base.wires base largest room x.words s e m t l h n q loopless (zeroed x.bytes) fresh (entriesOf base.wires n x);
-    answered = all-answered base.wires base largest room x.words s e m t l h n q loopless (zeroed x.bytes) fresh (entriesOf base.wires n x);
-    answers-are = ap (λ (o : Option (ℕ × ℕ)). (listOutcome largest (ticksOn x l t) o).answers) a ∙ ap (λ (M : Model). filled x.answers (answersOf (ticksBy M))) model_is;
-    shown-are = ap (λ (o : Option (ℕ × ℕ)). (listOutcome largest (ticksOn x l t) o).shown) a ∙ ap (λ (M : Model). filled x.shown (outputsOf (ticksBy M))) model_is;
+    ticks = shown_by_model largest (used_lists l t) (lowered_model base.wires n).signals (zeroed x.bytes) (entries_of base.wires n x);
+    agree = demand3 base.wires base largest room x.words s e m t l h n q loopless (zeroed x.bytes) fresh (entries_of base.wires n x);
+    answered = all_answered base.wires base largest room x.words s e m t l h n q loopless (zeroed x.bytes) fresh (entries_of base.wires n x);
+    answers_are = ap (λ (o : Option (ℕ × ℕ)). (list_outcome largest (ticks_on x l t) o).answers) a ∙ ap (λ (M : Model). filled x.answers (answers_of (ticks_by M))) model_is;
+    shown_are = ap (λ (o : Option (ℕ × ℕ)). (list_outcome largest (ticks_on x l t) o).shown) a ∙ ap (λ (M : Model). filled x.shown (outputs_of (ticks_by M))) model_is;
   }
     where
       low : lowered base.wires n s e m ≡ record { answer = Accepted t; lists = l }
-      low = ap (λ (r : Read). loweredRead base.wires r s e m) (sym q) ∙ h
+      low = ap (λ (r : Read). lowered_read base.wires r s e m) (sym q) ∙ h
 
-      model_is : listModel (ticksOn x l t) ≡ loweredModel base.wires n
-      model_is = ap (λ (w : Lists). modelOf (rawOf w)) (used-words base.wires n s e m t l (accepted-kept base.wires n s e m t l low)) ∙ model-read (loweredModel base.wires n)
+      model_is : list_model (ticks_on x l t) ≡ lowered_model base.wires n
+      model_is = ap (λ (w : Lists). model_of (raw_of w)) (used_words base.wires n s e m t l (accepted_kept base.wires n s e m t l low)) ∙ model_read (lowered_model base.wires n)
 
       -- a model's signals and inputs are what the ticks are read and shown by
-      ticksBy : Model → List ByModel
-      ticksBy M = shownByModel largest (usedLists l t) M.signals (zeroed x.bytes) (entries (tickBits M) x.workBits x.workExprs x.workSignals x.heads x.bits)
+      ticks_by : Model → List ByModel
+      ticks_by M = shown_by_model largest (used_lists l t) M.signals (zeroed x.bytes) (entries (tick_bits M) x.work_bits x.work_exprs x.work_signals x.heads x.bits)
 
-      long : signalBytes (loweredModel base.wires n) ≤ length x.bytes
-      long = let b = bytes-long (ticksOn x l t) a in let k = ap signalBytes model_is in let z = length-replicate {A = ℕ} (length x.bytes) 0 in omega (arith, b, k, z)
+      long : signal_bytes (lowered_model base.wires n) ≤ length x.bytes
+      long = let b = bytes_long (ticks_on x l t) a in let k = ap signal_bytes model_is in let z = length-replicate {A = ℕ} (length x.bytes) 0 in omega (arith, b, k, z)
 
-      fresh : Fresh (signalBytes (loweredModel base.wires n)) (zeroed x.bytes)
-      fresh = zeros-fresh (signalBytes (loweredModel base.wires n)) (length x.bytes) long
+      fresh : Fresh (signal_bytes (lowered_model base.wires n)) (zeroed x.bytes)
+      fresh = zeros_fresh (signal_bytes (lowered_model base.wires n)) (length x.bytes) long
 
   abbrev Shown : Simulated → Type 0
   Shown r = IsAccepted r.answer → ShowsCells base.wires n x r.answers r.shown
 
-  by_answer : (t : Tapes) (l : Lists) → lowerWords base x.words s e m ≡ record { answer = Accepted t; lists = l } → Shown (ran x l t (runList largest (ticksOn x l t)).answer (runList largest (ticksOn x l t)))
-  unfolding runList
-  by_answer t l h = go (listAnswer largest (ticksOn x l t)) refl
+  by_answer : (t : Tapes) (l : Lists) → lower_words base x.words s e m ≡ record { answer = Accepted t; lists = l } → Shown (ran x l t (run_list largest (ticks_on x l t)).answer (run_list largest (ticks_on x l t)))
+  unfolding run_list
+  by_answer t l h = go (list_answer largest (ticks_on x l t)) refl
     where
-      go : (o : Option (ℕ × ℕ)) → listAnswer largest (ticksOn x l t) ≡ o → Shown (ran x l t (listOutcome largest (ticksOn x l t) o).answer (listOutcome largest (ticksOn x l t) o))
+      go : (o : Option (ℕ × ℕ)) → list_answer largest (ticks_on x l t) ≡ o → Shown (ran x l t (list_outcome largest (ticks_on x l t) o).answer (list_outcome largest (ticks_on x l t) o))
       go (some r) a y = absurd y
-      go none a y = subst (λ (o : Option (ℕ × ℕ)). ShowsCells base.wires n x (listOutcome largest (ticksOn x l t) o).answers (listOutcome largest (ticksOn x l t) o).shown) a (shows t l h a)
+      go none a y = subst (λ (o : Option (ℕ × ℕ)). ShowsCells base.wires n x (list_outcome largest (ticks_on x l t) o).answers (list_outcome largest (ticks_on x l t) o).shown) a (shows t l h a)
 
-  by-lowering : (r : Lowering) → lowerWords base x.words s e m ≡ r → Shown (loweredTo x r.lists r.answer)
-  by-lowering r h = go r.answer r.lists h
+  by_lowering : (r : Lowering) → lower_words base x.words s e m ≡ r → Shown (lowered_to x r.lists r.answer)
+  by_lowering r h = go r.answer r.lists h
     where
-      go : (a : Lowered) (l : Lists) → lowerWords base x.words s e m ≡ record { answer = a; lists = l } → Shown (loweredTo x l a)
+      go : (a : Lowered) (l : Lists) → lower_words base x.words s e m ≡ record { answer = a; lists = l } → Shown (lowered_to x l a)
       go (Refused number place) l k y = absurd y
       go (Accepted t) l k y = by_answer t l k y
 
-  pub cells-shown : Shown (simulateCall base x)
-  unfolding simulateCall
-  cells-shown = go (anyShort (map length x.works))
+  pub cells_shown : Shown (simulate_call base x)
+  unfolding simulate_call
+  cells_shown = go (any_short (map length x.works))
     where
-      go : (b : Bool) → Shown (loweredTo x (pick b (record { answer = Refused 1 16384; lists = blank s e m }) (lowerWords base x.words s e m)).lists (pick b (record { answer = Refused 1 16384; lists = blank s e m }) (lowerWords base x.words s e m)).answer)
+      go : (b : Bool) → Shown (lowered_to x (pick b (record { answer = Refused 1 16384; lists = blank s e m }) (lower_words base x.words s e m)).lists (pick b (record { answer = Refused 1 16384; lists = blank s e m }) (lower_words base x.words s e m)).answer)
       go true y = absurd y
-      go false y = by-lowering (lowerWords base x.words s e m) refl y
+      go false y = by_lowering (lower_words base x.words s e m) refl y

@@ -6,9 +6,9 @@ ghost use Rattle.std.specs.Prelude.{[], ◌∷◌};
 ghost use Rattle.netlist.specs.Reader.{base};
 ghost use Rattle.recorder.specs.Lists.{lists};
 ghost use Rattle.runner.specs.Calls.{RunsList};
-ghost use Rattle.runner.specs.Whole.{listCall};
+ghost use Rattle.runner.specs.Whole.{list_call};
 ghost use Rattle.converter.specs.Entry.{ZerosThree};
-ghost use Rattle.simulator.specs.Entry.{simulation, Simulates, Zeroed, StaysZero, Cut, onUsed, Concludes, RunsAccepted, RunsLowered};
+ghost use Rattle.simulator.specs.Entry.{simulation, Simulates, Zeroed, StaysZero, Cut, on_used, Concludes, RunsAccepted, RunsLowered};
 
 use converter::{Lowered, lower};
 use recorder::Tapes;
@@ -44,7 +44,7 @@ fn run_used(
     answers: &mut [u64],
     shown: &mut [u8],
 ) -> Ran
-    ensures runs { RunsList (onUsed (listCall (lists signals.now exprs.now stmts.now) heads.now bits.now bytes.old work_bits.old work_exprs.old work_signals.old answers.old shown.old) tapes) result bytes.new answers.new shown.new }
+    ensures runs { RunsList (on_used (list_call (lists signals.now exprs.now stmts.now) heads.now bits.now bytes.old work_bits.old work_exprs.old work_signals.old answers.old shown.old) tapes) result bytes.new answers.new shown.new }
     ensures works { Zeroed (work_bits.old ∷ work_exprs.old ∷ work_signals.old ∷ []) (work_bits.new ∷ work_exprs.new ∷ work_signals.new ∷ []) }
     ensures tables { Zeroed (starts.old ∷ expr_table.old ∷ signal_table.old ∷ driver_table.old ∷ order.old ∷ []) (starts.new ∷ expr_table.new ∷ signal_table.new ∷ driver_table.new ∷ order.new ∷ []) }
 {
@@ -121,7 +121,7 @@ fn run_accepted(
     answers: &mut [u64],
     shown: &mut [u8],
 ) -> Lowered
-    ensures runs { RunsAccepted (listCall (lists signals.old exprs.old stmts.old) heads.now bits.now bytes.old work_bits.old work_exprs.old work_signals.old answers.old shown.old) tapes result (lists signals.new exprs.new stmts.new) answers.new shown.new }
+    ensures runs { RunsAccepted (list_call (lists signals.old exprs.old stmts.old) heads.now bits.now bytes.old work_bits.old work_exprs.old work_signals.old answers.old shown.old) tapes result (lists signals.new exprs.new stmts.new) answers.new shown.new }
     ensures works { Zeroed (work_bits.old ∷ work_exprs.old ∷ work_signals.old ∷ []) (work_bits.new ∷ work_exprs.new ∷ work_signals.new ∷ []) }
     ensures tables { Zeroed (starts.old ∷ expr_table.old ∷ signal_table.old ∷ driver_table.old ∷ order.old ∷ []) (starts.new ∷ expr_table.new ∷ signal_table.new ∷ driver_table.new ∷ order.new ∷ []) }
 {
@@ -184,7 +184,7 @@ fn run_lowered(
     answers: &mut [u64],
     shown: &mut [u8],
 ) -> Lowered
-    ensures runs { RunsLowered (listCall (lists signals.old exprs.old stmts.old) heads.now bits.now bytes.old work_bits.old work_exprs.old work_signals.old answers.old shown.old) lowered result (lists signals.new exprs.new stmts.new) answers.new shown.new }
+    ensures runs { RunsLowered (list_call (lists signals.old exprs.old stmts.old) heads.now bits.now bytes.old work_bits.old work_exprs.old work_signals.old answers.old shown.old) lowered result (lists signals.new exprs.new stmts.new) answers.new shown.new }
     ensures works { Zeroed (work_bits.old ∷ work_exprs.old ∷ work_signals.old ∷ []) (work_bits.new ∷ work_exprs.new ∷ work_signals.new ∷ []) }
     ensures tables { StaysZero (starts.old ∷ expr_table.old ∷ signal_table.old ∷ driver_table.old ∷ order.old ∷ []) (starts.new ∷ expr_table.new ∷ signal_table.new ∷ driver_table.new ∷ order.new ∷ []) }
 {

@@ -15,12 +15,12 @@ unfoldable pub end_in : ℕ → ℕ → ℕ → Option ℕ
 end_in len at n = cond (leb (at + n) len) (some (at + n)) none
 
 -- the buffer behind it; `sets` passes over what lies past the end
-unfoldable pub textIn : List ℕ → ℕ → List ℕ → List ℕ
-textIn out at bytes = sets out at bytes
+unfoldable pub text_in : List ℕ → ℕ → List ℕ → List ℕ
+text_in out at bytes = sets out at bytes
 
 pub record Appended (out : List ℕ) (at : ℕ) (bytes : List ℕ) (r : Place) (out' : List ℕ) : Type 0 where
   pub said : end_of r ≡ end_in (length out) at (length bytes)
-  pub held : out' ≡ textIn out at bytes
+  pub held : out' ≡ text_in out at bytes
 
 -- the bytes before a place were handed to the outside, which took them all or not. None are where the place lies past the end
 pub record Flushed (out : List ℕ) (at : ℕ) (r : Bool) : Type 0 where

@@ -6,18 +6,18 @@ use Rattle.recorder.specs.declared.Tapes.{Tapes}
 use Rattle.recorder.specs.Writer.{Writer}
 use Rattle.recorder.specs.Lists.{Lists, lists, Answer, Answer.Done, Answer.Failed, Wrote}
 use Rattle.recorder.specs.Words.{zeroed}
-use Rattle.wires.specs.Seen.{Seen, Reading, withSeen}
+use Rattle.wires.specs.Seen.{Seen, Reading, with_seen}
 
 -- a word of the table is an expression's number plus 1, or 0; of this cell are those above the number of its first expression
-unfoldable pub seenBy : ℕ → ℕ → Option ℕ
-seenBy first x = pick (leb x first) none (some (x - 1))
+unfoldable pub seen_by : ℕ → ℕ → Option ℕ
+seen_by first x = pick (leb x first) none (some (x - 1))
 
-unfoldable pub seenOf : ℕ → List ℕ → Seen
-seenOf first [] = []
-seenOf first (x ∷ xs) = seenBy first x ∷ seenOf first xs
+unfoldable pub seen_of : ℕ → List ℕ → Seen
+seen_of first [] = []
+seen_of first (x ∷ xs) = seen_by first x ∷ seen_of first xs
 
 abbrev pub joined : {A : Type 0} → Answer A → Seen → Answer (Reading A)
-joined (Done a t) seen = Done (withSeen a seen) t
+joined (Done a t) seen = Done (with_seen a seen) t
 joined (Failed number place) seen = Failed number place
 
 -- a word of the table is the old one, or of this cell
@@ -30,7 +30,7 @@ Leaves first table (Failed number place) table' = Unit {0}
 
 -- A call wrote w from the tapes t on, and what it read is in the table, where nothing else has changed.
 pub record Once {A : Type 0} (l : Lists) (t : Tapes) (first : ℕ) (table : List ℕ) (w : Writer (Reading A)) (r : Answer A) (l' : Lists) (table' : List ℕ) : Type 0 where
-  pub wrote : Wrote l t w (joined r (seenOf first table')) l'
+  pub wrote : Wrote l t w (joined r (seen_of first table')) l'
   pub leaves : Leaves first table r table'
 
 -- the number of the cell's first expression, or of the next one if there are not so many yet
@@ -40,17 +40,17 @@ begun first t = min first t.exprs.count
 -- of a call that was lent expressions, or expressions and statements: whatever the other lists hold. What it writes depends on what the
 -- table says has been read
 abbrev pub OnceAt : {A : Type 0} → List ℕ → Tapes → ℕ → List ℕ → (Seen → Writer (Reading A)) → Answer A → List ℕ → List ℕ → Type 0
-OnceAt e t f table w r e' table' = (s m : List ℕ) → Once (lists s e m) t f table (w (seenOf f table)) r (lists s e' m) table'
+OnceAt e t f table w r e' table' = (s m : List ℕ) → Once (lists s e m) t f table (w (seen_of f table)) r (lists s e' m) table'
 
 abbrev pub OnceExprs : {A : Type 0} → List ℕ → Tapes → ℕ → List ℕ → (Seen → Writer (Reading A)) → Answer A → List ℕ → List ℕ → Type 0
 OnceExprs e t first table w r e' table' = (f : ℕ) → f ≡ begun first t → OnceAt e t f table w r e' table'
 
 abbrev pub OnceBoth : {A : Type 0} → List ℕ → List ℕ → Tapes → ℕ → List ℕ → (Seen → Writer (Reading A)) → Answer A → List ℕ → List ℕ → List ℕ → Type 0
-OnceBoth e m t first table w r e' m' table' = (f : ℕ) → f ≡ begun first t → (s : List ℕ) → Once (lists s e m) t f table (w (seenOf f table)) r (lists s e' m') table'
+OnceBoth e m t first table w r e' m' table' = (f : ℕ) → f ≡ begun first t → (s : List ℕ) → Once (lists s e m) t f table (w (seen_of f table)) r (lists s e' m') table'
 
 -- of one that was lent all lists
 abbrev pub OnceAll : {A : Type 0} → Lists → Tapes → ℕ → List ℕ → (Seen → Writer (Reading A)) → Answer A → Lists → List ℕ → Type 0
-OnceAll l t first table w r l' table' = (f : ℕ) → f ≡ begun first t → Once l t f table (w (seenOf f table)) r l' table'
+OnceAll l t first table w r l' table' = (f : ℕ) → f ≡ begun first t → Once l t f table (w (seen_of f table)) r l' table'
 
 -- a call adds expressions, and takes none away
 abbrev pub Grows : {A : Type 0} → Tapes → Answer A → Type 0

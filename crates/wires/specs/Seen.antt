@@ -9,8 +9,8 @@ abbrev pub Seen : Type 0
 Seen = List (Option ℕ)
 
 -- a cell begins; it shares its reads of so many wires
-unfoldable pub nothingSeen : ℕ → Seen
-nothingSeen wires = replicate wires none
+unfoldable pub nothing_seen : ℕ → Seen
+nothing_seen wires = replicate wires none
 
 -- the expression that reads wire w already
 unfoldable pub standing : Seen → ℕ → Option ℕ
@@ -25,12 +25,12 @@ pub record Reading (A : Type 0) : Type 0 where
   pub value : A
   pub seen : Seen
 
-abbrev pub withSeen : {A : Type 0} → A → Seen → Reading A
-withSeen a seen = record { value = a; seen = seen }
+abbrev pub with_seen : {A : Type 0} → A → Seen → Reading A
+with_seen a seen = record { value = a; seen = seen }
 
 -- a step that reads nothing
 abbrev pub keeping : {A : Type 0} → Seen → Writer A → Writer (Reading A)
-keeping seen w = w >>= λ a. pure (withSeen a seen)
+keeping seen w = w >>= λ a. pure (with_seen a seen)
 
 -- the last step: what has been read is forgotten
 abbrev pub forgetting : {A : Type 0} → Writer (Reading A) → Writer A

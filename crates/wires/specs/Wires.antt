@@ -14,8 +14,8 @@ pub record WireRef : Type 0 where
 abbrev pub Wires : Type 0
 Wires = ℕ → Option WireRef
 
-abbrev pub noWires : Wires
-noWires w = none
+abbrev pub no_wires : Wires
+no_wires w = none
 
 abbrev pub put : Wires → ℕ → WireRef → Wires
 put m w r v = pick (eqb v w) (some r) (m v)
@@ -25,10 +25,10 @@ abbrev pub entry : ℕ → ℕ → Option WireRef
 entry zero p = none
 entry (suc s) p = some (record { signal = s; lsb = p / 65536; width = p % 65536 })
 
-unfoldable pub wiresOf : List ℕ → List ℕ → Wires
-wiresOf wires places w = entry (get_or wires w 0) (get_or places w 0)
+unfoldable pub wires_of : List ℕ → List ℕ → Wires
+wires_of wires places w = entry (get_or wires w 0) (get_or places w 0)
 
 -- what the code finds
-abbrev pub foundOf : Found → Option WireRef
-foundOf (At r) = some (record { signal = r.signal.0; lsb = r.lsb; width = r.width })
-foundOf Missing = none
+abbrev pub found_of : Found → Option WireRef
+found_of (At r) = some (record { signal = r.signal.0; lsb = r.lsb; width = r.width })
+found_of Missing = none

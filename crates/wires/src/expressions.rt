@@ -4,8 +4,8 @@ ghost use Rattle.netlist.specs.Fields.{bits_at};
 ghost use Rattle.recorder.specs.Writer.{End.ok, End.no};
 ghost use Rattle.recorder.specs.Lists.{WroteExprs, WroteStmts, emitted, stated};
 ghost use Rattle.recorder.specs.Words.{zeroed};
-ghost use Rattle.wires.specs.Wires.{wiresOf};
-ghost use Rattle.wires.specs.Expressions.{bitExpression, bitSignal, assertedExpression, assignWire, concatParts, vectorBit, vectorExpression, roomy, Reads, whole, controlled};
+ghost use Rattle.wires.specs.Wires.{wires_of};
+ghost use Rattle.wires.specs.Expressions.{bit_expression, bit_signal, asserted_expression, assign_wire, concat_parts, vector_bit, vector_expression, roomy, Reads, whole, controlled};
 
 use crate::map::wire_ref;
 use crate::once::bits_once;
@@ -23,7 +23,7 @@ pub fn bit_expression(
     t: Tapes,
     bit: Bit,
 ) -> Emitted
-    ensures { WroteExprs exprs.old t (bitExpression (wiresOf wires.now places.now) bit) (emitted result) exprs.new }
+    ensures { WroteExprs exprs.old t (bit_expression (wires_of wires.now places.now) bit) (emitted result) exprs.new }
 {
     match bit {
         Bit::Zero => Emitted::Done(ExprId::ZERO, t),
@@ -50,7 +50,7 @@ fn scalar(r: WireRef, wire: u32) -> Controlled
 
 // The signal of a control, which must be a whole signal of one bit.
 pub fn bit_signal(wires: &[u32], places: &[u32], constants: Constants, bit: Bit) -> Controlled
-    ensures { Reads (bitSignal (wiresOf wires.now places.now) constants bit) result }
+    ensures { Reads (bit_signal (wires_of wires.now places.now) constants bit) result }
 {
     let zero = constants.zero;
     let one = constants.one;
@@ -71,7 +71,7 @@ pub fn asserted_expression(
     t: Tapes,
     control: Control,
 ) -> Emitted
-    ensures { WroteExprs exprs.old t (assertedExpression (wiresOf wires.now places.now) control) (emitted result) exprs.new }
+    ensures { WroteExprs exprs.old t (asserted_expression (wires_of wires.now places.now) control) (emitted result) exprs.new }
 {
     let bit = control.signal;
     let r = bit_expression(exprs, wires, places, t, bit);
@@ -93,7 +93,7 @@ pub fn assign_wire(
     wire: u32,
     value: ExprId,
 ) -> Stated
-    ensures { WroteStmts stmts.old t (assignWire (wiresOf wires.now places.now) wire value.0) (stated result) stmts.new }
+    ensures { WroteStmts stmts.old t (assign_wire (wires_of wires.now places.now) wire value.0) (stated result) stmts.new }
 {
     match wire_ref(wires, places, wire) {
         Found::At(r) => builder::assign(stmts, t, r.signal, value),
@@ -103,7 +103,7 @@ pub fn assign_wire(
 
 // A concat of the first parts, the highest first; one stands for itself.
 pub fn concat_parts(exprs: &mut [u32], t: Tapes, parts: &[u32], n: u32) -> Emitted
-    ensures { WroteExprs exprs.old t (roomy n parts.now (concatParts (take n parts.now))) (emitted result) exprs.new }
+    ensures { WroteExprs exprs.old t (roomy n parts.now (concat_parts (take n parts.now))) (emitted result) exprs.new }
 {
     let end = wide(n);
     if parts.len() < end {
@@ -127,7 +127,7 @@ pub fn bits_expression(
     n: usize,
     width: u32,
 ) -> Emitted
-    ensures wrote { WroteExprs exprs.old t (roomy width parts.old (vectorExpression (wiresOf wires.now places.now) (bits_at words.now at n) 0 width)) (emitted result) exprs.new }
+    ensures wrote { WroteExprs exprs.old t (roomy width parts.old (vector_expression (wires_of wires.now places.now) (bits_at words.now at n) 0 width)) (emitted result) exprs.new }
     ensures work { parts.new ≡ zeroed parts.old }
 {
     let mut seen = [0u32; 0];

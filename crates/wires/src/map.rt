@@ -1,5 +1,5 @@
 ghost use Rattle.std.specs.Prelude.{◌≡◌};
-ghost use Rattle.wires.specs.Wires.{wiresOf, foundOf};
+ghost use Rattle.wires.specs.Wires.{wires_of, found_of};
 
 use crate::{Found, WireRef};
 use netlist::fields::{wide, word};
@@ -7,7 +7,7 @@ use recorder::SignalId;
 
 // What the tables hold for a wire.
 pub fn wire_ref(wires: &[u32], places: &[u32], wire: u32) -> Found
-    ensures { foundOf result ≡ wiresOf wires.now places.now wire }
+    ensures { found_of result ≡ wires_of wires.now places.now wire }
 {
     let i = wide(wire);
     let s = word(wires, i);

@@ -7,9 +7,9 @@ ghost use Rattle.std.proofs.Math.ListN.{set};
 ghost use Rattle.netlist.specs.Fields.{bits_at};
 ghost use Rattle.recorder.specs.Lists.{WroteExprs, emitted, stated};
 ghost use Rattle.recorder.specs.Words.{zeroed};
-ghost use Rattle.wires.specs.Wires.{wiresOf};
+ghost use Rattle.wires.specs.Wires.{wires_of};
 ghost use Rattle.wires.specs.Once.{begun, OnceAt, OnceExprs, swept, Cleared, Grows};
-ghost use Rattle.wires.specs.Expressions.{bitOnce, levelled, assertedOnce, vectorBit, vectorOnce, roomy};
+ghost use Rattle.wires.specs.Expressions.{bit_once, levelled, asserted_once, vector_bit, vector_once, roomy};
 
 use crate::expressions::{bit_expression, concat_parts};
 use netlist::fields::{bit_at, wide, word};
@@ -48,7 +48,7 @@ fn wire_once(
     first: u32,
     wire: u32,
 ) -> Emitted
-    ensures wrote { OnceExprs exprs.old t first seen.old (λ s. bitOnce (wiresOf wires.now places.now) s (Bit.Wire wire)) (emitted result) exprs.new seen.new }
+    ensures wrote { OnceExprs exprs.old t first seen.old (λ s. bit_once (wires_of wires.now places.now) s (Bit.Wire wire)) (emitted result) exprs.new seen.new }
     ensures refused { Cleared (emitted result) seen.old seen.new }
     ensures grows { Grows t (emitted result) }
 {
@@ -74,7 +74,7 @@ pub fn bit_once(
     first: u32,
     bit: Bit,
 ) -> Emitted
-    ensures wrote { OnceExprs exprs.old t first seen.old (λ s. bitOnce (wiresOf wires.now places.now) s bit) (emitted result) exprs.new seen.new }
+    ensures wrote { OnceExprs exprs.old t first seen.old (λ s. bit_once (wires_of wires.now places.now) s bit) (emitted result) exprs.new seen.new }
     ensures refused { Cleared (emitted result) seen.old seen.new }
     ensures grows { Grows t (emitted result) }
 {
@@ -123,7 +123,7 @@ pub fn asserted_once(
     first: u32,
     control: Control,
 ) -> Emitted
-    ensures wrote { OnceExprs exprs.old t first seen.old (λ s. assertedOnce (wiresOf wires.now places.now) s control) (emitted result) exprs.new seen.new }
+    ensures wrote { OnceExprs exprs.old t first seen.old (λ s. asserted_once (wires_of wires.now places.now) s control) (emitted result) exprs.new seen.new }
     ensures refused { Cleared (emitted result) seen.old seen.new }
     ensures grows { Grows t (emitted result) }
 {
@@ -139,7 +139,7 @@ pub fn asserted_once(
 
 // Bit i of n bits that stand from an index on; zeros behind them.
 fn vector_bit(words: &[u32], at: usize, n: usize, i: usize) -> Bit
-    ensures { result ≡ vectorBit (bits_at words.now at n) i }
+    ensures { result ≡ vector_bit (bits_at words.now at n) i }
 {
     if i < n {
         return bit_at(words, at, i);
@@ -162,7 +162,7 @@ fn vector_once(
     width: u32,
 ) -> Emitted
     requires { first ≤ t.exprs.count }
-    ensures wrote { OnceAt exprs.old t first seen.old (λ s. roomy width parts.old (vectorOnce (wiresOf wires.now places.now) s (bits_at words.now at n) 0 width)) (emitted result) exprs.new seen.new }
+    ensures wrote { OnceAt exprs.old t first seen.old (λ s. roomy width parts.old (vector_once (wires_of wires.now places.now) s (bits_at words.now at n) 0 width)) (emitted result) exprs.new seen.new }
     ensures grows { Grows t (emitted result) }
 {
     let end = wide(width);
@@ -198,7 +198,7 @@ pub fn bits_once(
     n: usize,
     width: u32,
 ) -> Emitted
-    ensures wrote { OnceExprs exprs.old t first seen.old (λ s. roomy width parts.old (vectorOnce (wiresOf wires.now places.now) s (bits_at words.now at n) 0 width)) (emitted result) exprs.new seen.new }
+    ensures wrote { OnceExprs exprs.old t first seen.old (λ s. roomy width parts.old (vector_once (wires_of wires.now places.now) s (bits_at words.now at n) 0 width)) (emitted result) exprs.new seen.new }
     ensures work { parts.new ≡ zeroed parts.old }
     ensures refused { Cleared (emitted result) seen.old seen.new }
     ensures grows { Grows t (emitted result) }

@@ -9,21 +9,21 @@ use lib.Seq.{take-suc, drop-cons, append_snoc, set_at, drop_at, length-take-le, 
 use Rattle.std.specs.declared.option.Option.{Option}
 use Rattle.std.specs.Io.KnownBytes.{Consumes}
 use Rattle.std.proofs.KnownBytes.{Consumes-nil}
-use Rattle.words.specs.Words.{leWord, words_of, Laid, ReadWords}
+use Rattle.words.specs.Words.{le_word, words_of, Laid, ReadWords}
 
-pub words-length : (bytes : List ℕ) → length (words_of bytes) ≡ length bytes / 4
+pub words_length : (bytes : List ℕ) → length (words_of bytes) ≡ length bytes / 4
 unfolding words_of
-words-length [] = refl
-words-length (a ∷ []) = refl
-words-length (a ∷ b ∷ []) = refl
-words-length (a ∷ b ∷ c ∷ []) = refl
-words-length (a ∷ b ∷ c ∷ d ∷ bytes) =
-    let h : length (words_of bytes) ≡ length bytes / 4 = words-length bytes in
+words_length [] = refl
+words_length (a ∷ []) = refl
+words_length (a ∷ b ∷ []) = refl
+words_length (a ∷ b ∷ c ∷ []) = refl
+words_length (a ∷ b ∷ c ∷ d ∷ bytes) =
+    let h : length (words_of bytes) ≡ length bytes / 4 = words_length bytes in
     omega (arith, h)
 
 -- the word at an index
 pub word_at : (bytes : List ℕ) (k : ℕ) → k < length bytes / 4
-    → leWord (get_or bytes (4 * k) 0) (get_or bytes (4 * k + 1) 0) (get_or bytes (4 * k + 2) 0) (get_or bytes (4 * k + 3) 0) ≡ get_or (words_of bytes) k 0
+    → le_word (get_or bytes (4 * k) 0) (get_or bytes (4 * k + 1) 0) (get_or bytes (4 * k + 2) 0) (get_or bytes (4 * k + 3) 0) ≡ get_or (words_of bytes) k 0
 unfolding words_of
 word_at [] k h = absurd (omega (arith, h))
 word_at (a ∷ []) k h = absurd (omega (arith, h))
@@ -39,9 +39,9 @@ word_at (a ∷ b ∷ c ∷ d ∷ bytes) (suc k) h =
     rw (e₀, e₁, e₂, e₃) (word_at bytes k (omega (arith, h)))
 
 -- one more word is laid
-pub laid-step : (ws out : List ℕ) (k : ℕ) → k < length ws → k < length out
+pub laid_step : (ws out : List ℕ) (k : ℕ) → k < length ws → k < length out
     → set (take k ws ++ drop k out) k (get_or ws k 0) ≡ take (k + 1) ws ++ drop (k + 1) out
-laid-step ws out k h g =
+laid_step ws out k h g =
     let e : k + 1 ≡ suc k = omega arith in
     ap (λ (r : List ℕ). set (take k ws ++ r) k (get_or ws k 0)) (drop-cons out k 0 g)
     ∙ set_at (take k ws) (get_or out k 0) (drop (suc k) out) (get_or ws k 0) k (length-take-le k ws (omega arith))
@@ -50,17 +50,17 @@ laid-step ws out k h g =
     ∙ sym (ap (λ (i : ℕ). take i ws ++ drop i out) e)
 
 pub laid_more : (bytes out₀ out : List ℕ) (k v : ℕ) → k < length bytes / 4 → k < length out → length out ≡ length out₀
-    → v ≡ leWord (get_or bytes (4 * k) 0) (get_or bytes (4 * k + 1) 0) (get_or bytes (4 * k + 2) 0) (get_or bytes (4 * k + 3) 0)
+    → v ≡ le_word (get_or bytes (4 * k) 0) (get_or bytes (4 * k + 1) 0) (get_or bytes (4 * k + 2) 0) (get_or bytes (4 * k + 3) 0)
     → out ≡ take k (words_of bytes) ++ drop k out₀ → set out k v ≡ take (k + 1) (words_of bytes) ++ drop (k + 1) out₀
 laid_more bytes out₀ out k v h g l e q =
-    let n : length (words_of bytes) ≡ length bytes / 4 = words-length bytes in
+    let n : length (words_of bytes) ≡ length bytes / 4 = words_length bytes in
     ap (λ (x : ℕ). set out k x) (e ∙ word_at bytes k h)
     ∙ ap (λ (r : List ℕ). set r k (get_or (words_of bytes) k 0)) q
-    ∙ laid-step (words_of bytes) out₀ k (omega (arith, h, n)) (omega (arith, g, l))
+    ∙ laid_step (words_of bytes) out₀ k (omega (arith, h, n)) (omega (arith, g, l))
 
 -- no word is left, or no room
 pub laid_end : (bytes out₀ out : List ℕ) (k : ℕ) → k ≡ min (length bytes / 4) (length out₀) → out ≡ take k (words_of bytes) ++ drop k out₀ → Laid bytes out₀ k out
-laid_end bytes out₀ out k e q = record { count = e ∙ ap (λ (n : ℕ). min n (length out₀)) (sym (words-length bytes)); words = q }
+laid_end bytes out₀ out k e q = record { count = e ∙ ap (λ (n : ℕ). min n (length out₀)) (sym (words_length bytes)); words = q }
 
 -- READING
 
@@ -87,7 +87,7 @@ read_some bytes front out n came left left' room l most taken laid =
     }
 
 -- no more than the room for n words
-pub never-more : (bytes front : List ℕ) (n came : ℕ) → n ≤ length bytes / 4 → length front ≡ length (take (4 * n) bytes) → came ≤ length front → 4 * n < came → ⊥
-never-more bytes front n came room l most h =
+pub never_more : (bytes front : List ℕ) (n came : ℕ) → n ≤ length bytes / 4 → length front ≡ length (take (4 * n) bytes) → came ≤ length front → 4 * n < came → ⊥
+never_more bytes front n came room l most h =
     let e : length (take (4 * n) bytes) ≡ 4 * n = length-take-le (4 * n) bytes (omega (arith, room)) in
     omega (arith, l, e, most, h)

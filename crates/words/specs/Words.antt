@@ -3,8 +3,8 @@ use Rattle.std.specs.Prelude.{◌≡◌, List, [], ◌∷◌, ◌++◌, ℕ, ◌
 use Rattle.std.specs.Io.KnownBytes.{Consumes}
 
 -- four bytes, the lowest first
-abbrev pub leWord : ℕ → ℕ → ℕ → ℕ → ℕ
-leWord a b c d = a + 256 * b + 65536 * c + 16777216 * d
+abbrev pub le_word : ℕ → ℕ → ℕ → ℕ → ℕ
+le_word a b c d = a + 256 * b + 65536 * c + 16777216 * d
 
 -- bytes that are left over make no word
 unfoldable pub words_of : List ℕ → List ℕ
@@ -12,7 +12,7 @@ words_of [] = []
 words_of (a ∷ []) = []
 words_of (a ∷ b ∷ []) = []
 words_of (a ∷ b ∷ c ∷ []) = []
-words_of (a ∷ b ∷ c ∷ d ∷ bytes) = leWord a b c d ∷ words_of bytes
+words_of (a ∷ b ∷ c ∷ d ∷ bytes) = le_word a b c d ∷ words_of bytes
 
 -- r words of the bytes stand at the start of out', all that there are or that find room; the rest is out's
 pub record Laid (bytes out : List ℕ) (r : ℕ) (out' : List ℕ) : Type 0 where

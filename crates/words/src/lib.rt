@@ -5,12 +5,12 @@
 ghost use Rattle.std.specs.Prelude.{◌≡◌, take};
 ghost use Rattle.std.specs.Io.KnownBytes.{Consumes};
 ghost use Rattle.std.specs.Counts.{IsPrefixLen};
-ghost use Rattle.words.specs.Words.{leWord, Laid, ReadWords};
+ghost use Rattle.words.specs.Words.{le_word, Laid, ReadWords};
 
 use std::io::Read;
 
 fn le_word(a: u8, b: u8, c: u8, d: u8) -> u32
-    ensures { result ≡ leWord a b c d }
+    ensures { result ≡ le_word a b c d }
 {
     (a as u32) + 256 * (b as u32) + 65536 * (c as u32) + 16777216 * (d as u32)
 }

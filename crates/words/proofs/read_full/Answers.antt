@@ -11,8 +11,8 @@ take_split a b old new h front =
     let same : a + (b - a) ≡ b = omega arith in
     ap (λ l. l ++ slice_range new a b) (sym front) ∙ sym (take-add a (b - a) new) ∙ ap (λ n. take n new) same
 
-slice_range-put_mid : (a k n : ℕ) (xs ys : List ℕ) → a ≤ length xs → n ≤ length ys → slice_range (put_mid a k xs ys) a (a + n) ≡ take n ys
-slice_range-put_mid a k n xs ys within fits =
+slice_range_put_mid : (a k n : ℕ) (xs ys : List ℕ) → a ≤ length xs → n ≤ length ys → slice_range (put_mid a k xs ys) a (a + n) ≡ take n ys
+slice_range_put_mid a k n xs ys within fits =
     let same : (a + n) - a ≡ n = omega arith in
     let after = post_of a k xs in
     ap (take ((a + n) - a)) (drop_at (take a xs) (ys ++ after) a (length-take-le a xs within)) ∙ ap (λ m. take m (ys ++ after)) same ∙ take-append-le n ys after fits
@@ -21,6 +21,6 @@ pub loop-done-preserved : goal.loop-done-preserved
 loop-done-preserved g c =
     let l = c.loop-done in
     let room = length l.bytes - l.done in
-    let part = slice_range-put_mid l.done room c.in-Ok.n l.bytes c.read.new.buf l.invariant.0 c.in-Ok.ensures.bound.0 in
+    let part = slice_range_put_mid l.done room c.in-Ok.n l.bytes c.read.new.buf l.invariant.0 c.in-Ok.ensures.bound.0 in
     let joined = take_split l.done (l.done + c.in-Ok.n) l.bytes (put_mid l.done room l.bytes c.read.new.buf) (omega arith) (take-put_mid_below _ _ _ _ _ (le_refl _) l.invariant.0) in
     (search rules, subst (Consumes _ _) (ap (λ k. take l.done l.bytes ++ k) (sym part) ∙ joined) (Consumes-trans _ _ _ _ _ l.invariant.1 c.in-Ok.ensures.bytes.0))

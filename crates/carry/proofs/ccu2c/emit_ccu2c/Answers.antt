@@ -1,23 +1,23 @@
 use Rattle.std.proofs.Common.{ap, arith}
-use Rattle.cells.proofs.Laws.{changed-failed}
+use Rattle.cells.proofs.Laws.{changed_failed}
 use Rattle.cells.specs.Answers.{nothing}
 use Rattle.recorder.specs.Lists.{emitted}
-use Rattle.cells.specs.Cells.{emitCcu2c}
-use Rattle.wires.proofs.OnceLaws.{once-done, once-stop, once-keep, once-swept}
+use Rattle.cells.specs.Cells.{emit_ccu2c}
+use Rattle.wires.proofs.OnceLaws.{once_done, once_stop, once_keep, once_swept}
 use Rattle.carry.proofs.ccu2c.emit_ccu2c.Goals as goal
 
 pub returns-in_default-clause-wrote : goal.returns-in_default-clause-wrote
-unfolding emitCcu2c
-returns-in_default-clause-wrote c = λ f q s. once-stop (c.bit_once-r.ensures.wrote f (omega arith) s _) _ (ap emitted c.in_default.is) (changed-failed nothing c.stopped.ensures (ap emitted c.in_default.is))
+unfolding emit_ccu2c
+returns-in_default-clause-wrote c = λ f q s. once_stop (c.bit_once-r.ensures.wrote f (omega arith) s _) _ (ap emitted c.in_default.is) (changed_failed nothing c.stopped.ensures (ap emitted c.in_default.is))
 
 pub returns-in_default-r2-clause-wrote : goal.returns-in_default-r2-clause-wrote
-unfolding emitCcu2c
-returns-in_default-r2-clause-wrote c = λ f q s. once-done (c.bit_once-r.ensures.wrote f (omega arith) s _) _ (ap emitted c.in-Done.is) (once-stop (c.emit_slice-r2.ensures.wrote f (omega (arith, c.in-Done.ensures.grows)) s) _ (ap emitted c.in_default-r2.is) (changed-failed nothing c.stopped-in_default-r2.ensures (ap emitted c.in_default-r2.is)))
+unfolding emit_ccu2c
+returns-in_default-r2-clause-wrote c = λ f q s. once_done (c.bit_once-r.ensures.wrote f (omega arith) s _) _ (ap emitted c.in-Done.is) (once_stop (c.emit_slice-r2.ensures.wrote f (omega (arith, c.in-Done.ensures.grows)) s) _ (ap emitted c.in_default-r2.is) (changed_failed nothing c.stopped-in_default-r2.ensures (ap emitted c.in_default-r2.is)))
 
 pub returns-in_default-r3-clause-wrote : goal.returns-in_default-r3-clause-wrote
-unfolding emitCcu2c
-returns-in_default-r3-clause-wrote c = λ f q s. once-done (c.bit_once-r.ensures.wrote f (omega arith) s _) _ (ap emitted c.in-Done.is) (once-done (c.emit_slice-r2.ensures.wrote f (omega (arith, c.in-Done.ensures.grows)) s) _ (ap emitted c.in-Done-r2.is) (once-stop (c.emit_slice-r3.ensures.wrote f (omega (arith, c.in-Done.ensures.grows, c.in-Done-r2.ensures.grows)) s) _ (ap emitted c.in_default-r3.is) (changed-failed nothing c.stopped-in_default-r3.ensures (ap emitted c.in_default-r3.is))))
+unfolding emit_ccu2c
+returns-in_default-r3-clause-wrote c = λ f q s. once_done (c.bit_once-r.ensures.wrote f (omega arith) s _) _ (ap emitted c.in-Done.is) (once_done (c.emit_slice-r2.ensures.wrote f (omega (arith, c.in-Done.ensures.grows)) s) _ (ap emitted c.in-Done-r2.is) (once_stop (c.emit_slice-r3.ensures.wrote f (omega (arith, c.in-Done.ensures.grows, c.in-Done-r2.ensures.grows)) s) _ (ap emitted c.in_default-r3.is) (changed_failed nothing c.stopped-in_default-r3.ensures (ap emitted c.in_default-r3.is))))
 
 pub returns-clause-wrote : goal.returns-clause-wrote
-unfolding emitCcu2c
-returns-clause-wrote c = λ f q s. once-done (c.bit_once-r.ensures.wrote f (omega arith) s _) _ (ap emitted c.in-Done.is) (once-done (c.emit_slice-r2.ensures.wrote f (omega (arith, c.in-Done.ensures.grows)) s) _ (ap emitted c.in-Done-r2.is) (once-done (c.emit_slice-r3.ensures.wrote f (omega (arith, c.in-Done.ensures.grows, c.in-Done-r2.ensures.grows)) s) _ (ap emitted c.in-Done-r3.is) (once-swept (once-keep (c.assign_wire-end.ensures s _)) c.sweep_cell.ensures)))
+unfolding emit_ccu2c
+returns-clause-wrote c = λ f q s. once_done (c.bit_once-r.ensures.wrote f (omega arith) s _) _ (ap emitted c.in-Done.is) (once_done (c.emit_slice-r2.ensures.wrote f (omega (arith, c.in-Done.ensures.grows)) s) _ (ap emitted c.in-Done-r2.is) (once_done (c.emit_slice-r3.ensures.wrote f (omega (arith, c.in-Done.ensures.grows, c.in-Done-r2.ensures.grows)) s) _ (ap emitted c.in-Done-r3.is) (once_swept (once_keep (c.assign_wire-end.ensures s _)) c.sweep_cell.ensures)))

@@ -1,7 +1,7 @@
 use Rattle.std.proofs.Common.{refl}
-use Rattle.fusing.proofs.Joining.{tabled-joins}
+use Rattle.fusing.proofs.Joining.{tabled_joins}
 use Rattle.fusing.proofs.join.joined.Goals as goal
 
 -- src/join.rt:232:1
 pub returns : goal.returns
-returns c = tabled-joins _ _ _ _ _ _ c.table-t.ensures (c.covers.ensures c.if-not-covers.false) (c.covers-2.ensures c.if-not-covers-2.false) (c.covers-3.ensures c.if-not-covers-3.false) refl refl refl refl
+returns c = tabled_joins _ _ _ _ _ _ c.table-t.ensures (c.covers.ensures c.if-not-covers.false) (c.covers-2.ensures c.if-not-covers-2.false) (c.covers-3.ensures c.if-not-covers-3.false) refl refl refl refl

@@ -1,16 +1,16 @@
 use Rattle.lines.specs.Names.{labels}
-use Rattle.lines.specs.Lines.{signalFields}
-use Rattle.lines.proofs.Lines.{line-full, line-none, line-cut, line-done}
+use Rattle.lines.specs.Lines.{signal_fields}
+use Rattle.lines.proofs.Lines.{line_full, line_none, line_cut, line_done}
 use Rattle.lines.proofs.records.put_signal.Goals as goal
 
 pub returns-in_default : goal.returns-in_default
-returns-in_default c = line-full 115 labels signalFields _ c.put_number-r.ensures c.args.fields.now c.in_default.is
+returns-in_default c = line_full 115 labels signal_fields _ c.put_number-r.ensures c.args.fields.now c.in_default.is
 
 pub returns-then-fields-eq0 : goal.returns-then-fields-eq0
-returns-then-fields-eq0 c = line-none 115 labels signalFields _ c.put_number-r.ensures c.args.fields.now c.if-fields-eq0.true c.in-At.is
+returns-then-fields-eq0 c = line_none 115 labels signal_fields _ c.put_number-r.ensures c.args.fields.now c.if-fields-eq0.true c.in-At.is
 
 pub returns-in_default-q : goal.returns-in_default-q
-returns-in_default-q c = line-cut 115 labels signalFields _ c.put_number-r.ensures c.args.fields.now c.if-fields-eq0.false c.in-At.is c.put_label-q.ensures c.in_default-q.is
+returns-in_default-q c = line_cut 115 labels signal_fields _ c.put_number-r.ensures c.args.fields.now c.if-fields-eq0.false c.in-At.is c.put_label-q.ensures c.in_default-q.is
 
 pub returns : goal.returns
-returns c = line-done 115 labels signalFields _ c.put_number-r.ensures c.args.fields.now c.if-fields-eq0.false c.in-At.is c.put_label-q.ensures c.in-At-q.is c.put_owned.ensures
+returns c = line_done 115 labels signal_fields _ c.put_number-r.ensures c.args.fields.now c.if-fields-eq0.false c.in-At.is c.put_label-q.ensures c.in-At-q.is c.put_owned.ensures

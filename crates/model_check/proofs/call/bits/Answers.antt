@@ -1,9 +1,9 @@
 use Rattle.std.proofs.Common.{arith, ap₂, ◌∙◌, ℕ, length}
 use Rattle.simulation.specs.Wellformed.{or_else}
-use Rattle.simulation.specs.Run.{firedOf, first_of}
-use Rattle.simulation.specs.Fault.{tickCauses}
-use Rattle.simulation.proofs.Calls.{input-fits}
+use Rattle.simulation.specs.Run.{fired_of, first_of}
+use Rattle.simulation.specs.Fault.{tick_causes}
+use Rattle.simulation.proofs.Calls.{input_fits}
 use Rattle.model_check.proofs.call.bits.Goals as goal
 
 pub returns : goal.returns
-returns c = c.either.ensures ∙ ap₂ or_else c.byte_fault-a.ensures (c.tick_fault-b.ensures ∙ ap₂ (λ (n k : ℕ). first_of (tickCauses n k c.args.ticks.now (firedOf c.args.fired))) c.count-s.ensures.0 (input-fits c.args.signals.now _ (length c.args.bytes.now) c.input_total.ensures c.requires (omega (arith, c.well_formed))))
+returns c = c.either.ensures ∙ ap₂ or_else c.byte_fault-a.ensures (c.tick_fault-b.ensures ∙ ap₂ (λ (n k : ℕ). first_of (tick_causes n k c.args.ticks.now (fired_of c.args.fired))) c.count-s.ensures.0 (input_fits c.args.signals.now _ (length c.args.bytes.now) c.input_total.ensures c.requires (omega (arith, c.well_formed))))

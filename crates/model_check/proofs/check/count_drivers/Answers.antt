@@ -1,11 +1,11 @@
 use Rattle.std.proofs.Common.{arith, subst, List}
-use Rattle.simulation.proofs.Steps.{within, left-next, left_out, left_end}
-use Rattle.simulation.specs.Index.{recordsIn, fields_at}
-use Rattle.simulation.proofs.Faults.{Counting, counting-next, counting-end}
+use Rattle.simulation.proofs.Steps.{within, left_next, left_out, left_end}
+use Rattle.simulation.specs.Index.{records_in, fields_at}
+use Rattle.simulation.proofs.Faults.{Counting, counting_next, counting_end}
 use Rattle.model_check.proofs.check.count_drivers.Goals as goal
 
 pub returns-then-size-eq0 : goal.returns-then-size-eq0
-returns-then-size-eq0 c = counting-end c.loop-at.invariant.1 (left_out _ _ _ c.size-size.ensures c.if-size-eq0.true)
+returns-then-size-eq0 c = counting_end c.loop-at.invariant.1 (left_out _ _ _ c.size-size.ensures c.if-size-eq0.true)
 
 pub target-requires : goal.target-requires
 target-requires c = within _ _ _ c.size-size.ensures c.if-size-eq0.false
@@ -14,7 +14,7 @@ pub overflow_add-at : goal.overflow_add-at
 overflow_add-at c = let w = within _ _ _ c.size-size.ensures c.if-size-eq0.false in omega (arith, c.well_formed)
 
 pub loop-at-preserved : goal.loop-at-preserved
-loop-at-preserved c = (within _ _ _ c.size-size.ensures c.if-size-eq0.false, counting-next _ _ _ (fields_at c.args.stmts.now c.loop-at.at c.size-size.result) c.loop-at.k _ _ c.other-none.result (subst (λ (l : List _). Counting c.args.n (recordsIn c.args.stmts.now) l c.loop-at.k) (left-next _ _ _ c.size-size.ensures c.if-size-eq0.false) c.loop-at.invariant.1) c.other-none.ensures c.target.ensures c.count_if-k.ensures)
+loop-at-preserved c = (within _ _ _ c.size-size.ensures c.if-size-eq0.false, counting_next _ _ _ (fields_at c.args.stmts.now c.loop-at.at c.size-size.result) c.loop-at.k _ _ c.other-none.result (subst (λ (l : List _). Counting c.args.n (records_in c.args.stmts.now) l c.loop-at.k) (left_next _ _ _ c.size-size.ensures c.if-size-eq0.false) c.loop-at.invariant.1) c.other-none.ensures c.target.ensures c.count_if-k.ensures)
 
 pub returns : goal.returns
-returns c = counting-end c.loop-at.invariant.1 (left_end _ _ c.loop-at-test.false)
+returns c = counting_end c.loop-at.invariant.1 (left_end _ _ c.loop-at-test.false)

@@ -1,5 +1,5 @@
-use Rattle.simulation.proofs.Tables.{widths-filled}
+use Rattle.simulation.proofs.Tables.{widths_filled}
 use Rattle.model_check.proofs.check.malformed.Goals as goal
 
 pub first_fault-fault-requires : goal.first_fault-fault-requires
-first_fault-fault-requires c = (widths-filled _ _ c.fill.ensures, widths-filled _ _ c.fill-2.ensures, c.tally.ensures)
+first_fault-fault-requires c = (widths_filled _ _ c.fill.ensures, widths_filled _ _ c.fill-2.ensures, c.tally.ensures)

@@ -1,5 +1,5 @@
 use Rattle.std.proofs.Common.{arith, refl, ap, ◌∙◌, ℕ, ◌+◌}
-use Rattle.netlist.proofs.WordLaws.{size_of, size-rest}
+use Rattle.netlist.proofs.WordLaws.{size_of, size_rest}
 use Rattle.netlist.proofs.fields.cell_size.Goals as goal
 
 -- src/fields.rt:170:1
@@ -44,4 +44,4 @@ returns-in-9 c = size_of _ _ _ c.field.ensures 9 10 c.in-9.is refl
 
 -- src/fields.rt:170:1
 pub returns-in_default : goal.returns-in_default
-returns-in_default c = size-rest _ _ _ c.field.ensures _ (omega arith) (omega arith) (omega arith) (omega arith) (omega arith) (omega arith) (omega arith) (omega arith) (omega arith) (omega arith) (ap (λ (n : ℕ). 6 + n) (c.wide.ensures ∙ c.field-in_default.ensures))
+returns-in_default c = size_rest _ _ _ c.field.ensures _ (omega arith) (omega arith) (omega arith) (omega arith) (omega arith) (omega arith) (omega arith) (omega arith) (omega arith) (omega arith) (ap (λ (n : ℕ). 6 + n) (c.wide.ensures ∙ c.field-in_default.ensures))

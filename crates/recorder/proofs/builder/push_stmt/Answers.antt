@@ -1,11 +1,11 @@
-use Rattle.recorder.proofs.Room.{pushed-stmt, recorded-nil}
+use Rattle.recorder.proofs.Room.{pushed_stmt, recorded_nil}
 use Rattle.std.proofs.Common.{refl}
 use Rattle.recorder.proofs.builder.push_stmt.Goals as goal
 
 -- src/builder.rt:58:1
 pub returns-in-At : goal.returns-in-At
-returns-in-At c = pushed-stmt (recorded-nil c.args.fields.now c.in-At.ensures) refl
+returns-in-At c = pushed_stmt (recorded_nil c.args.fields.now c.in-At.ensures) refl
 
 -- src/builder.rt:58:1
 pub returns-in-Full : goal.returns-in-Full
-returns-in-Full c = pushed-stmt (recorded-nil c.args.fields.now c.in-Full.ensures) refl
+returns-in-Full c = pushed_stmt (recorded_nil c.args.fields.now c.in-Full.ensures) refl

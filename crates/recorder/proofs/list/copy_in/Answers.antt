@@ -1,4 +1,4 @@
-use Rattle.recorder.proofs.Room.{copy_start, copy_step, copy-end}
+use Rattle.recorder.proofs.Room.{copy_start, copy_step, copy_end}
 use Rattle.std.proofs.Common.{arith, sym, ◌∙◌, rules}
 use Rattle.recorder.proofs.list.copy_in.Goals as goal
 
@@ -12,4 +12,4 @@ loop-i-preserved c = let h = c.loop-i-test.true in (search rules, search rules, 
 
 -- src/list.rt:14:1
 pub returns : goal.returns
-returns c = sym (copy-end _ _ c.args.words.now c.loop-i.i (omega arith)) ∙ c.loop-i.invariant.2
+returns c = sym (copy_end _ _ c.args.words.now c.loop-i.i (omega arith)) ∙ c.loop-i.invariant.2

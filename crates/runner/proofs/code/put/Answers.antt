@@ -1,11 +1,11 @@
 use Rattle.std.proofs.Common.{arith, ◌+◌, length}
-use Rattle.simulation.specs.Index.{recordsIn, widthsIn}
-use Rattle.simulation.proofs.Offsets.{offset-next, offset-le}
-use Rattle.coding.proofs.Emitting.{put-emitted}
+use Rattle.simulation.specs.Index.{records_in, widths_in}
+use Rattle.simulation.proofs.Offsets.{offset_next, offset_le}
+use Rattle.coding.proofs.Emitting.{put_emitted}
 use Rattle.runner.proofs.code.put.Goals as goal
 
 pub place-requires : goal.place-requires
-place-requires c = (omega (arith, c.offset-begin.ensures, c.offset-end.ensures, offset-next (widthsIn c.args.exprs.now) c.wide-x.result), omega (arith, c.offset-end.ensures, c.wide-x.ensures, c.requires.6.there, offset-le (widthsIn c.args.exprs.now) (c.wide-x.result + 1) (length (recordsIn c.args.exprs.now)) (omega (arith, c.wide-x.ensures, c.requires.6.there))))
+place-requires c = (omega (arith, c.offset-begin.ensures, c.offset-end.ensures, offset_next (widths_in c.args.exprs.now) c.wide-x.result), omega (arith, c.offset-end.ensures, c.wide-x.ensures, c.requires.6.there, offset_le (widths_in c.args.exprs.now) (c.wide-x.result + 1) (length (records_in c.args.exprs.now)) (omega (arith, c.wide-x.ensures, c.requires.6.there))))
 
 pub returns-clause-emitted : goal.returns-clause-emitted
-returns-clause-emitted c = put-emitted c.requires.4 c.requires.1 c.requires.5 c.requires.6 c.wide-x.ensures c.offset-begin.ensures c.offset-end.ensures c.place.ensures
+returns-clause-emitted c = put_emitted c.requires.4 c.requires.1 c.requires.5 c.requires.6 c.wide-x.ensures c.offset-begin.ensures c.offset-end.ensures c.place.ensures

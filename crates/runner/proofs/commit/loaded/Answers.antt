@@ -1,42 +1,42 @@
 use Rattle.std.proofs.Common.{arith, refl}
-use Rattle.evaluation.proofs.Committing.{fields-inside, register-inside, value_read, target-marked, loaded-other, loaded-next, loaded-none, loaded-absent, loaded-reset}
+use Rattle.evaluation.proofs.Committing.{fields_inside, register_inside, value_read, target_marked, loaded_other, loaded_next, loaded_none, loaded_absent, loaded_reset}
 use Rattle.runner.proofs.commit.loaded.Goals as goal
 
 pub overflow_add-at : goal.overflow_add-at
-overflow_add-at c = record { fits = omega (arith, c.well_formed, fields-inside c.requires.1.stated c.requires.0) }
+overflow_add-at c = record { fits = omega (arith, c.well_formed, fields_inside c.requires.1.stated c.requires.0) }
 
 pub offset_bounds-stmts-at : goal.offset_bounds-stmts-at
-offset_bounds-stmts-at c = record { fits = omega (arith, c.well_formed, fields-inside c.requires.1.stated c.requires.0) }
+offset_bounds-stmts-at c = record { fits = omega (arith, c.well_formed, fields_inside c.requires.1.stated c.requires.0) }
 
 pub bounds-stmts-at : goal.bounds-stmts-at
-bounds-stmts-at c = omega (arith, fields-inside c.requires.1.stated c.requires.0)
+bounds-stmts-at c = omega (arith, fields_inside c.requires.1.stated c.requires.0)
 
 pub returns-then-stmts-at-ne1 : goal.returns-then-stmts-at-ne1
-returns-then-stmts-at-ne1 c = λ k q b. loaded-other c.requires.1.stated c.args.marks.now q b c.if-stmts-at-ne1.true
+returns-then-stmts-at-ne1 c = λ k q b. loaded_other c.requires.1.stated c.args.marks.now q b c.if-stmts-at-ne1.true
 
 pub bounds-stmts-at-2 : goal.bounds-stmts-at-2
-bounds-stmts-at-2 c = omega (arith, fields-inside c.requires.1.stated c.requires.0)
+bounds-stmts-at-2 c = omega (arith, fields_inside c.requires.1.stated c.requires.0)
 
 pub bounds-marks-wide : goal.bounds-marks-wide
-bounds-marks-wide c = omega (arith, c.wide.ensures, target-marked c.requires.1.stated c.requires.0 c.requires.1.room)
+bounds-marks-wide c = omega (arith, c.wide.ensures, target_marked c.requires.1.stated c.requires.0 c.requires.1.room)
 
 pub bounds-stmts-at-then-mark-eq1 : goal.bounds-stmts-at-then-mark-eq1
-bounds-stmts-at-then-mark-eq1 c = fields-inside c.requires.1.stated c.requires.0
+bounds-stmts-at-then-mark-eq1 c = fields_inside c.requires.1.stated c.requires.0
 
 pub returns-then-mark-eq1 : goal.returns-then-mark-eq1
-returns-then-mark-eq1 c = λ k q b. loaded-next c.requires.1.stated c.args.marks.now q b c.if-stmts-at-ne1.false c.wide.ensures refl c.if-mark-eq1.true
+returns-then-mark-eq1 c = λ k q b. loaded_next c.requires.1.stated c.args.marks.now q b c.if-stmts-at-ne1.false c.wide.ensures refl c.if-mark-eq1.true
 
 pub returns-then-mark-ne2 : goal.returns-then-mark-ne2
-returns-then-mark-ne2 c = λ k q b. loaded-none c.requires.1.stated c.args.marks.now q b c.if-stmts-at-ne1.false c.wide.ensures refl c.if-mark-eq1.false c.if-mark-ne2.true
+returns-then-mark-ne2 c = λ k q b. loaded_none c.requires.1.stated c.args.marks.now q b c.if-stmts-at-ne1.false c.wide.ensures refl c.if-mark-eq1.false c.if-mark-ne2.true
 
 pub bounds-stmts-at-3 : goal.bounds-stmts-at-3
-bounds-stmts-at-3 c = omega (arith, register-inside c.requires.1.stated c.requires.0 c.if-stmts-at-ne1.false)
+bounds-stmts-at-3 c = omega (arith, register_inside c.requires.1.stated c.requires.0 c.if-stmts-at-ne1.false)
 
 pub returns-then-stmts-at-eq0 : goal.returns-then-stmts-at-eq0
-returns-then-stmts-at-eq0 c = λ k q b. loaded-absent c.requires.1.stated c.args.marks.now q b c.if-stmts-at-ne1.false c.wide.ensures refl c.if-mark-ne2.false c.if-stmts-at-eq0.true
+returns-then-stmts-at-eq0 c = λ k q b. loaded_absent c.requires.1.stated c.args.marks.now q b c.if-stmts-at-ne1.false c.wide.ensures refl c.if-mark-ne2.false c.if-stmts-at-eq0.true
 
 pub bounds-stmts-at-4 : goal.bounds-stmts-at-4
 bounds-stmts-at-4 c = value_read c.requires.1.stated c.requires.0 c.if-stmts-at-ne1.false c.if-stmts-at-eq0.false
 
 pub returns : goal.returns
-returns c = λ k q b. loaded-reset c.requires.1.stated c.args.marks.now q b c.if-stmts-at-ne1.false c.wide.ensures refl c.if-mark-ne2.false c.if-stmts-at-eq0.false
+returns c = λ k q b. loaded_reset c.requires.1.stated c.args.marks.now q b c.if-stmts-at-ne1.false c.wide.ensures refl c.if-mark-ne2.false c.if-stmts-at-eq0.false

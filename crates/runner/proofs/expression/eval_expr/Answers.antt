@@ -1,21 +1,21 @@
 use Rattle.std.proofs.Common.{arith, refl}
-use Rattle.evaluation.specs.Ready.{exprIn}
-use Rattle.evaluation.proofs.ByKind.{words-enough}
-use Rattle.evaluation.proofs.Evaluating.{word-inside}
-use Rattle.evaluation.proofs.Whole.{ready, evaluated-computes}
+use Rattle.evaluation.specs.Ready.{expr_in}
+use Rattle.evaluation.proofs.ByKind.{words_enough}
+use Rattle.evaluation.proofs.Evaluating.{word_inside}
+use Rattle.evaluation.proofs.Whole.{ready, evaluated_computes}
 use Rattle.runner.proofs.expression.eval_expr.Goals as goal
 
 pub overflow_add-kind : goal.overflow_add-kind
-overflow_add-kind c = let rd = ready c.requires.0 c.requires.3 c.requires.2 c.start-at.ensures in let i = word-inside rd 1 (omega (arith, words-enough (exprIn c.args.exprs.now c.args.e))) in record { fits = omega (arith, c.well_formed) }
+overflow_add-kind c = let rd = ready c.requires.0 c.requires.3 c.requires.2 c.start-at.ensures in let i = word_inside rd 1 (omega (arith, words_enough (expr_in c.args.exprs.now c.args.e))) in record { fits = omega (arith, c.well_formed) }
 
 pub offset_bounds-exprs-at : goal.offset_bounds-exprs-at
-offset_bounds-exprs-at c = let rd = ready c.requires.0 c.requires.3 c.requires.2 c.start-at.ensures in let i = word-inside rd 1 (omega (arith, words-enough (exprIn c.args.exprs.now c.args.e))) in record { fits = omega (arith, c.well_formed) }
+offset_bounds-exprs-at c = let rd = ready c.requires.0 c.requires.3 c.requires.2 c.start-at.ensures in let i = word_inside rd 1 (omega (arith, words_enough (expr_in c.args.exprs.now c.args.e))) in record { fits = omega (arith, c.well_formed) }
 
 pub bounds-exprs-at : goal.bounds-exprs-at
-bounds-exprs-at c = let rd = ready c.requires.0 c.requires.3 c.requires.2 c.start-at.ensures in word-inside rd 1 (omega (arith, words-enough (exprIn c.args.exprs.now c.args.e)))
+bounds-exprs-at c = let rd = ready c.requires.0 c.requires.3 c.requires.2 c.start-at.ensures in word_inside rd 1 (omega (arith, words_enough (expr_in c.args.exprs.now c.args.e)))
 
 pub eval_operands-requires : goal.eval_operands-requires
 eval_operands-requires c = (ready c.requires.0 c.requires.3 c.requires.2 c.start-at.ensures, refl, c.if-kind-eq1.false)
 
 pub returns-else-kind-eq1 : goal.returns-else-kind-eq1
-returns-else-kind-eq1 c = evaluated-computes c.requires.0 c.requires.3 c.eval_operands.ensures
+returns-else-kind-eq1 c = evaluated_computes c.requires.0 c.requires.3 c.eval_operands.ensures

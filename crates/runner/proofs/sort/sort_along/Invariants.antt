@@ -1,10 +1,10 @@
 use Rattle.std.proofs.Common.{◌-◌}
-use Rattle.ordering.specs.Words.{modelIn}
-use Rattle.ordering.proofs.Sorted.{Sorting-on}
+use Rattle.ordering.specs.Words.{model_in}
+use Rattle.ordering.proofs.Sorted.{SortingOn}
 use Rattle.runner.proofs.sort.sort_along.Given as goal
 
 abbrev pub invariant-loop-j : goal.invariant-loop-j
-invariant-loop-j l = Sorting-on (modelIn l.exprs l.stmts) l.n l.initial.marks l.initial.order l.marks l.order l.k
+invariant-loop-j l = SortingOn (model_in l.exprs l.stmts) l.n l.initial.marks l.initial.order l.marks l.order l.k
 
 abbrev pub decreases-loop-j : goal.decreases-loop-j
 decreases-loop-j l = l.n - l.j

@@ -1,5 +1,5 @@
 use Rattle.std.proofs.Common.{arith}
-use Rattle.simulation.proofs.Steps.{walked_start, walked_next, walked-within, walked-broken, walked_end}
+use Rattle.simulation.proofs.Steps.{walked_start, walked_next, walked_within, walked_broken, walked_end}
 use Rattle.simulation.proofs.index.count.Goals as goal
 
 -- src/index.rt:73:5
@@ -8,11 +8,11 @@ loop-at-init c = walked_start _
 
 -- src/index.rt:76:13
 pub returns-then-size-eq0 : goal.returns-then-size-eq0
-returns-then-size-eq0 c = walked-broken c.loop-at.invariant _ c.size-size.ensures c.loop-at-test.true c.if-size-eq0.true
+returns-then-size-eq0 c = walked_broken c.loop-at.invariant _ c.size-size.ensures c.loop-at-test.true c.if-size-eq0.true
 
 -- src/index.rt:81:9
 pub overflow_add-at : goal.overflow_add-at
-overflow_add-at c = let w = walked-within c.loop-at.invariant _ c.size-size.ensures c.if-size-eq0.false in omega (arith, c.well_formed)
+overflow_add-at c = let w = walked_within c.loop-at.invariant _ c.size-size.ensures c.if-size-eq0.false in omega (arith, c.well_formed)
 
 -- src/index.rt:73:5
 pub loop-at-preserved : goal.loop-at-preserved
