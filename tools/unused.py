@@ -104,7 +104,7 @@ def use(key, name):
 
 def names(f, words):
     for w in words:
-        for n in (w, *[k for k in list(f.names) + list(f.imports) if '_' in k and w in k.split('_')]):
+        for n in (w, *[k for k in list(f.names) + list(f.imports) if '◌' in k and w in k.split('◌')]):
             if n in f.names:
                 use(f.key, n)
             elif n in f.imports:
@@ -125,7 +125,7 @@ for f, text in sources.items():
     for m in path.finditer(text):
         for n in (m[3] or m[4]).split(','):
             n = n.split(' as ')
-            if n[-1].strip().strip('_') and (n[-1].strip() in bare or '_' in n[-1]):
+            if n[-1].strip().strip('◌') and (n[-1].strip() in bare or '◌' in n[-1]):
                 use((m[1], m[2]), n[0].strip())
 while todo:
     f, b = todo.pop()
