@@ -17,14 +17,12 @@ use recorder::{Emitted, ExprId, Stated, Tapes, builder};
 use refusal::Refusal;
 
 // A candidate of an address: the expression that says it is the one, and the word's.
-#[derive(Drop)]
 #[derive(Clone, Copy)]
 pub struct AddressMuxNode {
     pub matched: ExprId,
     pub value: ExprId,
 }
 
-#[derive(Drop)]
 #[derive(Clone, Copy)]
 pub enum Joined {
     Done(AddressMuxNode, Tapes),

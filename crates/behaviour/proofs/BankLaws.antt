@@ -8,7 +8,7 @@ use mathlib.Core.List.Memᴰ.{head as here}
 use mathlib.Core.List.Memᴰ.{not-nil}
 use mathlib.Core.List.Memᴰ.{tail as there}
 use mathlib.Core.List.{List, [], ◌∷◌, ◌++◌, append-nil, append_assoc, Memᴰ as Mem}
-use mathlib.Core.Option.{Option, none, some}
+use Rattle.std.specs.Prelude.{Option, None, Some}
 use Prim.Native.Nat.{ℕ, zero, suc, ◌+◌, ◌≤◌, ◌<◌}
 use native.Mathlib.Nat.{le_of_suc-le-suc, not-suc-le-zero}
 use native.Mathlib.Omega.{arith}
@@ -57,8 +57,8 @@ same_bit_is (Wire v) One h = absurd (false≢true h)
 same_bit_is (Wire v) (Wire w) h = ap Wire (eqb-true v w h)
 
 same_reset_self : (o : Option Reset) → same_reset_control o o ≡ true
-same_reset_self none = refl
-same_reset_self (some r) =
+same_reset_self None = refl
+same_reset_self (Some r) =
     and_true (same_bit r.signal r.signal) _ (same_bit_self r.signal) (and_true (eqb r.active r.active) (eqb r.asynchronous r.asynchronous) (eq-eqb r.active r.active refl) (eq-eqb r.asynchronous r.asynchronous refl))
 
 -- a flip-flop is in its own bank
@@ -68,16 +68,16 @@ same_bank_self f =
 
 -- what two asynchronous resets of one control have in common
 abbrev pub OneControl : Option Reset → Option Reset → Type 0
-OneControl none none = Unit {0}
-OneControl none (some r) = ⊥
-OneControl (some q) none = ⊥
-OneControl (some q) (some r) = (q.signal ≡ r.signal) × (q.active ≡ r.active) × (q.asynchronous ≡ r.asynchronous)
+OneControl None None = Unit {0}
+OneControl None (Some r) = ⊥
+OneControl (Some q) None = ⊥
+OneControl (Some q) (Some r) = (q.signal ≡ r.signal) × (q.active ≡ r.active) × (q.asynchronous ≡ r.asynchronous)
 
 one_control : (o p : Option Reset) → same_reset_control o p ≡ true → OneControl o p
-one_control none none h = tt
-one_control none (some r) h = absurd (false≢true h)
-one_control (some q) none h = absurd (false≢true h)
-one_control (some q) (some r) h =
+one_control None None h = tt
+one_control None (Some r) h = absurd (false≢true h)
+one_control (Some q) None h = absurd (false≢true h)
+one_control (Some q) (Some r) h =
     let a = both (same_bit q.signal r.signal) (eqb q.active r.active && eqb q.asynchronous r.asynchronous) h in
     let b = both (eqb q.active r.active) (eqb q.asynchronous r.asynchronous) a.1 in
     (same_bit_is q.signal r.signal a.0, eqb-true q.active r.active b.0, eqb-true q.asynchronous r.asynchronous b.1)
@@ -96,18 +96,18 @@ same_bank_mates l f h =
 
 -- an asynchronous reset alone tells whether a flip-flop is being reset asynchronously
 async_alone : (v : Valuation) (o : Option Reset) → resetting v 1 o ≡ resetting v 1 (filter_async o)
-async_alone v none = refl
-async_alone v (some r) = go (eqb r.asynchronous 1) refl
+async_alone v None = refl
+async_alone v (Some r) = go (eqb r.asynchronous 1) refl
   where
-    go : (b : Bool) → eqb r.asynchronous 1 ≡ b → b && asserted v r.signal r.active ≡ resetting v 1 (pick b (some r) none)
+    go : (b : Bool) → eqb r.asynchronous 1 ≡ b → b && asserted v r.signal r.active ≡ resetting v 1 (pick b (Some r) None)
     go true e = sym (ap (λ (x : Bool). x && asserted v r.signal r.active) e)
     go false e = refl
 
 one_control_resets : (v : Valuation) (o p : Option Reset) → OneControl o p → resetting v 1 o ≡ resetting v 1 p
-one_control_resets v none none h = refl
-one_control_resets v none (some r) h = absurd h
-one_control_resets v (some q) none h = absurd h
-one_control_resets v (some q) (some r) h =
+one_control_resets v None None h = refl
+one_control_resets v None (Some r) h = absurd h
+one_control_resets v (Some q) None h = absurd h
+one_control_resets v (Some q) (Some r) h =
     ap (λ (a : ℕ). eqb a 1 && asserted v q.signal q.active) h.2
     ∙ ap (λ (s : Bit). eqb r.asynchronous 1 && asserted v s q.active) h.0
     ∙ ap (λ (a : ℕ). eqb r.asynchronous 1 && asserted v r.signal a) h.1
@@ -346,8 +346,8 @@ cell_is_flop (x ∷ cells) c zero f e = subst (λ (y : Cell). Mem (record { cell
 cell_is_flop (x ∷ cells) c (suc i) f e = go (flip_flop_of x) (subst (λ (k : ℕ). Mem (record { cell = k; flop = f }) (flip_flops_from cells (suc c))) (omega arith) (cell_is_flop cells (suc c) i f e))
   where
     go : (o : Option FlipFlop) → Mem (record { cell = c + suc i; flop = f }) (flip_flops_from cells (suc c)) → Mem (record { cell = c + suc i; flop = f }) (also o c (flip_flops_from cells (suc c)))
-    go none q = q
-    go (some g) q = there q
+    go None q = q
+    go (Some g) q = there q
 
 flip_flops_few : (cells : List Cell) (c : ℕ) → length (flip_flops_from cells c) ≤ length cells
 unfolding flip_flops_from
@@ -355,8 +355,8 @@ flip_flops_few [] c = omega arith
 flip_flops_few (x ∷ cells) c = go (flip_flop_of x) (flip_flops_few cells (suc c))
   where
     go : (o : Option FlipFlop) → length (flip_flops_from cells (suc c)) ≤ length cells → length (also o c (flip_flops_from cells (suc c))) ≤ suc (length cells)
-    go none q = omega (arith, q)
-    go (some f) q = omega (arith, q)
+    go None q = omega (arith, q)
+    go (Some f) q = omega (arith, q)
 
 -- THE BANKS
 

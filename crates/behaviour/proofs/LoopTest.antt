@@ -6,7 +6,7 @@ use mathlib.Core.List.Memᴰ.{head as here}
 use mathlib.Core.List.Memᴰ.{not-nil}
 use mathlib.Core.List.Memᴰ.{tail as there}
 use mathlib.Core.List.{List, [], ◌∷◌, Memᴰ as Mem}
-use Rattle.std.proofs.Math.Option.{Option, none, some}
+use Rattle.std.specs.Prelude.{Option, None, Some}
 use Rattle.std.proofs.Common.{eqb-true}
 use Rattle.bits.specs.Bits.{pick}
 use Rattle.settle.specs.Ground.{way_first, grounded_no_loop, ends→grounded}
@@ -22,54 +22,54 @@ use Rattle.behaviour.proofs.Settled.{walks_end}
 use Rattle.behaviour.specs.LoopTest.{held_wires, reads, loop_free}
 
 abbrev Placed : ℕ → List Bit → Option ℕ → Type 0
-Placed w l none = Unit {0}
-Placed w l (some i) = Mem w (wires_of l)
+Placed w l None = Unit {0}
+Placed w l (Some i) = Mem w (wires_of l)
 
 placed : (w : ℕ) (l : List Bit) (i : ℕ) → Placed w l (place_of w l i)
 placed w [] i = tt
 placed w (Zero ∷ l) i = go (place_of w l (suc i)) (placed w l (suc i))
   where
     go : (o : Option ℕ) → Placed w l o → Placed w (Zero ∷ l) o
-    go none h = tt
-    go (some k) h = h
+    go None h = tt
+    go (Some k) h = h
 placed w (One ∷ l) i = go (place_of w l (suc i)) (placed w l (suc i))
   where
     go : (o : Option ℕ) → Placed w l o → Placed w (One ∷ l) o
-    go none h = tt
-    go (some k) h = h
+    go None h = tt
+    go (Some k) h = h
 placed w (Wire x ∷ l) i = go (eqb w x) refl (place_of w l (suc i)) (placed w l (suc i))
   where
     more : (o : Option ℕ) → Placed w l o → Placed w (Wire x ∷ l) o
-    more none h = tt
-    more (some k) h = there h
+    more None h = tt
+    more (Some k) h = there h
 
-    go : (b : Bool) → eqb w x ≡ b → (o : Option ℕ) → Placed w l o → Placed w (Wire x ∷ l) (pick b (some i) o)
+    go : (b : Bool) → eqb w x ≡ b → (o : Option ℕ) → Placed w l o → Placed w (Wire x ∷ l) (pick b (Some i) o)
     go true e o h = here (eqb-true w x e)
     go false e o h = more o h
 
 abbrev Found : ℕ → List Slot → Option WireRef → Type 0
-Found w l none = Unit {0}
-Found w l (some r) = Mem w (held_wires l)
+Found w l None = Unit {0}
+Found w l (Some r) = Mem w (held_wires l)
 
 found : (w : ℕ) (l : List Slot) (n : ℕ) → Found w l (find w l n)
 found w [] n = tt
 found w (s ∷ l) n = go (place_of w s.bits 0) (placed w s.bits 0) (find w l (suc n)) (found w l (suc n))
   where
     more : (o : Option WireRef) → Found w l o → Found w (s ∷ l) o
-    more none h = tt
-    more (some r) h = in_right (wires_of s.bits) h
+    more None h = tt
+    more (Some r) h = in_right (wires_of s.bits) h
 
     go : (p : Option ℕ) → Placed w s.bits p → (o : Option WireRef) → Found w l o → Found w (s ∷ l) (held_at p s n o)
-    go none q o h = more o h
-    go (some i) q o h = in_left (held_wires l) q
+    go None q o h = more o h
+    go (Some i) q o h = in_left (held_wires l) q
 
 -- a wire that reads another is held
 reader_held : (n : Netlist) (x z : ℕ) → Depends n x z → Mem x (held_wires (slots n))
 reader_held n x z = go (find x (slots n) 0) (found x (slots n) 0)
   where
     go : (o : Option WireRef) → Found x (slots n) o → Mem z (driver_reads n.cells (driver_in o)) → Mem x (held_wires (slots n))
-    go none h m = absurd (not-nil m)
-    go (some r) h m = h
+    go None h m = absurd (not-nil m)
+    go (Some r) h m = h
 
 pub loop_free→no_loop : (n : Netlist) → loop_free n ≡ true → NoWireLoop n
 loop_free→no_loop n h x w =

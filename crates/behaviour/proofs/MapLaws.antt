@@ -3,7 +3,7 @@
 use mathlib.Core.Path.{◌≡◌, refl, sym, ◌∙◌, ap}
 use mathlib.Core.Bool.{Bool, true, false}
 use mathlib.Core.List.{List, [], ◌∷◌, ◌++◌, map}
-use mathlib.Core.Option.{Option, none, some}
+use Rattle.std.specs.Prelude.{Option, None, Some}
 use Prim.Native.Nat.{ℕ, zero, suc, ◌+◌, ◌<◌}
 use native.Mathlib.Nat.{not-suc-le-zero, le_of_suc-le-suc}
 use native.Mathlib.Omega.{arith}
@@ -20,12 +20,12 @@ use Rattle.behaviour.proofs.BankLaws.{same_bit_is}
 -- GROWING
 
 abbrev pub or_else : Option WireRef → Option WireRef → Option WireRef
-or_else none later = later
-or_else (some r) later = some r
+or_else None later = later
+or_else (Some r) later = Some r
 
 held_later : (o : Option ℕ) (s : Slot) (n : ℕ) (a b : Option WireRef) → held_at o s n (or_else a b) ≡ or_else (held_at o s n a) b
-held_later none s n a b = refl
-held_later (some i) s n a b = refl
+held_later None s n a b = refl
+held_later (Some i) s n a b = refl
 
 pub find_append : (w : ℕ) (a b : List Slot) (n : ℕ) → find w (a ++ b) n ≡ or_else (find w a n) (find w b (n + length a))
 find_append w [] b n = ap (find w b) (omega arith)
@@ -34,8 +34,8 @@ find_append w (s ∷ a) b n =
     ∙ held_later (place_of w s.bits 0) s n (find w a (suc n)) (find w b (n + suc (length a)))
 
 -- one slot more, whose signal has the next number
-pub find_one_more : (w : ℕ) (held : List Slot) (s : Slot) → find w (held ++ (s ∷ [])) 0 ≡ or_else (find w held 0) (held_at (place_of w s.bits 0) s (length held) none)
-find_one_more w held s = find_append w held (s ∷ []) 0 ∙ ap (λ (k : ℕ). or_else (find w held 0) (held_at (place_of w s.bits 0) s k none)) (omega arith)
+pub find_one_more : (w : ℕ) (held : List Slot) (s : Slot) → find w (held ++ (s ∷ [])) 0 ≡ or_else (find w held 0) (held_at (place_of w s.bits 0) s (length held) None)
+find_one_more w held s = find_append w held (s ∷ []) 0 ∙ ap (λ (k : ℕ). or_else (find w held 0) (held_at (place_of w s.bits 0) s k None)) (omega arith)
 
 -- ENTRIES
 
@@ -47,18 +47,18 @@ pub record PlacedAt (w : ℕ) (bits : List Bit) (i k : ℕ) : Type 0 where
   pub is : get_or bits at Zero ≡ Wire w
 
 abbrev pub PlaceIs : ℕ → List Bit → ℕ → Option ℕ → Type 0
-PlaceIs w bits i none = Unit {0}
-PlaceIs w bits i (some k) = PlacedAt w bits i k
+PlaceIs w bits i None = Unit {0}
+PlaceIs w bits i (Some k) = PlacedAt w bits i k
 
 pub place_is : (w : ℕ) (bits : List Bit) (i : ℕ) → PlaceIs w bits i (place_of w bits i)
 place_is w [] i = tt
 place_is w (b ∷ bits) i = go (same_bit (Wire w) b) refl (place_of w bits (suc i)) (place_is w bits (suc i))
   where
     later : (o : Option ℕ) → PlaceIs w bits (suc i) o → PlaceIs w (b ∷ bits) i o
-    later none h = tt
-    later (some k) h = record { at = suc h.at; place = omega (arith, h.place); inside = omega (arith, h.inside); is = h.is }
+    later None h = tt
+    later (Some k) h = record { at = suc h.at; place = omega (arith, h.place); inside = omega (arith, h.inside); is = h.is }
 
-    go : (t : Bool) → same_bit (Wire w) b ≡ t → (o : Option ℕ) → PlaceIs w bits (suc i) o → PlaceIs w (b ∷ bits) i (pick t (some i) o)
+    go : (t : Bool) → same_bit (Wire w) b ≡ t → (o : Option ℕ) → PlaceIs w bits (suc i) o → PlaceIs w (b ∷ bits) i (pick t (Some i) o)
     go true e o h = record { at = 0; place = omega arith; inside = omega arith; is = sym (same_bit_is (Wire w) b e) }
     go false e o h = later o h
 
@@ -77,20 +77,20 @@ pub record FoundAt (w : ℕ) (l : List Slot) (n : ℕ) (d : Slot) (r : WireRef) 
   pub holds : Holds w (get_or l at d) r
 
 abbrev pub FoundIs : ℕ → List Slot → ℕ → Slot → Option WireRef → Type 0
-FoundIs w l n d none = Unit {0}
-FoundIs w l n d (some r) = FoundAt w l n d r
+FoundIs w l n d None = Unit {0}
+FoundIs w l n d (Some r) = FoundAt w l n d r
 
 pub found_is : (w : ℕ) (l : List Slot) (n : ℕ) (d : Slot) → FoundIs w l n d (find w l n)
 found_is w [] n d = tt
 found_is w (s ∷ l) n d = go (place_of w s.bits 0) (place_is w s.bits 0) (find w l (suc n)) (found_is w l (suc n) d)
   where
     later : (o : Option WireRef) → FoundIs w l (suc n) d o → FoundIs w (s ∷ l) n d o
-    later none h = tt
-    later (some r) h = record { at = suc h.at; signal = omega (arith, h.signal); inside = omega (arith, h.inside); holds = h.holds }
+    later None h = tt
+    later (Some r) h = record { at = suc h.at; signal = omega (arith, h.signal); inside = omega (arith, h.inside); holds = h.holds }
 
     go : (p : Option ℕ) → PlaceIs w s.bits 0 p → (o : Option WireRef) → FoundIs w l (suc n) d o → FoundIs w (s ∷ l) n d (held_at p s n o)
-    go none q o h = later o h
-    go (some i) q o h =
+    go None q o h = later o h
+    go (Some i) q o h =
         let z : q.at ≡ i = omega (arith, q.place) in
         record {
           at = 0;

@@ -1,7 +1,7 @@
 -- The banks of flip-flops: those of one clock, edge and asynchronous reset control, in the order of their first flip-flops.
 -- A flip-flop's bank is found by scanning the banks' first flip-flops.
 use Rattle.std.specs.Prelude.{Bool, true, false, ◌&&◌, List, [], ◌∷◌, ◌++◌, map, ℕ, suc, eqb, ltb, length}
-use Rattle.std.proofs.Math.Option.{Option, none, some}
+use Rattle.std.specs.Prelude.{Option, None, Some}
 use Rattle.bits.specs.Bits.{pick}
 use Rattle.netlist.specs.declared.Reset.{Reset}
 use Rattle.netlist.specs.Netlist.{FlipFlop, Cell, lut4, pfumx, l6mux21, ccu2c, multiplier, flip_flop, block_ram, distributed_ram, io, jtagg, pll}
@@ -19,8 +19,8 @@ pub record Bank : Type 0 where
   pub members : List Member
 
 abbrev pub filter_async : Option Reset → Option Reset
-filter_async none = none
-filter_async (some r) = pick (eqb r.asynchronous 1) (some r) none
+filter_async None = None
+filter_async (Some r) = pick (eqb r.asynchronous 1) (Some r) None
 
 -- the asynchronous reset of a flip-flop
 abbrev pub async_reset : FlipFlop → Option Reset
@@ -28,30 +28,30 @@ async_reset f = filter_async f.reset
 
 -- the value that a reset loads does not count
 abbrev pub same_reset_control : Option Reset → Option Reset → Bool
-same_reset_control none none = true
-same_reset_control none (some r) = false
-same_reset_control (some q) none = false
-same_reset_control (some q) (some r) = same_bit q.signal r.signal && (eqb q.active r.active && eqb q.asynchronous r.asynchronous)
+same_reset_control None None = true
+same_reset_control None (Some r) = false
+same_reset_control (Some q) None = false
+same_reset_control (Some q) (Some r) = same_bit q.signal r.signal && (eqb q.active r.active && eqb q.asynchronous r.asynchronous)
 
 abbrev pub same_bank : FlipFlop → FlipFlop → Bool
 same_bank l f = same_bit l.clock f.clock && (eqb l.edge f.edge && same_reset_control (async_reset l) (async_reset f))
 
 abbrev pub flip_flop_of : Cell → Option FlipFlop
-flip_flop_of (lut4 is o t) = none
-flip_flop_of (pfumx a b s o) = none
-flip_flop_of (l6mux21 a b s o) = none
-flip_flop_of (ccu2c u) = none
-flip_flop_of (multiplier a b o) = none
-flip_flop_of (flip_flop f) = some f
-flip_flop_of (block_ram r) = none
-flip_flop_of (distributed_ram r) = none
-flip_flop_of (io p a o t) = none
-flip_flop_of (jtagg o) = none
-flip_flop_of (pll p) = none
+flip_flop_of (lut4 is o t) = None
+flip_flop_of (pfumx a b s o) = None
+flip_flop_of (l6mux21 a b s o) = None
+flip_flop_of (ccu2c u) = None
+flip_flop_of (multiplier a b o) = None
+flip_flop_of (flip_flop f) = Some f
+flip_flop_of (block_ram r) = None
+flip_flop_of (distributed_ram r) = None
+flip_flop_of (io p a o t) = None
+flip_flop_of (jtagg o) = None
+flip_flop_of (pll p) = None
 
 abbrev pub also : Option FlipFlop → ℕ → List Member → List Member
-also none c ms = ms
-also (some f) c ms = record { cell = c; flop = f } ∷ ms
+also None c ms = ms
+also (Some f) c ms = record { cell = c; flop = f } ∷ ms
 
 -- the flip-flops among the cells, which are numbered from c on
 unfoldable pub flip_flops_from : List Cell → ℕ → List Member

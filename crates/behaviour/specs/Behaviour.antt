@@ -1,6 +1,6 @@
 -- What a tick means, on the netlist's own cells. The sections follow document 01; the tick itself uses all the others and stands last.
 use Rattle.std.specs.Prelude.{List, [], ◌∷◌, ◌++◌, map, Bool, true, false, ◌&&◌, ℕ, suc, ◌+◌, ◌*◌, length, get_or, take, drop, set, replicate, ltb, eqb}
-use Rattle.std.proofs.Math.Option.{Option, none, some}
+use Rattle.std.specs.Prelude.{Option, None, Some}
 use Rattle.bits.specs.Bits.{pick, Bits, number, table_bit, differ, same}
 use Rattle.settle.specs.Walk.{NoLoop}
 use Rattle.settle.specs.Settle.{iterate, sweep}
@@ -67,14 +67,14 @@ pub record Fired : Type 0 where
   pub edge : ℕ
 
 abbrev pub is_signal : Option ℕ → ℕ → Bool
-is_signal none s = false
-is_signal (some t) s = eqb t s
+is_signal None s = false
+is_signal (Some t) s = eqb t s
 
 -- a register is clocked by its clock bit's signal in the wire map, on its own edge;
 -- another signal that copies the clock's wire does not fire it
 abbrev pub on_fired : List Slot → Option Fired → Bit → ℕ → Bool
-on_fired held none clock edge = false
-on_fired held (some f) clock edge = is_signal (clock_signal held clock) f.signal && eqb edge f.edge
+on_fired held None clock edge = false
+on_fired held (Some f) clock edge = is_signal (clock_signal held clock) f.signal && eqb edge f.edge
 
 -- FLIP-FLOPS
 
@@ -83,17 +83,17 @@ asserted v signal active = same (value v signal) (level active)
 
 -- a control that is not there is always asserted
 abbrev pub enabled : Valuation → Option Control → Bool
-enabled v none = true
-enabled v (some c) = asserted v c.signal c.active
+enabled v None = true
+enabled v (Some c) = asserted v c.signal c.active
 
 -- a reset of this kind (1 asynchronous, 0 synchronous) is there and asserted
 abbrev pub resetting : Valuation → ℕ → Option Reset → Bool
-resetting v kind none = false
-resetting v kind (some r) = eqb r.asynchronous kind && asserted v r.signal r.active
+resetting v kind None = false
+resetting v kind (Some r) = eqb r.asynchronous kind && asserted v r.signal r.active
 
 abbrev pub reset_value : Option Reset → Bool
-reset_value none = false
-reset_value (some r) = level r.value
+reset_value None = false
+reset_value (Some r) = level r.value
 
 -- what the fired clock loads: a synchronous reset beats an enable
 abbrev pub loaded_flop : Valuation → FlipFlop → Bool → Bool
@@ -150,8 +150,8 @@ output v r (pll p) k = pick (eqb k 2) true (value v p.reference)
 -- BLOCK RAM AND DISTRIBUTED RAM
 
 abbrev pub shift_in : Option ℕ → ℕ
-shift_in none = 0
-shift_in (some s) = s
+shift_in None = 0
+shift_in (Some s) = s
 
 -- the window of the address bits that counts
 abbrev pub address : Valuation → BlockRam → List Bit → ℕ
@@ -170,18 +170,18 @@ loaded false at r words old = old
 -- a port goes only while its clock enable, if it has one, is asserted: each by its own, in its write and in its read
 
 abbrev pub written_a : Valuation → BlockRam → List Bits → List Bits
-written_a v r words = written (enabled v (some r.write) && enabled v r.clock_enable) (address v r r.write_address) (values v r.input) words
+written_a v r words = written (enabled v (Some r.write) && enabled v r.clock_enable) (address v r r.write_address) (values v r.input) words
 
 abbrev pub written_b : Valuation → BlockRam → Option SecondPort → List Bits → List Bits
-written_b v r none words = words
-written_b v r (some p) words = written (enabled v (some p.write) && enabled v p.clock_enable) (address v r p.address) (values v p.input) words
+written_b v r None words = words
+written_b v r (Some p) words = written (enabled v (Some p.write) && enabled v p.clock_enable) (address v r p.address) (values v p.input) words
 
 abbrev pub loaded_a : Valuation → BlockRam → List Bits → Bits → Bits
 loaded_a v r words old = loaded (enabled v r.read_enable && enabled v r.clock_enable) (address v r r.read_address) r words old
 
 abbrev pub loaded_b : Valuation → BlockRam → Option SecondPort → List Bits → Bits → Bits
-loaded_b v r none words old = old
-loaded_b v r (some p) words old = loaded (enabled v p.read_enable && enabled v p.clock_enable) (address v r p.address) r words old
+loaded_b v r None words old = old
+loaded_b v r (Some p) words old = loaded (enabled v p.read_enable && enabled v p.clock_enable) (address v r p.address) r words old
 
 -- both ports are on one clock and edge (6). B writes last and so wins
 abbrev pub next_ram : Bool → Valuation → BlockRam → Registers → Registers
@@ -196,7 +196,7 @@ next_ram true v r old = record {
 abbrev pub next_distributed : Bool → Valuation → DistributedRam → Registers → Registers
 next_distributed fired v r old = record {
   flop = old.flop;
-  words = written (fired && enabled v (some r.write)) (number (values v r.write_address)) (values v r.input) old.words;
+  words = written (fired && enabled v (Some r.write)) (number (values v r.write_address)) (values v r.input) old.words;
   read_a = old.read_a;
   read_b = old.read_b;
 }
@@ -238,8 +238,8 @@ bit_source (pins c k) i = pin c (k + i)
 bit_source (bank cells) i = pin (get_or cells i 0) 0
 
 abbrev pub driver_in : Option WireRef → Driver
-driver_in none = nobody
-driver_in (some r) = bit_source r.source r.lowest
+driver_in None = nobody
+driver_in (Some r) = bit_source r.source r.lowest
 
 abbrev pub driver : List Slot → ℕ → Driver
 driver held w = driver_in (find w held 0)
@@ -344,8 +344,8 @@ all_bits [] = true
 all_bits (b ∷ l) = ltb b 2 && all_bits l
 
 abbrev pub fired_fits : Netlist → Option Fired → Bool
-fired_fits n none = true
-fired_fits n (some f) = ltb f.signal (signal_count n) && ltb f.edge 2
+fired_fits n None = true
+fired_fits n (Some f) = ltb f.signal (signal_count n) && ltb f.edge 2
 
 abbrev pub accepts : Netlist → Tick → Bool
 accepts n t = eqb (length t.bits) (tick_bits n.ports) && (all_bits t.bits && fired_fits n t.fired)

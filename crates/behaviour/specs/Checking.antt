@@ -1,6 +1,6 @@
 -- Rows of the computed tables, and what the definitions give for them.
 use Rattle.std.specs.Prelude.{List, [], map, Bool, false, ℕ}
-use Rattle.std.proofs.Math.Option.{Option, none, some}
+use Rattle.std.specs.Prelude.{Option, None, Some}
 use Rattle.bits.specs.Bits.{Bits, flat, number}
 use Rattle.netlist.specs.Reader.{Read, netlist, refused, read_words, base}
 use Rattle.behaviour.specs.WireMap.{WireRef, wire_map, signal_count}
@@ -9,10 +9,10 @@ use Rattle.behaviour.specs.LoopTest.{loop_free}
 
 -- a tick with no clock, and one that fires a signal's edge
 abbrev pub still : List ℕ → Tick
-still bits = record { bits = bits; fired = none }
+still bits = record { bits = bits; fired = None }
 
 abbrev pub fire : List ℕ → ℕ → ℕ → Tick
-fire bits signal edge = record { bits = bits; fired = some (record { signal = signal; edge = edge }) }
+fire bits signal edge = record { bits = bits; fired = Some (record { signal = signal; edge = edge }) }
 
 -- TICKS
 
@@ -44,8 +44,8 @@ pub record MapRow : Type 0 where
   pub entries : Entries
 
 abbrev pub entry : Option WireRef → Option (ℕ × ℕ × ℕ)
-entry none = none
-entry (some r) = some (r.signal, r.lowest, r.width)
+entry None = None
+entry (Some r) = Some (r.signal, r.lowest, r.width)
 
 abbrev pub map_read : Read → List ℕ → Entries
 map_read (netlist n) ws = record { signals = signal_count n; of = map (λ (w : ℕ). entry (wire_map n w)) ws }

@@ -1,7 +1,7 @@
 -- The wire map that the Rust holds in the end: for each wire the signal that holds it, its bit there and the signal's width.
 -- Signals are numbered as the Rust makes them: ports, outputs of cells in cell order, banks of flip-flops, zero, one, RAM words.
 use Rattle.std.specs.Prelude.{List, [], ◌∷◌, ◌++◌, map, Bool, true, false, ℕ, suc, ◌+◌, length, eqb}
-use Rattle.std.proofs.Math.Option.{Option, none, some}
+use Rattle.std.specs.Prelude.{Option, None, Some}
 use Rattle.bits.specs.Bits.{pick}
 use Rattle.netlist.specs.declared.Bit.{Bit}
 use Rattle.netlist.specs.declared.Bit.TheVariants.{Zero, One, Wire}
@@ -47,8 +47,8 @@ tick_bits (p ∷ l) = pick (eqb p.direction 1) (tick_bits l) (length p.bits + ti
 
 -- the place of a wire in a list of bits, counted from i
 abbrev pub place_of : ℕ → List Bit → ℕ → Option ℕ
-place_of w [] i = none
-place_of w (b ∷ l) i = pick (same_bit (Wire w) b) (some i) (place_of w l (suc i))
+place_of w [] i = None
+place_of w (b ∷ l) i = pick (same_bit (Wire w) b) (Some i) (place_of w l (suc i))
 
 -- an entry of the wire map
 pub record WireRef : Type 0 where
@@ -58,17 +58,17 @@ pub record WireRef : Type 0 where
   pub source : Source
 
 abbrev pub held_at : Option ℕ → Slot → ℕ → Option WireRef → Option WireRef
-held_at (some i) s n later = some (record { signal = n; lowest = i; width = length s.bits; source = s.source })
-held_at none s n later = later
+held_at (Some i) s n later = Some (record { signal = n; lowest = i; width = length s.bits; source = s.source })
+held_at None s n later = later
 
 -- the first slot that holds a wire, counted from n. (Where lowering accepts, no wire stands twice in the slots: 7.)
 abbrev pub find : ℕ → List Slot → ℕ → Option WireRef
-find w [] n = none
+find w [] n = None
 find w (s ∷ l) n = held_at (place_of w s.bits 0) s n (find w l (suc n))
 
 abbrev pub is_some : {A : Type 0} → Option A → Bool
-is_some none = false
-is_some (some a) = true
+is_some None = false
+is_some (Some a) = true
 
 -- CELLS: their outputs in cell order
 
@@ -82,8 +82,8 @@ abbrev pub together : ℕ → List ℕ → ℕ → List Slot
 together c ws k = record { source = pins c k; bits = map Wire ws } ∷ []
 
 abbrev pub second_slot : ℕ → ℕ → Option SecondPort → List Slot
-second_slot c k none = []
-second_slot c k (some p) = together c p.output k
+second_slot c k None = []
+second_slot c k (Some p) = together c p.output k
 
 -- the pins of a PLL, in the order in which they get signals
 abbrev pub pll_wires : Pll → List ℕ
@@ -127,13 +127,13 @@ abbrev pub wire_map : Netlist → ℕ → Option WireRef
 wire_map n w = find w (slots n) 0
 
 abbrev pub signal_in : Option WireRef → Option ℕ
-signal_in none = none
-signal_in (some r) = some r.signal
+signal_in None = None
+signal_in (Some r) = Some r.signal
 
 -- the signal that the map holds for a clock: zero and one come right after the slots. (A wire that is missing has none: 8.)
 abbrev pub clock_signal : List Slot → Bit → Option ℕ
-clock_signal held Zero = some (length held)
-clock_signal held One = some (suc (length held))
+clock_signal held Zero = Some (length held)
+clock_signal held One = Some (suc (length held))
 clock_signal held (Wire w) = signal_in (find w held 0)
 
 -- a RAM has one signal more for each of its words

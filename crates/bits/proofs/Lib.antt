@@ -1,2 +1,3 @@
--- The laws of bits.
+-- The laws of bits, and of options.
+pub mod Options
 pub mod TableBits

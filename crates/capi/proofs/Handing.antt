@@ -2,7 +2,8 @@
 use mathlib.Core.Path.{◌≡◌, refl, sym, ◌∙◌, ap, subst}
 use mathlib.Core.Bool.{Bool, true, false, ◌&&◌}
 use mathlib.Core.List.{List, [], ◌∷◌, ◌++◌, map}
-use mathlib.Core.Option.{Option, none, some, some-ne-none}
+use Rattle.std.specs.Prelude.{Option, None, Some}
+use Rattle.bits.proofs.Options.{some_ne_none}
 use Prim.Native.Nat.{ℕ, suc}
 use native.Mathlib.Omega.{arith}
 use lib.Dec.{eqb, leb, ltb}
@@ -114,77 +115,77 @@ module _ (words heads bits : List ℕ) (l : Lists) (works : List (List ℕ)) (by
 
 -- a tick: with an edge that there is not it is refused, for the model, a short buffer, or with 14
 
-or_short : (b : Bool) (p : ℕ) (rest rest' : Option (ℕ × ℕ)) → or_no_room_ran rest ≡ rest' → or_no_room_ran (or_else (only b (some (1, p))) rest) ≡ or_else (only b (some (1, p))) rest'
+or_short : (b : Bool) (p : ℕ) (rest rest' : Option (ℕ × ℕ)) → or_no_room_ran rest ≡ rest' → or_no_room_ran (or_else (only b (Some (1, p))) rest) ≡ or_else (only b (Some (1, p))) rest'
 or_short true p rest rest' h = refl
 or_short false p rest rest' h = h
 
-or_14 : (t : Bool) (p : ℕ) (o rest : Option (ℕ × ℕ)) → or_no_room_ran (or_else o rest) ≡ some (1, 8) → or_no_room_ran (or_else (pick t o (some (14, p))) rest) ≡ some (1, 8)
+or_14 : (t : Bool) (p : ℕ) (o rest : Option (ℕ × ℕ)) → or_no_room_ran (or_else o rest) ≡ Some (1, 8) → or_no_room_ran (or_else (pick t o (Some (14, p))) rest) ≡ Some (1, 8)
 or_14 true p o rest h = h
 or_14 false p o rest h = refl
 
-or_bit : (i : ℕ) (bytes : List ℕ) (rest : Option (ℕ × ℕ)) → or_no_room_ran rest ≡ some (1, 8) → or_no_room_ran (or_else (no_bit i bytes) rest) ≡ some (1, 8)
+or_bit : (i : ℕ) (bytes : List ℕ) (rest : Option (ℕ × ℕ)) → or_no_room_ran rest ≡ Some (1, 8) → or_no_room_ran (or_else (no_bit i bytes) rest) ≡ Some (1, 8)
 or_bit i [] rest h = h
 or_bit i (b ∷ bytes) rest h = or_14 (leb b 1) i (no_bit (suc i) bytes) rest (or_bit (suc i) bytes rest h)
 
-or_loop : (o : Option ℕ) → or_no_room_ran (or_else (on_loop o) none) ≡ some (1, 8)
-or_loop none = refl
-or_loop (some s) = refl
+or_loop : (o : Option ℕ) → or_no_room_ran (or_else (on_loop o) None) ≡ Some (1, 8)
+or_loop None = refl
+or_loop (Some s) = refl
 
 module _ (l : Lists) (bytes ticks wb we ws : List ℕ) (g : Option (ℕ × ℕ)) where
   abbrev tick : Option (ℕ × ℕ) → Call
   tick o = call_of l bytes ticks o wb we ws
 
-  no_edge : answer largest (tick (some (0, 2))) ≡ none → ⊥
-  no_edge h = go (ltb 0 (length (call_model (tick g)).signals)) (accepted_good largest (tick (some (0, 2))) h).right_fired
+  no_edge : answer largest (tick (Some (0, 2))) ≡ None → ⊥
+  no_edge h = go (ltb 0 (length (call_model (tick g)).signals)) (accepted_good largest (tick (Some (0, 2))) h).right_fired
     where
-      go : (b : Bool) → ◌≡◌ {A = Option (ℕ × ℕ)} (pick (b && leb 2 1) none (some (14, 0))) none → ⊥
-      go true e = some-ne-none (14, 0) e
-      go false e = some-ne-none (14, 0) e
+      go : (b : Bool) → ◌≡◌ {A = Option (ℕ × ℕ)} (pick (b && leb 2 1) None (Some (14, 0))) None → ⊥
+      go true e = some_ne_none (14, 0) e
+      go false e = some_ne_none (14, 0) e
 
   abbrev verdict_for : Bool → Model → Option ℕ → Option (ℕ × ℕ)
-  verdict_for b m (some n) = some (12, n)
-  verdict_for b m none = first_of (take 4 (causes m (tick g)) ++ (only b (some (1, 8)) ∷ drop 4 (causes m (tick g))))
+  verdict_for b m (Some n) = Some (12, n)
+  verdict_for b m None = first_of (take 4 (causes m (tick g)) ++ (only b (Some (1, 8)) ∷ drop 4 (causes m (tick g))))
 
-  answer_is : (b : Bool) → pick b (or_no_room_ran (answer largest (tick (pick b (some (0, 2)) g)))) (answer largest (tick (pick b (some (0, 2)) g))) ≡ verdict_for b (call_model (tick g)) (malformed largest l)
+  answer_is : (b : Bool) → pick b (or_no_room_ran (answer largest (tick (pick b (Some (0, 2)) g)))) (answer largest (tick (pick b (Some (0, 2)) g))) ≡ verdict_for b (call_model (tick g)) (malformed largest l)
   unfolding answer refusal
   answer_is false = go (malformed largest l)
     where
       go : (o : Option ℕ) → verdict (call_model (tick g)) (tick g) o ≡ verdict_for false (call_model (tick g)) o
-      go (some n) = refl
-      go none = refl
+      go (Some n) = refl
+      go None = refl
   answer_is true = go (call_model (tick g)) (malformed largest l)
     where
-      go : (m : Model) (o : Option ℕ) → or_no_room_ran (verdict m (tick (some (0, 2))) o) ≡ verdict_for true m o
-      go m (some n) = refl
-      go m none =
+      go : (m : Model) (o : Option ℕ) → or_no_room_ran (verdict m (tick (Some (0, 2))) o) ≡ verdict_for true m o
+      go m (Some n) = refl
+      go m None =
           or_short (ltb (length bytes) (signal_bytes m)) _ _ _
           (or_short (ltb (length wb) (expr_bits m)) _ _ _
           (or_short (ltb (length we) (length m.exprs)) _ _ _
           (or_short (ltb (length ws) (length m.signals)) _ _ _
           (or_bit 0 (take (signal_bytes m) bytes) _
-          (or_14 (eqb (length ticks) (tick_bits m)) _ none _
+          (or_14 (eqb (length ticks) (tick_bits m)) _ None _
           (or_bit 0 ticks _
-          (or_14 (ltb 0 (length m.signals) && leb 2 1) _ none _
+          (or_14 (ltb 0 (length m.signals) && leb 2 1) _ None _
           (or_loop (looped m)))))))))
 
   verdict_is : (buffer : List ℕ) (o : Option ℕ) → verdict_for (ltb (length buffer) 8) (call_model (tick g)) o ≡ handed.run_verdict (tick g) buffer o
-  verdict_is buffer (some n) = refl
-  verdict_is buffer none = refl
+  verdict_is buffer (Some n) = refl
+  verdict_is buffer None = refl
 
-  bytes_are : (b : Bool) → (run largest (tick (pick b (some (0, 2)) g))).bytes ≡ bytes_after (tick g) (pick b (or_no_room_ran (answer largest (tick (pick b (some (0, 2)) g)))) (answer largest (tick (pick b (some (0, 2)) g))))
+  bytes_are : (b : Bool) → (run largest (tick (pick b (Some (0, 2)) g))).bytes ≡ bytes_after (tick g) (pick b (or_no_room_ran (answer largest (tick (pick b (Some (0, 2)) g)))) (answer largest (tick (pick b (Some (0, 2)) g))))
   unfolding run
   bytes_are false = refl
-  bytes_are true = go (answer largest (tick (some (0, 2)))) refl
+  bytes_are true = go (answer largest (tick (Some (0, 2)))) refl
     where
-      kept : (t : Bool) (r : ℕ × ℕ) → bytes ≡ bytes_after (tick g) (pick t (some r) (some (1, 8)))
+      kept : (t : Bool) (r : ℕ × ℕ) → bytes ≡ bytes_after (tick g) (pick t (Some r) (Some (1, 8)))
       kept true r = refl
       kept false r = refl
 
-      go : (o : Option (ℕ × ℕ)) → answer largest (tick (some (0, 2))) ≡ o → bytes_after (tick (some (0, 2))) o ≡ bytes_after (tick g) (or_no_room_ran o)
-      go none e = absurd (no_edge e)
-      go (some r) e = kept (ltb r.0 13) r
+      go : (o : Option (ℕ × ℕ)) → answer largest (tick (Some (0, 2))) ≡ o → bytes_after (tick (Some (0, 2))) o ≡ bytes_after (tick g) (or_no_room_ran o)
+      go None e = absurd (no_edge e)
+      go (Some r) e = kept (ltb r.0 13) r
 
-  pub ran_by : (buffer : List ℕ) {f x : Option (ℕ × ℕ)} {code : ℕ} {r : s.Ran} {bytes' wb' we' ws' buffer' : List ℕ} → f ≡ pick (ltb (length buffer) 8) (some (0, 2)) g
+  pub ran_by : (buffer : List ℕ) {f x : Option (ℕ × ℕ)} {code : ℕ} {r : s.Ran} {bytes' wb' we' ws' buffer' : List ℕ} → f ≡ pick (ltb (length buffer) 8) (Some (0, 2)) g
       → Runs (call_of l bytes ticks f wb we ws) r bytes' wb' we' ws' → x ≡ pick (ltb (length buffer) 8) (or_no_room_ran (ran_of r)) (ran_of r) → Hands (refusal_numbers x) buffer code buffer'
       → HandsRan (call_of l bytes ticks g wb we ws) buffer code bytes' wb' we' ws' buffer'
   unfolding run

@@ -1,6 +1,6 @@
 -- Answers as numbers, for other languages.
 use Rattle.std.specs.Prelude.{Bool, false, List, [], ◌∷◌, ◌++◌, map, ◌≡◌, ℕ, ◌≤◌, eqb, ltb, length, get_or, take, drop}
-use Rattle.std.proofs.Math.Option.{Option, none, some}
+use Rattle.std.specs.Prelude.{Option, None, Some}
 use Rattle.std.proofs.lemmas.List.Edits.{sets}
 use Rattle.bits.specs.Bits.{pick}
 use Rattle.netlist.specs.Reader.{base}
@@ -16,8 +16,8 @@ use Rattle.simulator.specs.Entry as e
 
 -- number and place of a refusal, or zeros
 abbrev pub refusal_numbers : Option (ℕ × ℕ) → List ℕ
-refusal_numbers none = 0 ∷ 0 ∷ []
-refusal_numbers (some r) = r.0 ∷ r.1 ∷ []
+refusal_numbers None = 0 ∷ 0 ∷ []
+refusal_numbers (Some r) = r.0 ∷ r.1 ∷ []
 
 -- the same, and behind the zeros each list's records and words used
 abbrev pub numbers_of : Lowered → List ℕ
@@ -58,8 +58,8 @@ abbrev pub run_causes : Model → Call → List ℕ → List (Option (ℕ × ℕ
 run_causes m k buffer = take 4 (causes m k) ++ (short 8 buffer ∷ drop 4 (causes m k))
 
 abbrev pub run_verdict : Call → List ℕ → Option ℕ → Option (ℕ × ℕ)
-run_verdict k buffer (some n) = some (12, n)
-run_verdict k buffer none = first_of (run_causes (call_model k) k buffer)
+run_verdict k buffer (Some n) = Some (12, n)
+run_verdict k buffer None = first_of (run_causes (call_model k) k buffer)
 
 abbrev pub run_answer : Call → List ℕ → Option (ℕ × ℕ)
 run_answer k buffer = run_verdict k buffer (malformed largest k.lists)
@@ -78,5 +78,5 @@ or_no_room (Accepted t) = Refused 1 8
 or_no_room (Refused number place) = pick (eqb number 1) (Refused number place) (Refused 1 8)
 
 abbrev pub or_no_room_ran : Option (ℕ × ℕ) → Option (ℕ × ℕ)
-or_no_room_ran none = some (1, 8)
-or_no_room_ran (some r) = pick (ltb r.0 13) (some r) (some (1, 8))
+or_no_room_ran None = Some (1, 8)
+or_no_room_ran (Some r) = pick (ltb r.0 13) (Some r) (Some (1, 8))

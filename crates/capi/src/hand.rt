@@ -1,6 +1,6 @@
 // Answers as numbers in a lent buffer.
 ghost use Rattle.std.specs.Prelude.{◌≡◌, ltb, set, ◌+◌};
-ghost use Rattle.std.proofs.Math.Option.{some};
+ghost use Rattle.std.specs.Prelude.{Some};
 ghost use Rattle.bits.specs.Bits.{pick};
 ghost use Rattle.simulation.specs.Run.{answer_of as ran_of, fired_of};
 ghost use Rattle.converter.specs.Entry.{answer_of};
@@ -46,7 +46,7 @@ pub fn words_for(room: usize, n: usize) -> usize
 
 // What fires: where the call is refused for want of room, an edge that there is not.
 pub fn fired_for(room: usize, fired: Fired) -> Fired
-    ensures { fired_of result ≡ pick (ltb room 8) (some (0, 2)) (fired_of fired) }
+    ensures { fired_of result ≡ pick (ltb room 8) (Some (0, 2)) (fired_of fired) }
 {
     if room < ROOM {
         return Fired::Edge(SignalId(0), 2);

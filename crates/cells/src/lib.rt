@@ -9,7 +9,6 @@ use recorder::{ExprId, Tapes};
 use refusal::Refusal;
 
 // Four inputs, read.
-#[derive(Drop)]
 #[derive(Clone, Copy)]
 pub enum Read4 {
     Done(ExprId, ExprId, ExprId, ExprId, Tapes),

@@ -4,7 +4,7 @@ use mathlib.Core.Path.{◌≡◌, refl, sym, ◌∙◌, ap, ap₂, subst}
 use mathlib.Core.Logic.{◌⊎◌, inl, inr}
 use mathlib.Core.Bool.{Bool, true, false, ◌&&◌}
 use mathlib.Core.List.{List, [], ◌∷◌, ◌++◌, map, append_assoc}
-use mathlib.Core.Option.{none}
+use Rattle.std.specs.Prelude.{None}
 use native.Mathlib.Omega.{arith}
 use native.Mathlib.Nat.{not-suc-le-zero}
 use native.Mathlib.Decide.{ℕ_discrete}
@@ -176,7 +176,7 @@ module _ {signals exprs stmts expr_table signal_table : List ℕ} (p : Prepared 
   settled_wide : (old : List Bits) → Wide (widths_in exprs) (values_in (model_in signals exprs stmts) (settle (model_in signals exprs stmts) old))
   settled_wide old = wide_from (widths_in exprs) (values_in m (settle m old)) (omega (arith, length_all (at [] (settle m old)) m.exprs [], exprs_are, length_widths exprs)) (λ i q. values_width p.widest m (is_sound p) (at [] (settle m old)) i (omega (arith, exprs_are, length_widths exprs)) ∙ ap (λ (l : List ℕ). get_or l i 0) (sym (exprs_wide p)))
 
-  module _ {bytes : List ℕ} (q : looped (model_in signals exprs stmts) ≡ none) where
+  module _ {bytes : List ℕ} (q : looped (model_in signals exprs stmts) ≡ None) where
     settled_agrees : (old : List Bits) (behind : List ℕ) → Holds (widths_in signals) old behind bytes → Consistent (model_in signals exprs stmts) old (values_in (model_in signals exprs stmts) (settle (model_in signals exprs stmts) old))
     settled_agrees old behind h = settled_consistent p.widest m old (is_sound p) (holds_length h ∙ length_widths signals ∙ sym (signals_count p.widest (lists signals exprs stmts) p.faultless)) q
 

@@ -1,7 +1,7 @@
 -- How code is made: along an order of all expressions, one that is wanted becomes the next code word if what it is computed from is known.
 -- Marks and bytes note what is known: an expression that is a code word is marked, and each of its positions is 1.
 use Rattle.std.specs.Prelude.{ℕ, ◌+◌, ◌*◌, ◌≤◌, ◌<◌, ◌≡◌, true, ◌⊎◌, List, length, get_or, take, drop}
-use Rattle.std.proofs.Math.Option.{some}
+use Rattle.std.specs.Prelude.{Some}
 use Rattle.simulation.specs.Tick.{given, assigns}
 use Rattle.simulation.specs.Index.{stmts_in}
 use Rattle.ordering.specs.Marks.{marked}
@@ -27,7 +27,7 @@ pub record MarksLoaded (stmts marks : List ℕ) : Type 0 where
 
 -- all that is assigned to the signals of a list is marked
 pub record MarksDrivers (stmts list : List ℕ) (from k : ℕ) (marks : List ℕ) : Type 0 where
-  pub marks_drivers : (s d : ℕ) → Among list from k s → given assigns (stmts_in stmts) s ≡ some d → marked marks d ≡ true
+  pub marks_drivers : (s d : ℕ) → Among list from k s → given assigns (stmts_in stmts) s ≡ Some d → marked marks d ≡ true
 
 module _ (signals exprs stmts : List ℕ) where
   -- k code words are made, from a word on

@@ -3,7 +3,7 @@ use Prim.Native.Nat.{ℕ, suc, ◌+◌, ◌-◌, ◌*◌, ◌≤◌, ◌<◌}
 use mathlib.Core.Path.{◌≡◌, refl, sym, ◌∙◌, ap, ap₂}
 use mathlib.Core.Bool.{Bool, true, false}
 use mathlib.Core.List.{List, [], ◌∷◌, ◌++◌, append_assoc}
-use mathlib.Core.Option.{none, some}
+use Rattle.std.specs.Prelude.{None, Some}
 use native.Mathlib.Nat.{add-zero}
 use native.Mathlib.Numerals.{add-one}
 use native.Mathlib.Omega.{arith}
@@ -110,7 +110,7 @@ four_at s at h =
 
 -- THE LOWEST
 
-few_none : (i : ℕ) (l : List ℕ) → length l < 4 → lowest_from i l ≡ none
+few_none : (i : ℕ) (l : List ℕ) → length l < 4 → lowest_from i l ≡ None
 unfolding lowest_from
 few_none i [] h = refl
 few_none i (a ∷ []) h = refl
@@ -118,27 +118,27 @@ few_none i (a ∷ b ∷ []) h = refl
 few_none i (a ∷ b ∷ c ∷ []) h = refl
 few_none i (a ∷ b ∷ c ∷ d ∷ l) h = absurd (omega arith)
 
-pub lowest_end : (s : List ℕ) (i at : ℕ) → length s < at + 4 → none ≡ lowest_from i (drop at s)
+pub lowest_end : (s : List ℕ) (i at : ℕ) → length s < at + 4 → None ≡ lowest_from i (drop at s)
 lowest_end s i at h = sym (few_none i (drop at s) (omega (arith, length-drop at s)))
 
 module _ (s : List ℕ) (i at n : ℕ) (h : at + 4 ≤ length s) (e : n ≡ get_or s at 0) where
-  lowest_at : lowest_from i (drop at s) ≡ pick (ltb n 4) none (pick (exceeds n (get_or s (at + 1) 0)) (some i) (lowest_from (i + 1) (drop (at + 4) s)))
+  lowest_at : lowest_from i (drop at s) ≡ pick (ltb n 4) None (pick (exceeds n (get_or s (at + 1) 0)) (Some i) (lowest_from (i + 1) (drop (at + 4) s)))
   unfolding lowest_from
   lowest_at =
       ap (lowest_from i) (four_at s at h)
-      ∙ ap₂ (λ (k j : ℕ). pick (ltb k 4) none (pick (exceeds k (get_or s (at + 1) 0)) (some i) (lowest_from j (drop (at + 4) s)))) (sym e) (sym (add-one i))
+      ∙ ap₂ (λ (k j : ℕ). pick (ltb k 4) None (pick (exceeds k (get_or s (at + 1) 0)) (Some i) (lowest_from j (drop (at + 4) s)))) (sym e) (sym (add-one i))
 
-  pub lowest_few : n < 4 → none ≡ lowest_from i (drop at s)
-  lowest_few q = sym (lowest_at ∙ ap (λ (b : Bool). pick b none (pick (exceeds n (get_or s (at + 1) 0)) (some i) (lowest_from (i + 1) (drop (at + 4) s)))) (lt-ltb n 4 q))
+  pub lowest_few : n < 4 → None ≡ lowest_from i (drop at s)
+  lowest_few q = sym (lowest_at ∙ ap (λ (b : Bool). pick b None (pick (exceeds n (get_or s (at + 1) 0)) (Some i) (lowest_from (i + 1) (drop (at + 4) s)))) (lt-ltb n 4 q))
 
-  past : 4 ≤ n → lowest_from i (drop at s) ≡ pick (exceeds n (get_or s (at + 1) 0)) (some i) (lowest_from (i + 1) (drop (at + 4) s))
-  past q = lowest_at ∙ ap (λ (b : Bool). pick b none (pick (exceeds n (get_or s (at + 1) 0)) (some i) (lowest_from (i + 1) (drop (at + 4) s)))) (le-ltb n 4 q)
+  past : 4 ≤ n → lowest_from i (drop at s) ≡ pick (exceeds n (get_or s (at + 1) 0)) (Some i) (lowest_from (i + 1) (drop (at + 4) s))
+  past q = lowest_at ∙ ap (λ (b : Bool). pick b None (pick (exceeds n (get_or s (at + 1) 0)) (Some i) (lowest_from (i + 1) (drop (at + 4) s)))) (le-ltb n 4 q)
 
-  pub lowest_here : 4 ≤ n → exceeds n (get_or s (at + 1) 0) ≡ true → some i ≡ lowest_from i (drop at s)
-  lowest_here q t = sym (past q ∙ ap (λ (b : Bool). pick b (some i) (lowest_from (i + 1) (drop (at + 4) s))) t)
+  pub lowest_here : 4 ≤ n → exceeds n (get_or s (at + 1) 0) ≡ true → Some i ≡ lowest_from i (drop at s)
+  lowest_here q t = sym (past q ∙ ap (λ (b : Bool). pick b (Some i) (lowest_from (i + 1) (drop (at + 4) s))) t)
 
   pub lowest_next : 4 ≤ n → exceeds n (get_or s (at + 1) 0) ≡ false → lowest_from (i + 1) (drop (at + 4) s) ≡ lowest_from i (drop at s)
-  lowest_next q t = sym (past q ∙ ap (λ (b : Bool). pick b (some i) (lowest_from (i + 1) (drop (at + 4) s))) t)
+  lowest_next q t = sym (past q ∙ ap (λ (b : Bool). pick b (Some i) (lowest_from (i + 1) (drop (at + 4) s))) t)
 
 -- BACK TO 4: what stands before an index, and the rest restored
 

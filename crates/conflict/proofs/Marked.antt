@@ -3,7 +3,7 @@ use Prim.Native.Nat.{ℕ, zero, suc, ◌+◌, ◌-◌, ◌*◌, ◌<◌}
 use mathlib.Core.Path.{◌≡◌, refl, sym, ◌∙◌, ap, ap₂, fun_ext}
 use mathlib.Core.Bool.{Bool, true, false}
 use mathlib.Core.List.{List, [], ◌∷◌, ◌++◌, map, tail, append_assoc}
-use mathlib.Core.Option.{Option, none, some}
+use Rattle.std.specs.Prelude.{Option, None, Some}
 use native.Mathlib.Nat.{add-zero, zero-add, add_assoc}
 use native.Mathlib.Omega.{arith}
 use lib.Dec.{eqb, ltb, leb}
@@ -130,7 +130,7 @@ mark_four zero = refl
 mark_four (suc zero) = refl
 mark_four (suc (suc n)) = refl
 
-zeros_none : (k i : ℕ) → lowest_from i (replicate k 0) ≡ none
+zeros_none : (k i : ℕ) → lowest_from i (replicate k 0) ≡ None
 unfolding lowest_from
 zeros_none zero i = refl
 zeros_none (suc zero) i = refl
@@ -144,9 +144,9 @@ lowest_marked k ts [] i = zeros_none k i
 lowest_marked k ts (x ∷ xs) i =
     let n = statements_on i ts in
     let left = lowest_from (suc i) (marked (λ s. statements_on s ts) (suc i) xs ++ replicate k 0) in
-    ap (λ (b : Bool). pick b none (pick (exceeds (mark n) x.label) (some i) left)) (mark_four n)
-    ∙ exceeds_mark n x.label (some i) left
-    ∙ ap (λ (o : Option ℕ). pick (leb n (allowed x)) o (some i)) (lowest_marked k ts xs (suc i))
+    ap (λ (b : Bool). pick b None (pick (exceeds (mark n) x.label) (Some i) left)) (mark_four n)
+    ∙ exceeds_mark n x.label (Some i) left
+    ∙ ap (λ (o : Option ℕ). pick (leb n (allowed x)) o (Some i)) (lowest_marked k ts xs (suc i))
 
 -- BACK
 

@@ -1,6 +1,6 @@
 -- How the statements are counted: in the first words of the signals' records. What `overdriven` answers and leaves, whatever the words.
 use Rattle.std.specs.Prelude.{Bool, List, [], ◌∷◌, ℕ, suc, ◌*◌, eqb, ltb, get_or, set}
-use Rattle.std.proofs.Math.Option.{Option, none, some}
+use Rattle.std.specs.Prelude.{Option, None, Some}
 use Rattle.bits.specs.Bits.{pick}
 use Rattle.recorder.specs.Read.{split}
 
@@ -26,11 +26,11 @@ exceeds count label = ltb (pick (eqb label 0) 4 5) count
 
 -- the lowest with too many, the records being numbered from i on
 unfoldable pub lowest_from : ℕ → List ℕ → Option ℕ
-lowest_from i [] = none
-lowest_from i (n ∷ []) = none
-lowest_from i (n ∷ l ∷ []) = none
-lowest_from i (n ∷ l ∷ w ∷ []) = none
-lowest_from i (n ∷ l ∷ w ∷ o ∷ ws) = pick (ltb n 4) none (pick (exceeds n l) (some i) (lowest_from (suc i) ws))
+lowest_from i [] = None
+lowest_from i (n ∷ []) = None
+lowest_from i (n ∷ l ∷ []) = None
+lowest_from i (n ∷ l ∷ w ∷ []) = None
+lowest_from i (n ∷ l ∷ w ∷ o ∷ ws) = pick (ltb n 4) None (pick (exceeds n l) (Some i) (lowest_from (suc i) ws))
 
 unfoldable pub restored : List ℕ → List ℕ
 restored [] = []

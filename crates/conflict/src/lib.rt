@@ -14,7 +14,6 @@ use netlist::fields::wide;
 use recorder::Cut;
 use recorder::read::{cut, word};
 
-#[derive(Drop)]
 #[derive(Clone, Copy)]
 pub enum Conflict {
     Absent,

@@ -2,7 +2,7 @@
 use mathlib.Core.Path.{◌≡◌, refl, ap, sym, ◌∙◌, subst}
 use mathlib.Core.Bool.{Bool, true, false}
 use mathlib.Core.List.{List, [], ◌∷◌, ◌++◌}
-use mathlib.Core.Option.{Option, none, some}
+use Rattle.std.specs.Prelude.{Option, None, Some}
 use Prim.Native.Nat.{ℕ, suc, ◌+◌, ◌≤◌, ◌<◌, min}
 use native.Mathlib.Nat.{add-zero, add-suc, suc-add}
 use native.Mathlib.Numerals.{add-one}
@@ -26,8 +26,8 @@ use Rattle.converter.proofs.Reserving.{place_start, place_step}
 use Rattle.converter.specs.Banked.{larger, Keyed, number_of, number_in, with_cell, JoinedBank, Joins, Collected, Work}
 
 also_append : (o : Option FlipFlop) (c : ℕ) (xs ys : List Member) → also o c (xs ++ ys) ≡ also o c xs ++ ys
-also_append none c xs ys = refl
-also_append (some f) c xs ys = refl
+also_append None c xs ys = refl
+also_append (Some f) c xs ys = refl
 
 flops_append : (xs ys : List Cell) (c : ℕ) → flip_flops_from (xs ++ ys) c ≡ flip_flops_from xs c ++ flip_flops_from ys (c + length xs)
 unfolding flip_flops_from
@@ -61,12 +61,12 @@ joined_stays ls m f h = go (ltb (bank_in ls m.flop) (length ls))
 
 number_stays : (ls : List Member) (c : ℕ) (x : Cell) (o : Option FlipFlop) → number_of ls o ≤ length ls → number_of (with_cell ls c x) o ≡ number_of ls o
 unfolding leaders_from
-number_stays ls c x none h = refl
-number_stays ls c x (some f) h = ap suc (go (flip_flop_of x))
+number_stays ls c x None h = refl
+number_stays ls c x (Some f) h = ap suc (go (flip_flop_of x))
   where
     go : (y : Option FlipFlop) → bank_in (leaders_from ls (also y c [])) f ≡ bank_in ls f
-    go none = refl
-    go (some g) = joined_stays ls (record { cell = c; flop = g }) f (omega arith)
+    go None = refl
+    go (Some g) = joined_stays ls (record { cell = c; flop = g }) f (omega arith)
 
 -- at most one bank more
 with_long : (ls : List Member) (c : ℕ) (x : Cell) → length (with_cell ls c x) ≤ length ls + 1
@@ -78,8 +78,8 @@ with_long ls c x = go (flip_flop_of x)
     most m false = omega (arith, length-append ls (m ∷ []))
 
     go : (y : Option FlipFlop) → length (leaders_from ls (also y c [])) ≤ length ls + 1
-    go none = omega arith
-    go (some g) = most (record { cell = c; flop = g }) (ltb (bank_in ls g) (length ls))
+    go None = omega arith
+    go (Some g) = most (record { cell = c; flop = g }) (ltb (bank_in ls g) (length ls))
 
 larger_both : (a b : ℕ) → (a ≤ larger a b) × (b ≤ larger a b)
 larger_both a b = go (ltb a b) refl

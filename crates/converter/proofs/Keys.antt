@@ -2,7 +2,7 @@
 use mathlib.Core.Path.{◌≡◌, refl, ap, ap₂, sym, ◌∙◌, subst}
 use mathlib.Core.Bool.{Bool, true, false, ◌&&◌}
 use mathlib.Core.List.{List, [], ◌∷◌, ◌++◌}
-use mathlib.Core.Option.{Option, none, some}
+use Rattle.std.specs.Prelude.{Option, None, Some}
 use Prim.Native.Nat.{ℕ, zero, suc, ◌+◌, ◌-◌, ◌*◌, ◌≤◌, ◌<◌}
 use native.Mathlib.Nat.{add-zero, add-suc, suc-add, zero-add}
 use native.Mathlib.Numerals.{add-one}
@@ -75,34 +75,34 @@ same_clock a b x y p q =
     (λ h. let t = split (word_of a) (word_of b) x y p q (eqb-true (word_of a * 2 + x) (word_of b * 2 + y) h) in both_true (subst (λ (z : Bit). same_bit a z ≡ true) (word_same a b t.0) (same_bit_self a)) (eq-eqb x y t.1))
 
 -- an asynchronous reset is one
-async_one : (o : Option Reset) (r : Reset) → filter_async o ≡ some r → r.asynchronous ≡ 1
-async_one none r e = let z : ◌≡◌ {A = ℕ} 0 1 = cc in absurd (omega arith)
-async_one (some q) r e = go (eqb q.asynchronous 1) refl e
+async_one : (o : Option Reset) (r : Reset) → filter_async o ≡ Some r → r.asynchronous ≡ 1
+async_one None r e = let z : ◌≡◌ {A = ℕ} 0 1 = cc in absurd (omega arith)
+async_one (Some q) r e = go (eqb q.asynchronous 1) refl e
   where
-    go : (b : Bool) → eqb q.asynchronous 1 ≡ b → pick b (some q) none ≡ some r → r.asynchronous ≡ 1
+    go : (b : Bool) → eqb q.asynchronous 1 ≡ b → pick b (Some q) None ≡ Some r → r.asynchronous ≡ 1
     go true h e = let z : q ≡ r = cc in sym (ap (λ (x : Reset). x.asynchronous) z) ∙ eqb-true q.asynchronous 1 h
     go false h e = let z : ◌≡◌ {A = ℕ} 0 1 = cc in absurd (omega arith)
 
 fits_async : (limits : Limits) (o : Option Reset) → FitsOption (FitsReset limits) o → FitsOption (FitsReset limits) (filter_async o)
-fits_async limits none h = tt
-fits_async limits (some r) h = go (eqb r.asynchronous 1)
+fits_async limits None h = tt
+fits_async limits (Some r) h = go (eqb r.asynchronous 1)
   where
-    go : (b : Bool) → FitsOption (FitsReset limits) (pick b (some r) none)
+    go : (b : Bool) → FitsOption (FitsReset limits) (pick b (Some r) None)
     go true = h
     go false = tt
 
-same_control : (limits : Limits) (o p : Option Reset) → FitsOption (FitsReset limits) o → FitsOption (FitsReset limits) p → ((r : Reset) → o ≡ some r → r.asynchronous ≡ 1) → ((r : Reset) → p ≡ some r → r.asynchronous ≡ 1) → same_reset_control o p ≡ eqb (control_key o) (control_key p)
-same_control limits none none f g x y = sym (eq-eqb 0 0 refl)
-same_control limits none (some r) f g x y = sym (ne_eqb 0 (control_key (some r)) (λ e. omega (arith, e)))
-same_control limits (some q) none f g x y = sym (ne_eqb (control_key (some q)) 0 (λ e. omega (arith, e)))
-same_control limits (some q) (some r) f g x y =
+same_control : (limits : Limits) (o p : Option Reset) → FitsOption (FitsReset limits) o → FitsOption (FitsReset limits) p → ((r : Reset) → o ≡ Some r → r.asynchronous ≡ 1) → ((r : Reset) → p ≡ Some r → r.asynchronous ≡ 1) → same_reset_control o p ≡ eqb (control_key o) (control_key p)
+same_control limits None None f g x y = sym (eq-eqb 0 0 refl)
+same_control limits None (Some r) f g x y = sym (ne_eqb 0 (control_key (Some r)) (λ e. omega (arith, e)))
+same_control limits (Some q) None f g x y = sym (ne_eqb (control_key (Some q)) 0 (λ e. omega (arith, e)))
+same_control limits (Some q) (Some r) f g x y =
     let a : q.asynchronous ≡ r.asynchronous = x q refl ∙ sym (y r refl) in
     ap (λ (b : Bool). same_bit q.signal r.signal && (eqb q.active r.active && b)) (eq-eqb q.asynchronous r.asynchronous a)
     ∙ ap (λ (b : Bool). same_bit q.signal r.signal && b) (and_true (eqb q.active r.active))
     ∙ same_clock q.signal r.signal q.active r.active f.active g.active
-    ∙ same_test (eqb (word_of q.signal * 2 + q.active) (word_of r.signal * 2 + r.active)) (eqb (control_key (some q)) (control_key (some r)))
-    (λ h. eq-eqb (control_key (some q)) (control_key (some r)) (ap suc (eqb-true (word_of q.signal * 2 + q.active) (word_of r.signal * 2 + r.active) h)))
-    (λ h. eq-eqb (word_of q.signal * 2 + q.active) (word_of r.signal * 2 + r.active) (down (eqb-true (control_key (some q)) (control_key (some r)) h)))
+    ∙ same_test (eqb (word_of q.signal * 2 + q.active) (word_of r.signal * 2 + r.active)) (eqb (control_key (Some q)) (control_key (Some r)))
+    (λ h. eq-eqb (control_key (Some q)) (control_key (Some r)) (ap suc (eqb-true (word_of q.signal * 2 + q.active) (word_of r.signal * 2 + r.active) h)))
+    (λ h. eq-eqb (word_of q.signal * 2 + q.active) (word_of r.signal * 2 + r.active) (down (eqb-true (control_key (Some q)) (control_key (Some r)) h)))
   where
     and_true : (b : Bool) → b && true ≡ b
     and_true true = refl
@@ -123,7 +123,7 @@ same_keys limits l f p q =
 
 -- THE KEY OF A RESET
 
-present : {A : Type 0} (n : ℕ) (a : A) → (n ≡ 0 → ⊥) → when_set n a ≡ some a
+present : {A : Type 0} (n : ℕ) (a : A) → (n ≡ 0 → ⊥) → when_set n a ≡ Some a
 present zero a h = absurd (h refl)
 present (suc n) a h = refl
 
@@ -144,11 +144,11 @@ module _ (words : List ℕ) (i : ℕ) where
   reset_absent e z = sym (ap (λ (n : ℕ). control_key (filter_async (when_set n reset))) (sym e ∙ z))
 
   module _ {f y : ℕ} (e : f ≡ word_at words (i + 8)) (there : f ≡ 0 → ⊥) (d : y ≡ word_at words (i + 11)) where
-    is : optional_reset_at words (i + 8) ≡ some reset
+    is : optional_reset_at words (i + 8) ≡ Some reset
     is = present (word_at words (i + 8)) reset (λ z. there (e ∙ z))
 
     pub reset_sync : (y ≡ 1 → ⊥) → 0 ≡ reset_key (flop_at words i)
-    reset_sync n = sym (ap (λ (o : Option Reset). control_key (filter_async o)) is ∙ ap (λ (b : Bool). control_key (pick b (some reset) none)) (ne_eqb (word_at words (i + 8 + 1 + 2)) 1 (λ q. n (d ∙ sym eleven ∙ q))))
+    reset_sync n = sym (ap (λ (o : Option Reset). control_key (filter_async o)) is ∙ ap (λ (b : Bool). control_key (pick b (Some reset) None)) (ne_eqb (word_at words (i + 8 + 1 + 2)) 1 (λ q. n (d ∙ sym eleven ∙ q))))
 
     pub reset_async : y ≡ 1 → {s a k : ℕ} → s ≡ word_at words (i + 9) → a ≡ word_at words (i + 10) → KeyOf s a k → (limits : Limits) → limits.wires < 1000000000 → FitsFlipFlop limits (flop_at words i) → k + 1 ≡ reset_key (flop_at words i)
     reset_async one {s} {a} {k} p q h limits small fits =
@@ -157,7 +157,7 @@ module _ (words : List ℕ) (i : ℕ) where
         let c : a < 2 = subst (λ (n : ℕ). n < 2) (ten ∙ sym q) r.active in
         let key : k ≡ s * 2 + a = h.is b c in
         add-one k ∙ ap suc (key ∙ ap₂ (λ (m n : ℕ). m * 2 + n) (p ∙ sym nine ∙ sym (word_of_bit (word_at words (i + 8 + 1)))) (q ∙ sym ten))
-        ∙ sym (ap (λ (o : Option Reset). control_key (filter_async o)) is ∙ ap (λ (b : Bool). control_key (pick b (some reset) none)) (eq-eqb (word_at words (i + 8 + 1 + 2)) 1 (eleven ∙ sym d ∙ one)))
+        ∙ sym (ap (λ (o : Option Reset). control_key (filter_async o)) is ∙ ap (λ (b : Bool). control_key (pick b (Some reset) None)) (eq-eqb (word_at words (i + 8 + 1 + 2)) 1 (eleven ∙ sym d ∙ one)))
 
 -- SCANNING
 
@@ -221,7 +221,7 @@ larger_left a b h = ap (λ (t : Bool). pick t b a) (le-ltb a b h)
 pub larger_right : (a b : ℕ) → a < b → larger a b ≡ b
 larger_right a b h = ap (λ (t : Bool). pick t b a) (lt-ltb a b h)
 
-kind_none : (words : List ℕ) (i k : ℕ) → (k ≡ 5 → ⊥) → flip_flop_of (of_kind words i k) ≡ none
+kind_none : (words : List ℕ) (i k : ℕ) → (k ≡ 5 → ⊥) → flip_flop_of (of_kind words i k) ≡ None
 kind_none words i zero h = refl
 kind_none words i (suc zero) h = refl
 kind_none words i (suc (suc zero)) h = refl
@@ -239,7 +239,7 @@ module _ (words : List ℕ) (i : ℕ) {k : ℕ} (kind : k ≡ word_at words (i +
   here : word_at words i ≡ k
   here = ap (word_at words) (sym (add-zero i)) ∙ sym kind
 
-  pub no_flop : (k ≡ 5 → ⊥) → flip_flop_of (cell_at words i) ≡ none
+  pub no_flop : (k ≡ 5 → ⊥) → flip_flop_of (cell_at words i) ≡ None
   unfolding cell_at
   no_flop h = kind_none words i (word_at words i) (λ e. h (sym here ∙ e))
 

@@ -2,7 +2,7 @@
 use mathlib.Core.Path.{◌≡◌, refl, ap, ap₂, sym, ◌∙◌, subst}
 use mathlib.Core.Bool.{Bool}
 use mathlib.Core.List.{List, [], ◌∷◌}
-use mathlib.Core.Option.{Option, some}
+use Rattle.std.specs.Prelude.{Option, Some}
 use Prim.Native.Nat.{ℕ, zero, suc, ◌+◌, ◌-◌, ◌≤◌, ◌<◌}
 use native.Mathlib.Omega.{arith}
 use lib.ListN.{length, take, drop, set}
@@ -49,13 +49,13 @@ module _ (m : Wires) where
   pub reset_async : {rs : OptionalReset} {r : Reset} → rs ≡ O.Present r → r.asynchronous ≡ 1 → (next : ℕ) → with_reset m (reset_presence rs) next ≡ pure next
   reset_async {rs} {r} e q next =
       ap (λ (x : OptionalReset). with_reset m (reset_presence x) next) e
-      ∙ ap (λ (b : Bool). pick b (pure next) (asserted_expression m (record { signal = r.signal; active = r.active }) >>= λ y. emit (mux 1 y (reset_bit (some r)) next))) (eq-eqb r.asynchronous 1 q)
+      ∙ ap (λ (b : Bool). pick b (pure next) (asserted_expression m (record { signal = r.signal; active = r.active }) >>= λ y. emit (mux 1 y (reset_bit (Some r)) next))) (eq-eqb r.asynchronous 1 q)
 
-  pub reset_sync : {rs : OptionalReset} {r : Reset} → rs ≡ O.Present r → (r.asynchronous ≡ 1 → ⊥) → {v : ℕ} → v ≡ reset_bit (some r) → (next : ℕ)
+  pub reset_sync : {rs : OptionalReset} {r : Reset} → rs ≡ O.Present r → (r.asynchronous ≡ 1 → ⊥) → {v : ℕ} → v ≡ reset_bit (Some r) → (next : ℕ)
       → with_reset m (reset_presence rs) next ≡ (asserted_expression m (record { signal = r.signal; active = r.active }) >>= λ y. emit (mux 1 y v next))
   reset_sync {rs} {r} e q f next =
       ap (λ (x : OptionalReset). with_reset m (reset_presence x) next) e
-      ∙ ap (λ (b : Bool). pick b (pure next) (asserted_expression m (record { signal = r.signal; active = r.active }) >>= λ y. emit (mux 1 y (reset_bit (some r)) next))) (ne_eqb r.asynchronous 1 q)
+      ∙ ap (λ (b : Bool). pick b (pure next) (asserted_expression m (record { signal = r.signal; active = r.active }) >>= λ y. emit (mux 1 y (reset_bit (Some r)) next))) (ne_eqb r.asynchronous 1 q)
       ∙ ap (λ (x : ℕ). asserted_expression m (record { signal = r.signal; active = r.active }) >>= λ y. emit (mux 1 y x next)) (sym f)
 
   pub next_is : (words : List ℕ) (at : ℕ) {d : Bit} {output : ℕ} {en : Option Control} {rs : Option Reset} → d ≡ bit_at words (at + 1) → output ≡ word_at words (at + 2) → en ≡ optional_control_at words (at + 5) → rs ≡ optional_reset_at words (at + 8)

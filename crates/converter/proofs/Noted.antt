@@ -4,7 +4,7 @@ use mathlib.Core.Bool.{Bool, true, false}
 use mathlib.Core.List.Memᴰ.{head as here}
 use mathlib.Core.List.Memᴰ.{tail as there}
 use mathlib.Core.List.{List, [], ◌∷◌, Memᴰ as Mem}
-use mathlib.Core.Option.{Option, none}
+use Rattle.std.specs.Prelude.{Option, None}
 use Prim.Native.Nat.{ℕ, zero, suc, ◌+◌, ◌≤◌, ◌<◌}
 use native.Mathlib.Nat.{add-zero}
 use native.Mathlib.Numerals.{add-one}
@@ -51,7 +51,7 @@ module _ (words banks : List ℕ) (ls : List Member) (b c i : ℕ) (is : get_or 
           ap₂ (λ (t : Bool) (l : List Member). kept t (record { cell = c; flop = flop_at words i }) l) (ap (λ (k : ℕ). eqb k (b + 1)) n ∙ same_number (bank_in ls (flop_at words i)) b) e
           ∙ sym (ap (λ (x : Cell). members_of ls b (also (flip_flop_of x) c ms)) f)
       go (no k) =
-          let f : flip_flop_of (cell_at words i) ≡ none = no_flop words i here_is k in
+          let f : flip_flop_of (cell_at words i) ≡ None = no_flop words i here_is k in
           let n : get_or banks c 0 ≡ 0 = is ∙ ap (number_of ls) f in
           ap (λ (t : Bool). kept t (record { cell = c; flop = flop_at words i }) more) (ap (λ (k : ℕ). eqb k (b + 1)) n ∙ ne_eqb 0 (b + 1) (λ q. omega (arith, q)))
           ∙ e ∙ sym (ap (λ (o : Option FlipFlop). members_of ls b (also o c ms)) f)

@@ -2,7 +2,7 @@
 use mathlib.Core.Path.{◌≡◌, refl, ap, ap₂, sym, ◌∙◌, fun_ext}
 use mathlib.Core.Bool.{Bool}
 use mathlib.Core.List.{List, []}
-use mathlib.Core.Option.{Option, none, some}
+use Rattle.std.specs.Prelude.{Option, None, Some}
 use Prim.Native.Nat.{ℕ, ◌+◌, ◌≤◌, ◌<◌}
 use native.Mathlib.Omega.{arith}
 use lib.ListN.{length, drop, drop_of_length-le}
@@ -59,25 +59,25 @@ module _ (words : List ℕ) (at : ℕ) {rs : OptionalReset} (is : reset_presence
   pub async_none : rs ≡ O.Absent → reset_presence rs ≡ async_reset (flop_at words at)
   async_none e = ap reset_presence e ∙ sym (ap filter_async (sym is ∙ ap reset_presence e))
 
-  pub async_some : {r : Reset} → rs ≡ O.Present r → r.asynchronous ≡ 1 → some r ≡ async_reset (flop_at words at)
-  async_some {r} e q = sym (ap filter_async (sym is ∙ ap reset_presence e) ∙ ap (λ (b : Bool). pick b (some r) none) (eq-eqb r.asynchronous 1 q))
+  pub async_some : {r : Reset} → rs ≡ O.Present r → r.asynchronous ≡ 1 → Some r ≡ async_reset (flop_at words at)
+  async_some {r} e q = sym (ap filter_async (sym is ∙ ap reset_presence e) ∙ ap (λ (b : Bool). pick b (Some r) None) (eq-eqb r.asynchronous 1 q))
 
-  pub async_not : {r : Reset} → rs ≡ O.Present r → (r.asynchronous ≡ 1 → ⊥) → none ≡ async_reset (flop_at words at)
-  async_not {r} e q = sym (ap filter_async (sym is ∙ ap reset_presence e) ∙ ap (λ (b : Bool). pick b (some r) none) (ne_eqb r.asynchronous 1 q))
+  pub async_not : {r : Reset} → rs ≡ O.Present r → (r.asynchronous ≡ 1 → ⊥) → None ≡ async_reset (flop_at words at)
+  async_not {r} e q = sym (ap filter_async (sym is ∙ ap reset_presence e) ∙ ap (λ (b : Bool). pick b (Some r) None) (ne_eqb r.asynchronous 1 q))
 
 module _ (m : Wires) (z : Constants) where
-  pub bank_none : {rs : OptionalReset} → rs ≡ O.Absent → (ms : List Member) → bank_reset m z (reset_presence rs) ms ≡ pure none
+  pub bank_none : {rs : OptionalReset} → rs ≡ O.Absent → (ms : List Member) → bank_reset m z (reset_presence rs) ms ≡ pure None
   bank_none e ms = ap (λ (x : OptionalReset). bank_reset m z (reset_presence x) ms) e
 
   pub bank_some : {rs : OptionalReset} {r : Reset} → rs ≡ O.Present r → (ms : List Member)
-      → bank_reset m z (reset_presence rs) ms ≡ (concat_parts (reset_bits ms []) >>= λ v. bit_signal m z r.signal >>= λ s. pure (some (record { signal = s; active = r.active; value = v })))
+      → bank_reset m z (reset_presence rs) ms ≡ (concat_parts (reset_bits ms []) >>= λ v. bit_signal m z r.signal >>= λ s. pure (Some (record { signal = s; active = r.active; value = v })))
   bank_some e ms = ap (λ (x : OptionalReset). bank_reset m z (reset_presence x) ms) e
 
   -- ONE BANK
 
   pub clock_is : (words : List ℕ) (at : ℕ) {bit : Bit} {edge : ℕ} → bit ≡ bit_at words (at + 3) → edge ≡ word_at words (at + 4) → (target next : ℕ) (reset : Option RegReset)
-      → clock_bank m z (flop_at words at) target next reset ≡ (bit_signal m z bit >>= λ clock. state (reg target next clock edge reset none))
-  clock_is words at p q target next reset = λ i. bit_signal m z (sym p i) >>= λ clock. state (reg target next clock (sym q i) reset none)
+      → clock_bank m z (flop_at words at) target next reset ≡ (bit_signal m z bit >>= λ clock. state (reg target next clock edge reset None))
+  clock_is words at p q target next reset = λ i. bit_signal m z (sym p i) >>= λ clock. state (reg target next clock (sym q i) reset None)
 
   -- what stands behind the bank's signal
   abbrev behind : FlipFlop → Option Reset → List Member → ℕ → Writer (Unit {0})
@@ -93,14 +93,14 @@ module _ (m : Wires) (z : Constants) where
     wire_is : leader.flop.output ≡ w
     wire_is = ap (λ (x : FlipFlop). x.output) is ∙ sym out
 
-    pub bank_writes : {r : WireRef} → m w ≡ some r → {rs : Option Reset} → rs ≡ async_reset f → emit_flip_flop_bank m z (record { leader = leader; members = ms }) ≡ behind f rs ms r.signal
+    pub bank_writes : {r : WireRef} → m w ≡ Some r → {rs : Option Reset} → rs ≡ async_reset f → emit_flip_flop_bank m z (record { leader = leader; members = ms }) ≡ behind f rs ms r.signal
     bank_writes {r} h {rs} e =
         emit_is leader ms
         ∙ ap (λ (x : Writer WireRef). x >>= λ target. behind leader.flop (async_reset leader.flop) ms target.signal) (ap (wire_ref m) wire_is ∙ ref_held m h)
         ∙ bind_pure r (λ target. behind leader.flop (async_reset leader.flop) ms target.signal)
         ∙ ap₂ (λ (x : FlipFlop) (o : Option Reset). behind x o ms r.signal) is (ap (λ (x : FlipFlop). async_reset x) is ∙ sym e)
 
-    pub bank_missing : m w ≡ none → emit_flip_flop_bank m z (record { leader = leader; members = ms }) ≡ refuse 8 w
+    pub bank_missing : m w ≡ None → emit_flip_flop_bank m z (record { leader = leader; members = ms }) ≡ refuse 8 w
     bank_missing h =
         emit_is leader ms
         ∙ ap (λ (x : Writer WireRef). x >>= λ target. behind leader.flop (async_reset leader.flop) ms target.signal) (ap (wire_ref m) wire_is ∙ ref_missing m h)

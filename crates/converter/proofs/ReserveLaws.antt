@@ -2,7 +2,7 @@
 use mathlib.Core.Path.{◌≡◌, refl, ap, ap₂, sym, ◌∙◌, subst, fun_ext}
 use mathlib.Core.Bool.{Bool}
 use mathlib.Core.List.{List, [], ◌∷◌, ◌++◌}
-use mathlib.Core.Option.{Option, some}
+use Rattle.std.specs.Prelude.{Option, Some}
 use Prim.Native.Nat.{ℕ, zero, suc, ◌+◌, ◌-◌, ◌≤◌, ◌<◌, min}
 use native.Mathlib.Nat.{add-zero}
 use native.Mathlib.Omega.{arith}
@@ -330,7 +330,7 @@ module _ (words : List ℕ) (owner at : ℕ) (g : Given) where
 
 -- A BLOCK RAM
 
-one_there : (n : ℕ) (x : SecondPort) → (n ≡ 0 → ⊥) → when_set n x ≡ some x
+one_there : (n : ℕ) (x : SecondPort) → (n ≡ 0 → ⊥) → when_set n x ≡ Some x
 one_there zero x q = absurd (q refl)
 one_there (suc n) x q = refl
 
@@ -368,7 +368,7 @@ module _ (words : List ℕ) (owner at : ℕ) (g : Given) where
       pub ram_one : f ≡ 0 → CellDone g owner (block_ram_at words at) (gave (S.Done u) o.l o.wires o.places)
       ram_one z = reserving_end (reserving_step (reserving_start ram_is) (λ m. reserve_second m owner second) refl o.r (wires_by o) first_port d) (wires_by o) (none_there (wires_by o) z)
 
-      there : (f ≡ 0 → ⊥) → second ≡ some port
+      there : (f ≡ 0 → ⊥) → second ≡ Some port
       there nz = one_there (word_at words (at + 42)) port (λ e. nz (flag ∙ e))
 
       fits : (f ≡ 0 → ⊥) → (limits : Limits) → FitsOption (FitsSecond limits width) second → Each (FitsWire limits) (wires_at words (at + first_size words width + (24 + width)) width)

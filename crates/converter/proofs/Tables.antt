@@ -2,7 +2,7 @@
 use mathlib.Core.Path.{◌≡◌, refl, ap, ap₂, sym, ◌∙◌, subst, fun_ext}
 use mathlib.Core.Bool.{Bool}
 use mathlib.Core.List.{List, [], ◌∷◌}
-use mathlib.Core.Option.{Option, none, some}
+use Rattle.std.specs.Prelude.{Option, None, Some}
 use Prim.Native.Nat.{ℕ, zero, suc, ◌+◌, ◌*◌, ◌/◌, ◌%◌, ◌≤◌, ◌<◌}
 use native.Mathlib.Omega.{arith}
 use native.Mathlib.Decide.{ℕ_discrete}
@@ -38,11 +38,11 @@ put_entry wires places w s lsb width h g k = fun_ext (λ v. go v (ℕ_discrete v
     go : (v : ℕ) → Dec (v ≡ w) → put (wires_of wires places) w (record { signal = s; lsb = lsb; width = width }) v ≡ wires_of (set wires w (s + 1)) (set places w (lsb * 65536 + width)) v
     go v (yes e) =
         let one : s + 1 ≡ suc s = omega arith in
-        ap (λ (b : Bool). pick b (some (record { signal = s; lsb = lsb; width = width })) (wires_of wires places v)) (eq-eqb v w e)
+        ap (λ (b : Bool). pick b (Some (record { signal = s; lsb = lsb; width = width })) (wires_of wires places v)) (eq-eqb v w e)
         ∙ sym (ap₂ entry (ap (λ (i : ℕ). get_or (set wires w (s + 1)) i 0) e ∙ get_or-set_same wires w (s + 1) 0 h ∙ one) (ap (λ (i : ℕ). get_or (set places w (lsb * 65536 + width)) i 0) e ∙ get_or-set_same places w (lsb * 65536 + width) 0 g)
-        ∙ ap₂ (λ (a b : ℕ). some (record { signal = s; lsb = a; width = b })) (packed lsb width k).0 (packed lsb width k).1)
+        ∙ ap₂ (λ (a b : ℕ). Some (record { signal = s; lsb = a; width = b })) (packed lsb width k).0 (packed lsb width k).1)
     go v (no n) =
-        ap (λ (b : Bool). pick b (some (record { signal = s; lsb = lsb; width = width })) (wires_of wires places v)) (ne_eqb v w n)
+        ap (λ (b : Bool). pick b (Some (record { signal = s; lsb = lsb; width = width })) (wires_of wires places v)) (ne_eqb v w n)
         ∙ sym (ap₂ entry (get_or-set_other wires w v (s + 1) 0 n) (get_or-set_other places w v (lsb * 65536 + width) 0 n))
 
 taken_entry : (n p : ℕ) → (n ≡ 0 → ⊥) → (r : WireRef) (m : Wires) (w : ℕ) → insert_at (entry n p) m w r ≡ refuse 7 w
@@ -53,7 +53,7 @@ pub insert_taken : (wires places : List ℕ) (w : ℕ) (r : WireRef) → (get_or
 unfolding insert_wire wires_of
 insert_taken wires places w r h = taken_entry (get_or wires w 0) (get_or places w 0) h r (wires_of wires places) w
 
-free_there : (wires places : List ℕ) (w : ℕ) → get_or wires w 0 ≡ 0 → wires_of wires places w ≡ none
+free_there : (wires places : List ℕ) (w : ℕ) → get_or wires w 0 ≡ 0 → wires_of wires places w ≡ None
 unfolding wires_of
 free_there wires places w z = ap (λ (i : ℕ). entry i (get_or places w 0)) z
 

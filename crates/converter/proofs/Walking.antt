@@ -2,7 +2,7 @@
 use mathlib.Core.Path.{◌≡◌, refl, ap, ap₂, sym, ◌∙◌}
 use mathlib.Core.Bool.{Bool, true, false}
 use mathlib.Core.List.{List, [], ◌∷◌}
-use mathlib.Core.Option.{none}
+use Rattle.std.specs.Prelude.{None}
 use Prim.Native.Nat.{ℕ, zero, suc, ◌+◌, ◌-◌, ◌≤◌, ◌<◌, min}
 use native.Mathlib.Numerals.{add-one}
 use native.Mathlib.Omega.{arith}
@@ -21,7 +21,7 @@ use Rattle.converter.specs.Members.{noted, members_in, rest_at, rest_from, Stand
 -- PAST THE LAST WORD
 
 abbrev blank : FlipFlop
-blank = record { input = bit_of 0; output = 0; clock = bit_of 0; edge = 0; enable = none; reset = none }
+blank = record { input = bit_of 0; output = 0; clock = bit_of 0; edge = 0; enable = None; reset = None }
 
 flop_past : (words : List ℕ) (i : ℕ) → length words ≤ i → flop_at words i ≡ blank
 flop_past words i h = λ j. record {
@@ -126,8 +126,8 @@ module _ (words banks : List ℕ) (s : Scan) where
           let same : record { cell = c.cell; flop = flop_at words c.place } ≡ m = cc in
           sym (ap (λ (x : Member). x.flop) same)
       go false q =
-          let none : [] ≡ m ∷ more = sym (rest_end c.cell c.place (ltb-false c.cell s.n q)) ∙ h.rest ∙ e in
-          absurd (omega (arith, ap length none))
+          let None : [] ≡ m ∷ more = sym (rest_end c.cell c.place (ltb-false c.cell s.n q)) ∙ h.rest ∙ e in
+          absurd (omega (arith, ap length None))
 
 -- one member less
 pub count_on : (k : ℕ) {total : ℕ} {m : Member} {ms more : List Member} → k + length ms ≡ total → ms ≡ m ∷ more → k + 1 + length more ≡ total

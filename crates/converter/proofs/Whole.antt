@@ -2,7 +2,7 @@
 use Prim.Native.Nat.{ℕ, zero, suc}
 use mathlib.Core.Path.{◌≡◌, refl, sym, ◌∙◌, ap, ap₂, subst, fun_ext}
 use mathlib.Core.List.{List}
-use mathlib.Core.Option.{Option, none, some}
+use Rattle.std.specs.Prelude.{Option, None, Some}
 use native.Mathlib.Omega.{arith}
 use lib.ListN.{length, get_or, replicate}
 use Rattle.refusal.specs.Refusal.{number_of, place_of}
@@ -80,8 +80,8 @@ module _ (shared : ℕ) (n : Netlist) (s e t : ℕ) where
   held (filled f) d = let z : ◌≡◌ {A = ℕ} 0 1 = cc in absurd (omega arith)
 
 finish : (o : Option ℕ) (u : Tapes) (a : Lowered) (l l' z : Lists) → a ≡ (judged o u l l).answer → l' ≡ l → record { answer = a; lists = kept a l' z } ≡ judged o u l z
-finish none u a l l' z p e = λ i. record { answer = p i; lists = kept (p i) (e i) z }
-finish (some s) u a l l' z p e = λ i. record { answer = p i; lists = kept (p i) (e i) z }
+finish None u a l l' z p e = λ i. record { answer = p i; lists = kept (p i) (e i) z }
+finish (Some s) u a l l' z p e = λ i. record { answer = p i; lists = kept (p i) (e i) z }
 
 -- THE ATTEMPT
 

@@ -1,6 +1,6 @@
 -- What the functions of next.rt and register.rt promise.
 use Rattle.std.specs.Prelude.{◌≡◌, List, [], ◌∷◌, ℕ, length}
-use Rattle.std.proofs.Math.Option.{Option, none}
+use Rattle.std.specs.Prelude.{Option, None}
 use Rattle.refusal.specs.Refusal.{number_of, place_of}
 use Rattle.netlist.specs.Netlist.{FlipFlop}
 use Rattle.netlist.specs.Fields.{cells_at}
@@ -28,14 +28,14 @@ resetting (R.Refused x) = Failed (number_of x) (place_of x)
 
 -- what no reset is made of, and what a reset is no part of
 abbrev pub unset : ℕ → Option RegReset
-unset e = none
+unset e = None
 
 abbrev pub dropped : Option RegReset → Unit {0}
 dropped o = tt
 
 -- the register of a bank whose leader is f
 abbrev pub clock_bank : Wires → Constants → FlipFlop → ℕ → ℕ → Option RegReset → Writer (Unit {0})
-clock_bank m z f target next reset = bit_signal m z f.clock >>= λ clock. state (reg target next clock f.edge reset none)
+clock_bank m z f target next reset = bit_signal m z f.clock >>= λ clock. state (reg target next clock f.edge reset None)
 
 -- the bank of these members
 pub record EmitsBank (e s parts wires places : List ℕ) (t : Tapes) (z : Constants) (ms : List Member) (r : Stated) (e' s' : List ℕ) : Type 0 where

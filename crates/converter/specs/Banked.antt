@@ -1,6 +1,6 @@
 -- What the functions of collect.rt say: keys of banks, and the bank of each cell by number.
 use Rattle.std.specs.Prelude.{◌≡◌, Bool, ◌&&◌, List, [], ℕ, zero, suc, ◌+◌, ◌*◌, ◌<◌, ◌≤◌, eqb, ltb, length, get_or}
-use Rattle.std.proofs.Math.Option.{Option, none, some}
+use Rattle.std.specs.Prelude.{Option, None, Some}
 use Rattle.bits.specs.Bits.{pick}
 use Rattle.netlist.specs.declared.Limits.{Limits}
 use Rattle.netlist.specs.declared.Bit.{Bit}
@@ -22,8 +22,8 @@ abbrev pub clock_key : FlipFlop → ℕ
 clock_key f = word_of f.clock * 2 + f.edge
 
 abbrev pub control_key : Option Reset → ℕ
-control_key none = 0
-control_key (some r) = suc (word_of r.signal * 2 + r.active)
+control_key None = 0
+control_key (Some r) = suc (word_of r.signal * 2 + r.active)
 
 abbrev pub reset_key : FlipFlop → ℕ
 reset_key f = control_key (async_reset f)
@@ -71,8 +71,8 @@ pub record Keyed (limits : Limits) (ls : List Member) (parts values : List ℕ) 
 
 -- 0, or 1 and the bank's number
 abbrev pub number_of : List Member → Option FlipFlop → ℕ
-number_of ls none = 0
-number_of ls (some f) = suc (bank_in ls f)
+number_of ls None = 0
+number_of ls (Some f) = suc (bank_in ls f)
 
 abbrev pub number_in : List Member → Cell → ℕ
 number_in ls x = number_of ls (flip_flop_of x)

@@ -8,7 +8,6 @@ use refusal::Refusal;
 use wires::Constants;
 
 // The constants' signals.
-#[derive(Drop)]
 #[derive(Clone, Copy)]
 pub enum Started {
     Done(Constants, Tapes),

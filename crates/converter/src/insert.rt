@@ -9,7 +9,6 @@ use netlist::fields::{bit_at, field, wide};
 use recorder::{SignalId, Stated};
 use refusal::Refusal;
 
-#[derive(Drop)]
 #[derive(Clone, Copy)]
 pub enum Inserted {
     Done,

@@ -38,7 +38,6 @@ use zeros::{short_work, zero_lists, zero_tables, zero_works};
 pub const WORK: usize = 16384;
 
 // Each list's records and words used, or the refusal.
-#[derive(Drop)]
 #[derive(Clone, Copy)]
 pub enum Lowered {
     Accepted(Tapes),

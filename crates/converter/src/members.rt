@@ -5,7 +5,6 @@ ghost use Rattle.converter.specs.Members.{members_in, Finds, Starts, Goes};
 use netlist::fields::{cell_end, wide, word};
 
 // The members of a bank: those of n cells, from an index on, that have its number.
-#[derive(Drop)]
 #[derive(Clone, Copy)]
 pub struct Scan {
     pub at: usize,
@@ -14,7 +13,6 @@ pub struct Scan {
 }
 
 // A cell and the index where it stands.
-#[derive(Drop)]
 #[derive(Clone, Copy)]
 pub struct Cursor {
     pub cell: u32,

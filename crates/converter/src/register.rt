@@ -21,7 +21,6 @@ use wires::map::wire_ref;
 use wires::{Constants, Controlled, Found};
 
 // A bank's asynchronous reset, or none.
-#[derive(Drop)]
 #[derive(Clone, Copy)]
 pub enum Resetting {
     Done(AsyncReset, Tapes),

@@ -2,7 +2,7 @@
 -- Assumes nothing.
 use mathlib.Core.Path.{◌≡◌, refl, ap, ap₂, sym, ◌∙◌, subst}
 use mathlib.Core.List.{List}
-use mathlib.Core.Option.{Option, none, some}
+use Rattle.std.specs.Prelude.{Option, None, Some}
 use Prim.Native.Nat.{ℕ, ◌-◌}
 use native.Mathlib.Omega.{arith}
 use lib.ListN.{length, take, replicate}
@@ -47,7 +47,7 @@ reserve_ok shared n e = go (reserve_netlist n none_yet).end refl
 -- what an accepting end says
 pub record Kept (shared : ℕ) (n : Netlist) (s e t : ℕ) (tapes : Tapes) (l : Lists) : Type 0 where
   pub ended_well : (lower_netlist shared n none_yet).end ≡ ok tt
-  pub no_conflict : overdriven_from 0 (lowered_model shared n).signals (lowered_model shared n).stmts ≡ none
+  pub no_conflict : overdriven_from 0 (lowered_model shared n).signals (lowered_model shared n).stmts ≡ None
   pub played : play (blank s e t) start (lower_netlist shared n none_yet).events ≡ going l tapes
 
 accepted_is : {tapes tapes' : Tapes} {l l' : Lists} → ◌≡◌ {A = Lowering} (record { answer = Accepted tapes'; lists = l' }) (record { answer = Accepted tapes; lists = l }) → (tapes' ≡ tapes) × (l' ≡ l)
@@ -64,8 +64,8 @@ accepted_kept shared n s e t tapes l h = go (play (blank s e t) start (lower_net
   where
     go : (p : Played) → play (blank s e t) start (lower_netlist shared n none_yet).events ≡ p → (y : End (Unit {0})) → (lower_netlist shared n none_yet).end ≡ y → (o : Option ℕ) → overdriven_from 0 (lowered_model shared n).signals (lowered_model shared n).stmts ≡ o
         → ended (finish p y).answer o (finish p y).lists (blank s e t) ≡ record { answer = Accepted tapes; lists = l } → Kept shared n s e t tapes l
-    go (going l' t') p (ok tt) y none o q = let r = accepted_is q in record { ended_well = y; no_conflict = o; played = p ∙ ap₂ going r.1 r.0 }
-    go (going l' t') p (ok tt) y (some k) o q = absurd (refused_not q)
+    go (going l' t') p (ok tt) y None o q = let r = accepted_is q in record { ended_well = y; no_conflict = o; played = p ∙ ap₂ going r.1 r.0 }
+    go (going l' t') p (ok tt) y (Some k) o q = absurd (refused_not q)
     go (going l' t') p (no i j) y k o q = absurd (refused_not q)
     go (full i l') p y y' k o q = absurd (refused_not q)
 

@@ -4,7 +4,7 @@ use mathlib.Core.Path.{◌≡◌, refl, ap, ap₂, sym, ◌∙◌, subst}
 use mathlib.Core.Logic.{◌⊎◌, inl, inr}
 use mathlib.Core.Bool.{Bool, true, false, ◌&&◌}
 use mathlib.Core.List.{List, [], ◌∷◌}
-use mathlib.Core.Option.{Option, none, some}
+use Rattle.std.specs.Prelude.{Option, None, Some}
 use Prim.Native.Nat.{ℕ, zero, suc, ◌+◌, ◌≤◌, ◌<◌}
 use native.Mathlib.Omega.{arith}
 use native.Mathlib.Decide.{dec_lt}
@@ -27,8 +27,8 @@ use Rattle.simulation.specs.Shown.{Entry, entry_call}
 
 -- a test, and the refusal that stands for it
 pub data Tested : Option (ℕ × ℕ) → Bool → Type 0 where
-  passes : Tested none true
-  fails : (number place : ℕ) → (number ≡ 1) ⊎ (number ≡ 14) → Tested (some (number, place)) false
+  passes : Tested None true
+  fails : (number place : ℕ) → (number ≡ 1) ⊎ (number ≡ 14) → Tested (Some (number, place)) false
 
 tested_as : {o p : Option (ℕ × ℕ)} {b c : Bool} → o ≡ p → b ≡ c → Tested o b → Tested p c
 tested_as {o} {p} {b} {c} e f t = subst (λ (x : Option (ℕ × ℕ)). Tested x c) e (subst (Tested o) f t)
@@ -42,8 +42,8 @@ short_tested : (k : ℕ) (buffer : List ℕ) → Tested (short k buffer) (leb k 
 short_tested k buffer = go (dec_lt (length buffer) k)
   where
     go : Dec (length buffer < k) → Tested (short k buffer) (leb k (length buffer))
-    go (yes h) = tested_as (sym (ap (λ (b : Bool). only b (some (1, Prim.Native.Nat.min k 18446744073709551615))) (lt-ltb (length buffer) k h))) (sym (lt-leb k (length buffer) h)) (fails 1 (Prim.Native.Nat.min k 18446744073709551615) (inl refl))
-    go (no h) = tested_as (sym (ap (λ (b : Bool). only b (some (1, Prim.Native.Nat.min k 18446744073709551615))) (not_less (ltb (length buffer) k) refl))) (sym (le-leb k (length buffer) (omega arith))) passes
+    go (yes h) = tested_as (sym (ap (λ (b : Bool). only b (Some (1, Prim.Native.Nat.min k 18446744073709551615))) (lt-ltb (length buffer) k h))) (sym (lt-leb k (length buffer) h)) (fails 1 (Prim.Native.Nat.min k 18446744073709551615) (inl refl))
+    go (no h) = tested_as (sym (ap (λ (b : Bool). only b (Some (1, Prim.Native.Nat.min k 18446744073709551615))) (not_less (ltb (length buffer) k) refl))) (sym (le-leb k (length buffer) (omega arith))) passes
       where
         not_less : (b : Bool) → ltb (length buffer) k ≡ b → ltb (length buffer) k ≡ false
         not_less false e = e
@@ -53,7 +53,7 @@ short_tested k buffer = go (dec_lt (length buffer) k)
 count_tested : (k : ℕ) (ticks : List ℕ) → Tested (wrong_count k ticks) (eqb (length ticks) k)
 count_tested k ticks = go (eqb (length ticks) k)
   where
-    go : (b : Bool) → Tested (pick b none (some (14, k))) b
+    go : (b : Bool) → Tested (pick b None (Some (14, k))) b
     go true = passes
     go false = fails 14 k (inr refl)
 
@@ -72,16 +72,16 @@ bits_tested : (k : ℕ) (ticks : List ℕ) → Tested (no_bit k ticks) (all_bits
 bits_tested k [] = passes
 bits_tested k (b ∷ ticks) = go (leb b 1) refl (bits_tested (suc k) ticks)
   where
-    go : (t : Bool) → leb b 1 ≡ t → Tested (no_bit (suc k) ticks) (all_bits ticks) → Tested (pick t (no_bit (suc k) ticks) (some (14, k))) (ltb b 2 && all_bits ticks)
+    go : (t : Bool) → leb b 1 ≡ t → Tested (no_bit (suc k) ticks) (all_bits ticks) → Tested (pick t (no_bit (suc k) ticks) (Some (14, k))) (ltb b 2 && all_bits ticks)
     go true e h = tested_as refl (ap (λ (x : Bool). x && all_bits ticks) (sym e ∙ low_two b)) h
     go false e h = tested_as refl (ap (λ (x : Bool). x && all_bits ticks) (sym e ∙ low_two b)) (fails 14 k (inr refl))
 
 fired_tested : (n : Netlist) (signals : ℕ) (f : Option (ℕ × ℕ)) → signals ≡ signal_count n → Tested (wrong_fired signals f) (fired_fits n (fired_by f))
-fired_tested n signals none e = passes
-fired_tested n signals (some f) e =
+fired_tested n signals None e = passes
+fired_tested n signals (Some f) e =
     tested_as refl (ap₂ (λ (k : ℕ) (b : Bool). ltb f.0 k && b) e (low_two f.1)) (go (ltb f.0 signals && leb f.1 1))
   where
-    go : (b : Bool) → Tested (pick b none (some (14, 0))) b
+    go : (b : Bool) → Tested (pick b None (Some (14, 0))) b
     go true = passes
     go false = fails 14 0 (inr refl)
 
@@ -92,11 +92,11 @@ and_yes false = refl
 -- THE WHOLE
 
 -- what the signal bytes and the model could refuse for is not there
-pub refusal_is : (M : Model) (l : Lists) (bytes : List ℕ) (e : Entry) → signal_bytes M ≤ length bytes → no_bit 0 (take (signal_bytes M) bytes) ≡ none → looped M ≡ none → refusal M (entry_call l bytes e) ≡ answer_to M e
+pub refusal_is : (M : Model) (l : Lists) (bytes : List ℕ) (e : Entry) → signal_bytes M ≤ length bytes → no_bit 0 (take (signal_bytes M) bytes) ≡ None → looped M ≡ None → refusal M (entry_call l bytes e) ≡ answer_to M e
 unfolding refusal
 refusal_is M l bytes e long bits loopless =
-    let p : short (signal_bytes M) bytes ≡ none = passed (tested_as refl (le-leb (signal_bytes M) (length bytes) long) (short_tested (signal_bytes M) bytes)) in
-    let q : on_loop (looped M) ≡ none = ap on_loop loopless in
+    let p : short (signal_bytes M) bytes ≡ None = passed (tested_as refl (le-leb (signal_bytes M) (length bytes) long) (short_tested (signal_bytes M) bytes)) in
+    let q : on_loop (looped M) ≡ None = ap on_loop loopless in
     λ i. first_of
     (p i
     ∷ short (expr_bits M) e.work_bits
@@ -109,7 +109,7 @@ refusal_is M l bytes e long bits loopless =
     ∷ q i
     ∷ [])
   where
-    passed : {o : Option (ℕ × ℕ)} → Tested o true → o ≡ none
+    passed : {o : Option (ℕ × ℕ)} → Tested o true → o ≡ None
     passed passes = refl
 
 pub answer_tested : (n : Netlist) (M : Model) (e : Entry) → tick_bits M ≡ port_bits n.ports → length M.signals ≡ signal_count n → Tested (answer_to M e) (enough M e && accepts n (tick_by e))

@@ -8,7 +8,7 @@ use mathlib.Core.List.Memᴰ.{head as here}
 use mathlib.Core.List.Memᴰ.{not-nil}
 use mathlib.Core.List.Memᴰ.{tail as there}
 use mathlib.Core.List.{List, [], ◌∷◌, map, Memᴰ as Mem}
-use mathlib.Core.Option.{Option, none, some}
+use Rattle.std.specs.Prelude.{Option, None, Some}
 use Prim.Native.Nat.{ℕ, zero, suc, ◌+◌, ◌^◌, ◌≤◌, ◌<◌}
 use native.Mathlib.Nat.{not-suc-le-zero}
 use native.Mathlib.Omega.{arith}
@@ -74,8 +74,8 @@ module _ (κ : Tick) (m : Wires) (z : Constants) (zero_is : κ.before z.zero.0 �
   control_asserts b s active h = ap (λ (x : Bool). same x (eqb active 1)) (signal_holds b s h)
 
   enable_holds : (o : Option Control) (e : Option RegEnable) → EnableIs m z o e → enable_now σ e ≡ enabled v o
-  enable_holds none e h = ap (enable_now σ) h
-  enable_holds (some c) e h = ap (enable_now σ) h.2 ∙ control_asserts c.signal h.0 c.active h.1
+  enable_holds None e h = ap (enable_now σ) h
+  enable_holds (Some c) e h = ap (enable_now σ) h.2 ∙ control_asserts c.signal h.0 c.active h.1
 
   -- ADDRESSES AND WORDS
 
@@ -115,15 +115,15 @@ module _ (κ : Tick) (m : Wires) (z : Constants) (zero_is : κ.before z.zero.0 �
     a_word = values_all v r.input
 
     sized : (o : Option SecondPort) → FitsOption (FitsSecond limits r.width) o → SecondSized (address_width r.depth) r.width (second_value v (shift_for r) (address_width r.depth) o)
-    sized none q = tt
-    sized (some p) q = (length_at p.address (shift_for r) (address_width r.depth), length_at p.input 0 (length p.input) ∙ q.input.0)
+    sized None q = tt
+    sized (Some p) q = (length_at p.address (shift_for r) (address_width r.depth), length_at p.input 0 (length p.input) ∙ q.input.0)
 
     first_written : written A.asserted (number A.address) A.word old ≡ written_a v r old
     first_written = ap₂ (λ (x y : Bits). written A.asserted (number x) y old) (address_is limits r r.write_address f f.write_address.0) a_word
 
     second_written : (o : Option SecondPort) (l : List Bits) → FitsOption (FitsSecond limits r.width) o → written_second (second_value v (shift_for r) (address_width r.depth) o) l ≡ written_b v r o l
-    second_written none l q = refl
-    second_written (some p) l q = ap₂ (λ (x y : Bits). written (enabled v (some p.write) && enabled v p.clock_enable) (number x) y l) (address_is limits r p.address f q.address.0) (values_all v p.input)
+    second_written None l q = refl
+    second_written (Some p) l q = ap₂ (λ (x y : Bits). written (enabled v (Some p.write) && enabled v p.clock_enable) (number x) y l) (address_is limits r p.address f q.address.0) (values_all v p.input)
 
     words_next : map (bits_of σ' r.width) ws ≡ pick F (written_b v r r.second (written_a v r old)) old
     words_next =
@@ -166,12 +166,12 @@ module _ (κ : Tick) (m : Wires) (z : Constants) (zero_is : κ.before z.zero.0 �
 
     second_next : (o : Option SecondPort) → FitsOption (FitsSecond limits r.width) o → SecondRead κ m z r.width (address_width r.depth) (shift_for r) A B o ws d.clock r.edge
         → second_read σ' m r.width o ≡ pick F (loaded_b v r o old (second_read σ m r.width o)) (second_read σ m r.width o)
-    second_next none q h = go F
+    second_next None q h = go F
       where
         go : (t : Bool) → zeros r.width ≡ pick t (zeros r.width) (zeros r.width)
         go true = refl
         go false = refl
-    second_next (some p) q h = read_next p.output p.read_enable p.clock_enable p.address q.address.0 h
+    second_next (Some p) q h = read_next p.output p.read_enable p.clock_enable p.address q.address.0 h
 
     ram_next : (t : Bool) → F ≡ t → registers_of σ' m (block_ram r) ws ≡ next_ram t v r (registers_of σ m (block_ram r) ws)
     ram_next t e = go t (ap (λ (b : Bool). pick b (written_b v r r.second (written_a v r old)) old) e)
@@ -194,7 +194,7 @@ module _ (κ : Tick) (m : Wires) (z : Constants) (zero_is : κ.before z.zero.0 �
       let at_is : values_at v r.write_address 0 4 ≡ values v r.write_address = ap (λ (k : ℕ). values_at v r.write_address 0 k) (sym f.write_address.0) ∙ values_all v r.write_address in
       let word_is : values_at v r.input 0 4 ≡ values v r.input = ap (λ (k : ℕ). values_at v r.input 0 k) (sym f.input.0) ∙ values_all v r.input in
       same_registers
-      (words_after κ 4 4 (dram_value v r) none d.clock r.edge (length_at r.input 0 4) tt ws (length_at r.write_address 0 4) (omega (arith, count)) d.updated
+      (words_after κ 4 4 (dram_value v r) None d.clock r.edge (length_at r.input 0 4) tt ws (length_at r.write_address 0 4) (omega (arith, count)) d.updated
       ∙ ap₂ (λ (x y : Bits). pick (κ.fires d.clock r.edge) (written (asserted v r.write.signal r.write.active) (number x) y (map (bits_of σ 4) ws)) (map (bits_of σ 4) ws)) at_is word_is
       ∙ ap (λ (b : Bool). pick b (written (asserted v r.write.signal r.write.active) (number (values v r.write_address)) (values v r.input) (map (bits_of σ 4) ws)) (map (bits_of σ 4) ws)) e
       ∙ both t (asserted v r.write.signal r.write.active)) refl refl
@@ -284,13 +284,13 @@ module _ {shared : ℕ} {limits : Limits} {n : Netlist} (a : Lowered shared limi
   resets_are : (f : FlipFlop) (t : Bool) → ResetNow κ.before m z (async_reset f) t → t ≡ resetting u 1 f.reset
   resets_are f t h = go f.reset h
     where
-      two : (q : Reset) (b : Bool) → eqb q.asynchronous 1 ≡ b → ResetNow κ.before m z (pick b (some q) none) t → t ≡ eqb q.asynchronous 1 && asserted u q.signal q.active
+      two : (q : Reset) (b : Bool) → eqb q.asynchronous 1 ≡ b → ResetNow κ.before m z (pick b (Some q) None) t → t ≡ eqb q.asynchronous 1 && asserted u q.signal q.active
       two q true e k = k.2 ∙ control_asserts κ m z zero_is one_is q.signal k.0 q.active k.1 ∙ ap (λ (b : Bool). b && asserted u q.signal q.active) (sym e)
       two q false e k = k ∙ ap (λ (b : Bool). b && asserted u q.signal q.active) (sym e)
 
       go : (o : Option Reset) → ResetNow κ.before m z (filter_async o) t → t ≡ resetting u 1 o
-      go none k = k
-      go (some q) k = two q (eqb q.asynchronous 1) refl k
+      go None k = k
+      go (Some q) k = two q (eqb q.asynchronous 1) refl k
 
   flop_next : (on : Bit → ℕ → Bool) → Fires on → AllBanked κ m z (collect_flip_flop_banks n.cells) → (c : ℕ) (f : FlipFlop) → get_or n.cells c absent ≡ flip_flop f
       → held κ.next m f.output ≡ next_flop (on f.clock f.edge) u f (u f.output)
@@ -303,9 +303,9 @@ module _ {shared : ℕ} {limits : Limits} {n : Netlist} (a : Lowered shared limi
       let bk = banked_at κ m z (collect_flip_flop_banks n.cells) banked (in_bank n c f e).bank (in_bank n c f e).one_of in
       let mates : Mates (in_bank n c f e).bank.leader.flop f = subst (λ (x : Member). Mates (in_bank n c f e).bank.leader.flop x.flop) (in_bank n c f e).is ((bank_is a (in_bank n c f e).bank (in_bank n c f e).one_of).member (get_or (in_bank n c f e).bank.members (in_bank n c f e).place (in_bank n c f e).bank.leader) (member_there (in_bank n c f e).bank.members (in_bank n c f e).place (in_bank n c f e).bank.leader (in_bank n c f e).inside)).1 in
       let long : i < length (outputs_of B.members) = omega (arith, (in_bank n c f e).inside, length-map (in_bank n c f e).bank.members (λ (x : Member). x.flop.output)) in
-      let mine : m f.output ≡ some (record { signal = p.number; lsb = i; width = length (outputs_of B.members) }) =
+      let mine : m f.output ≡ Some (record { signal = p.number; lsb = i; width = length (outputs_of B.members) }) =
       ap m (sym (outputs_at (in_bank n c f e).bank.members (in_bank n c f e).place (in_bank n c f e).bank.leader (in_bank n c f e).inside ∙ ap (λ (x : Member). x.flop.output) (in_bank n c f e).is)) ∙ wire_at a _ (outputs_of (in_bank n c f e).bank.members) p i long in
-      let leads : m B.leader.flop.output ≡ some (record { signal = p.number; lsb = 0; width = length (outputs_of B.members) }) = ap m (sym (leader_first a (in_bank n c f e).bank first)) ∙ wire_at a _ (outputs_of (in_bank n c f e).bank.members) p 0 (leader_there a (in_bank n c f e).bank first) in
+      let leads : m B.leader.flop.output ≡ Some (record { signal = p.number; lsb = 0; width = length (outputs_of B.members) }) = ap m (sym (leader_first a (in_bank n c f e).bank first)) ∙ wire_at a _ (outputs_of (in_bank n c f e).bank.members) p 0 (leader_there a (in_bank n c f e).bank first) in
       let target : bk.target.signal ≡ p.number = ap (λ (x : Ref). x.signal) (some_is bk.target (record { signal = p.number; lsb = 0; width = length (outputs_of B.members) }) (sym bk.target_is ∙ leads)) in
       let now : u f.output ≡ get_or (κ.before p.number) i false = ap (ref_bit κ.before) mine in
       ap (ref_bit κ.next) mine

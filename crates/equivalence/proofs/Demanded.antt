@@ -3,7 +3,7 @@
 use mathlib.Core.Path.{◌≡◌, refl, ap, ap₂, sym, ◌∙◌, subst}
 use mathlib.Core.Bool.{Bool, true, false, ◌&&◌}
 use mathlib.Core.List.{List, [], ◌∷◌, ◌++◌, map}
-use mathlib.Core.Option.{Option, none, some}
+use Rattle.std.specs.Prelude.{Option, None, Some}
 use Prim.Native.Nat.{ℕ, zero, suc, ◌+◌, ◌≤◌, ◌<◌}
 use native.Mathlib.Omega.{arith}
 use lib.ListN.{length, get_or, take, drop, replicate, length-append, length-replicate, length-map, length-take}
@@ -84,8 +84,8 @@ module _ (σ : Signals) (m : Wires) (none_set : (s i : ℕ) → get_or (σ s) i 
   held_false w = go (m w)
     where
       go : (o : Option Ref) → false ≡ ref_bit σ o
-      go none = refl
-      go (some r) = sym (none_set r.signal r.lsb)
+      go None = refl
+      go (Some r) = sym (none_set r.signal r.lsb)
 
   words_false : (width k : ℕ) (ws : List ℕ) → length ws ≡ k → replicate k (zeros width) ≡ map (bits_of σ width) ws
   words_false width zero [] e = refl
@@ -97,8 +97,8 @@ module _ (σ : Signals) (m : Wires) (none_set : (s i : ℕ) → get_or (σ s) i 
   read_false width w = sym (window_false (σ (aim (m w))) 0 width (none_set (aim (m w))))
 
   second_false : (width : ℕ) (o : Option SecondPort) → zeros width ≡ second_read σ m width o
-  second_false width none = refl
-  second_false width (some p) = read_false width (get_or p.output 0 0)
+  second_false width None = refl
+  second_false width (Some p) = read_false width (get_or p.output 0 0)
 
   cell_initial : (x : Cell) (ws : List ℕ) → length ws ≡ word_signals x → initial x ≡ registers_of σ m x ws
   cell_initial (lut4 i o t) ws e = refl
@@ -217,7 +217,7 @@ module _ {shared : ℕ} {limits : Limits} {n : Netlist} (a : Lowered shared limi
     bytes' = (run widest (entry_call (words_of (lowered_model shared n)) bytes e)).bytes
 
     -- an accepted tick
-    module _ (q : answer widest (entry_call (words_of (lowered_model shared n)) bytes e) ≡ none) where
+    module _ (q : answer widest (entry_call (words_of (lowered_model shared n)) bytes e) ≡ None) where
       abbrev t : List Bits
       t = state_of bytes
 
@@ -276,21 +276,21 @@ module _ {shared : ℕ} {limits : Limits} {n : Netlist} (a : Lowered shared limi
     stepped : (o : Option (ℕ × ℕ)) (b : Bool) → Tested o b → answer widest c ≡ o → made shared n e ≡ b
         → Agrees (record { answer = (run widest c).answer; outputs = shown_bytes M.signals bytes' }) (record { made = made shared n e; outputs = bytes_of (after shared n S e).outputs }) × Good bytes' (after shared n S e)
     unfolding run
-    stepped none false x q p = elim x [ ]
-    stepped (some x) true y q p = elim y [ ]
-    stepped none true passes q p =
+    stepped None false x q p = elim x [ ]
+    stepped (Some x) true y q p = elim y [ ]
+    stepped None true passes q p =
         let s : after shared n S e ≡ tick n S (tick_by e) = ap (λ (x : Bool). pick x (tick n S (tick_by e)) S) p in
         let k = good_after q in (
           subst (λ (x : ByModel). Agrees x (record { made = made shared n e; outputs = bytes_of (after shared n S e).outputs })) (λ i. record { answer = sym q i; outputs = (sym k.shows ∙ refl) i })
-              (subst (λ (x : ByCells). Agrees (record { answer = none; outputs = bytes_of (tick n S (tick_by e)).outputs }) x) (λ i. record { made = sym p i; outputs = bytes_of (sym s i).outputs }) (done (bytes_of (tick n S (tick_by e)).outputs))),
+              (subst (λ (x : ByCells). Agrees (record { answer = None; outputs = bytes_of (tick n S (tick_by e)).outputs }) x) (λ i. record { made = sym p i; outputs = bytes_of (sym s i).outputs }) (done (bytes_of (tick n S (tick_by e)).outputs))),
           subst (Good bytes') (sym s) k,
         )
-    stepped (some x) false (fails number place why) q p =
+    stepped (Some x) false (fails number place why) q p =
         let s : after shared n S e ≡ S = ap (λ (y : Bool). pick y (tick n S (tick_by e)) S) p in
         let same : bytes' ≡ bytes = refused_keeps widest c (number, place) q in
         let k : Good bytes' S = subst (λ (l : List ℕ). Good l S) (sym same) g in (
           subst (λ (y : ByModel). Agrees y (record { made = made shared n e; outputs = bytes_of (after shared n S e).outputs })) (λ i. record { answer = sym q i; outputs = sym k.shows i })
-              (subst (λ (y : ByCells). Agrees (record { answer = some (number, place); outputs = bytes_of S.outputs }) y) (λ i. record { made = sym p i; outputs = bytes_of (sym s i).outputs }) (refused number place (bytes_of S.outputs) why)),
+              (subst (λ (y : ByCells). Agrees (record { answer = Some (number, place); outputs = bytes_of S.outputs }) y) (λ i. record { made = sym p i; outputs = bytes_of (sym s i).outputs }) (refused number place (bytes_of S.outputs) why)),
           subst (Good bytes') (sym s) k,
         )
 
@@ -355,8 +355,8 @@ unfolding run ticked
 one_keeps widest c = go (answer widest c) refl
   where
     go : (o : Option (ℕ × ℕ)) → answer widest c ≡ o → drop (signal_bytes (call_model c)) (bytes_after c o) ≡ drop (signal_bytes (call_model c)) c.bytes
-    go (some r) e = refl
-    go none e =
+    go (Some r) e = refl
+    go None e =
         drop_at (map digit (flat (state_after c))) (drop (signal_bytes (call_model c)) c.bytes) (signal_bytes (call_model c))
         (length-map (flat (state_after c)) digit ∙ flat_length (call_model c).signals (state_after c) (after_fits widest c (accepted_good widest c e)))
 

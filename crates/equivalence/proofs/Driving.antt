@@ -3,7 +3,8 @@
 use mathlib.Core.Path.{◌≡◌, refl, ap, sym, ◌∙◌, subst}
 use mathlib.Core.Bool.{false}
 use mathlib.Core.List.{List, [], ◌∷◌, ◌++◌, map, Memᴰ as Mem}
-use mathlib.Core.Option.{Option, none, some, none-ne-some}
+use Rattle.std.specs.Prelude.{Option, None, Some}
+use Rattle.bits.proofs.Options.{none_ne_some}
 use Prim.Native.Nat.{ℕ, zero, suc, ◌+◌, ◌<◌}
 use native.Mathlib.Nat.{not-suc-le-zero}
 use native.Mathlib.Omega.{arith}
@@ -73,7 +74,7 @@ module _ {shared : ℕ} {limits : Limits} {n : Netlist} (a : Lowered shared limi
   abbrev regs : List Registers
   regs = registers_all (κ k).before a.wires n.cells runs.words
 
-  module _ (bits : Bits) (ins : InputsHold n σ bits) (w : ℕ) (r : Ref) (e : m w ≡ some r) where
+  module _ (bits : Bits) (ins : InputsHold n σ bits) (w : ℕ) (r : Ref) (e : m w ≡ Some r) where
     at : Located n w r
     at = located n m (slot_signals a) (mapping a) w r e
 
@@ -104,7 +105,7 @@ module _ {shared : ℕ} {limits : Limits} {n : Netlist} (a : Lowered shared limi
         let is : slot ≡ slot_of o.place o.of_group.group = o.of_group.is ∙ ap (λ (i : ℕ). slot_of i o.of_group.group) (let z : 0 + o.place ≡ o.place = omega arith in z) in
         let f = each_at (FitsCell limits) n.cells o.place absent a.fits.cells o.inside in
         let p : Placed (slots n) (slot_of o.place o.of_group.group) = record { number = r.signal; inside = at.inside; is = is } in
-        let there_is : m (get_or o.of_group.group.wires 0 0) ≡ some (record { signal = r.signal; lsb = 0; width = length o.of_group.group.wires }) =
+        let there_is : m (get_or o.of_group.group.wires 0 0) ≡ Some (record { signal = r.signal; lsb = 0; width = length o.of_group.group.wires }) =
         wire_at a (Rattle.behaviour.specs.WireMap.pins o.place o.of_group.group.pin) o.of_group.group.wires p 0 (group_some limits x g f o.of_group.one_of) in
         let low : r.lsb < length o.of_group.group.wires = omega (arith, at.within, ap (λ (s : Slot). length s.bits) is, length-map o.of_group.group.wires Wire) in
         ap (λ (s : Slot). given_by n.cells bits regs (bit_source s.source r.lsb) v) is
@@ -138,13 +139,13 @@ module _ {shared : ℕ} {limits : Limits} {n : Netlist} (a : Lowered shared limi
   pub all_driven : (bits : Bits) → InputsHold n σ bits → (w : ℕ) → drive (slots n) n.cells bits regs w v ≡ v w
   all_driven bits ins w = go (m w) refl
     where
-      none_found : m w ≡ none → (o : Option WireRef) → find w (slots n) 0 ≡ o → o ≡ none
-      none_found q none e = refl
-      none_found q (some x) e = absurd (none-ne-some _ (sym q ∙ (mapping a).finds w ∙ ap ref_of e))
+      none_found : m w ≡ None → (o : Option WireRef) → find w (slots n) 0 ≡ o → o ≡ None
+      none_found q None e = refl
+      none_found q (Some x) e = absurd (none_ne_some _ (sym q ∙ (mapping a).finds w ∙ ap ref_of e))
 
       go : (o : Option Ref) → m w ≡ o → drive (slots n) n.cells bits regs w v ≡ v w
-      go none q = ap (λ (x : Option WireRef). given_by n.cells bits regs (driver_in x) v) (none_found q (find w (slots n) 0) refl) ∙ sym (ap (ref_bit σ) q)
-      go (some r) q = wire_driven bits ins w r q
+      go None q = ap (λ (x : Option WireRef). given_by n.cells bits regs (driver_in x) v) (none_found q (find w (slots n) 0) refl) ∙ sym (ap (ref_bit σ) q)
+      go (Some r) q = wire_driven bits ins w r q
 
   -- the wires hold the netlist's settled values
   pub wires_settled : (bits : Bits) → InputsHold n σ bits → NoWireLoop n → (w : ℕ) → v w ≡ settle (slots n) n.cells bits regs w

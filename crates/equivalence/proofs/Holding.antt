@@ -8,7 +8,7 @@ use mathlib.Core.List.Memᴰ.{head as here}
 use mathlib.Core.List.Memᴰ.{not-nil}
 use mathlib.Core.List.Memᴰ.{tail as there}
 use mathlib.Core.List.{List, [], ◌∷◌, Memᴰ as Mem}
-use mathlib.Core.Option.{Option, none, some}
+use Rattle.std.specs.Prelude.{Option, None, Some}
 use Prim.Native.Nat.{ℕ, zero, suc, ◌≤◌, ◌<◌}
 use native.Mathlib.Nat.{zero-add}
 use native.Mathlib.Omega.{arith}
@@ -47,17 +47,17 @@ stands_on (y ∷ ts) t p = here_or (cases_cons p) (stands_on ts t)
     here_or (inr r) g = up (eqb (target y) (target t)) (count_of (on (target t)) ts) (g r)
 
 module _ (rule : Stmt → Option ℕ) where
-  pub given_none : (ts : List Stmt) (s : ℕ) → count_of (on s) ts ≡ 0 → given rule ts s ≡ none
+  pub given_none : (ts : List Stmt) (s : ℕ) → count_of (on s) ts ≡ 0 → given rule ts s ≡ None
   given_none [] s h = refl
   given_none (t ∷ ts) s h = go (eqb (target t) s) (given_none ts s) h
     where
-      go : (b : Bool) → (count_of (on s) ts ≡ 0 → given rule ts s ≡ none) → pick b (suc (count_of (on s) ts)) (count_of (on s) ts) ≡ 0 → pick b (or_else (rule t) (given rule ts s)) (given rule ts s) ≡ none
+      go : (b : Bool) → (count_of (on s) ts ≡ 0 → given rule ts s ≡ None) → pick b (suc (count_of (on s) ts)) (count_of (on s) ts) ≡ 0 → pick b (or_else (rule t) (given rule ts s)) (given rule ts s) ≡ None
       go true f q = absurd (omega (arith, q))
       go false f q = f q
 
-  or_none : (o : Option ℕ) → or_else o none ≡ o
-  or_none none = refl
-  or_none (some x) = refl
+  or_none : (o : Option ℕ) → or_else o None ≡ o
+  or_none None = refl
+  or_none (Some x) = refl
 
   pub given_one : (ts : List Stmt) (t : Stmt) → Mem t ts → count_of (on (target t)) ts ≤ 1 → given rule ts (target t) ≡ rule t
   given_one [] t m h = absurd (not-nil m)
@@ -89,12 +89,12 @@ right true b q = q
 right false b q = absurd (false≢true q)
 
 abbrev pub LowReset : Option RegReset → Type 0
-LowReset none = Unit {0}
-LowReset (some r) = r.active ≤ 1
+LowReset None = Unit {0}
+LowReset (Some r) = r.active ≤ 1
 
 abbrev pub LowEnable : Option RegEnable → Type 0
-LowEnable none = Unit {0}
-LowEnable (some e) = e.active ≤ 1
+LowEnable None = Unit {0}
+LowEnable (Some e) = e.active ≤ 1
 
 module _ {widest : ℕ} {M : Model} (sound : Sound widest M) where
   abbrev sw : List ℕ
@@ -116,12 +116,12 @@ module _ {widest : ℕ} {M : Model} (sound : Sound widest M) where
       inside_of t n (left (suits sw ew t n) (broad sw c 1) (left (suits sw ew t n && broad sw c 1) (leb d 1) (left (suits sw ew t n && broad sw c 1 && leb d 1) (reset_fits sw ew t r) (left (suits sw ew t n && broad sw c 1 && leb d 1 && reset_fits sw ew t r) (enable_fits sw e) h))))
 
   low_reset : (t : ℕ) (r : Option RegReset) → reset_fits sw ew t r ≡ true → LowReset r
-  low_reset t none h = tt
-  low_reset t (some r) h = leb-true r.active 1 (right (broad sw r.signal 1) (leb r.active 1) (left (broad sw r.signal 1 && leb r.active 1) (suits sw ew t r.value) h))
+  low_reset t None h = tt
+  low_reset t (Some r) h = leb-true r.active 1 (right (broad sw r.signal 1) (leb r.active 1) (left (broad sw r.signal 1 && leb r.active 1) (suits sw ew t r.value) h))
 
   low_enable : (e : Option RegEnable) → enable_fits sw e ≡ true → LowEnable e
-  low_enable none h = tt
-  low_enable (some e) h = leb-true e.active 1 (right (broad sw e.signal 1) (leb e.active 1) h)
+  low_enable None h = tt
+  low_enable (Some e) h = leb-true e.active 1 (right (broad sw e.signal 1) (leb e.active 1) h)
 
   pub only_statement : (t : Stmt) → Mem t M.stmts → count_of (on (target t)) M.stmts ≤ 1
   only_statement t m = one_each widest M sound (target t) (stmt_inside t m)
@@ -140,28 +140,28 @@ level_same σ s active h = go (lowest (σ s)) active h
     go false (suc (suc a)) h = absurd (omega (arith, h))
 
 enabled_same : (σ : Signals) (e : Option RegEnable) → LowEnable e → enabled σ e ≡ enable_now σ e
-enabled_same σ none h = refl
-enabled_same σ (some e) h = level_same σ e.signal e.active h
+enabled_same σ None h = refl
+enabled_same σ (Some e) h = level_same σ e.signal e.active h
 
 -- what a register becomes
 becomes : (Ω : Values) (f : Firing) (σ : Signals) (n c d : ℕ) (r : Option RegReset) (e : Option RegEnable) (old : Bits) → LowReset r → LowEnable e
-    → become Ω (or_else (reset_loads σ r) (only (f c d && enabled σ e) (some n))) old ≡ pick (reset_now σ r) (reset_bits Ω r) (pick (f c d && enable_now σ e) (value_of Ω n) old)
+    → become Ω (or_else (reset_loads σ r) (only (f c d && enabled σ e) (Some n))) old ≡ pick (reset_now σ r) (reset_bits Ω r) (pick (f c d && enable_now σ e) (value_of Ω n) old)
 becomes Ω f σ n c d r e old hr he = reset r hr
   where
-    next : (t : Bool) → become Ω (only t (some n)) old ≡ pick t (value_of Ω n) old
+    next : (t : Bool) → become Ω (only t (Some n)) old ≡ pick t (value_of Ω n) old
     next true = refl
     next false = refl
 
-    clocked : become Ω (only (f c d && enabled σ e) (some n)) old ≡ pick (f c d && enable_now σ e) (value_of Ω n) old
+    clocked : become Ω (only (f c d && enabled σ e) (Some n)) old ≡ pick (f c d && enable_now σ e) (value_of Ω n) old
     clocked = next (f c d && enabled σ e) ∙ ap (λ (t : Bool). pick (f c d && t) (value_of Ω n) old) (enabled_same σ e he)
 
-    when : (t : Bool) (v : ℕ) → become Ω (or_else (only t (some v)) (only (f c d && enabled σ e) (some n))) old ≡ pick t (value_of Ω v) (pick (f c d && enable_now σ e) (value_of Ω n) old)
+    when : (t : Bool) (v : ℕ) → become Ω (or_else (only t (Some v)) (only (f c d && enabled σ e) (Some n))) old ≡ pick t (value_of Ω v) (pick (f c d && enable_now σ e) (value_of Ω n) old)
     when true v = refl
     when false v = clocked
 
-    reset : (r : Option RegReset) → LowReset r → become Ω (or_else (reset_loads σ r) (only (f c d && enabled σ e) (some n))) old ≡ pick (reset_now σ r) (reset_bits Ω r) (pick (f c d && enable_now σ e) (value_of Ω n) old)
-    reset none h = clocked
-    reset (some q) h = when (asserted σ q.signal q.active) q.value ∙ ap (λ (t : Bool). pick t (value_of Ω q.value) (pick (f c d && enable_now σ e) (value_of Ω n) old)) (level_same σ q.signal q.active h)
+    reset : (r : Option RegReset) → LowReset r → become Ω (or_else (reset_loads σ r) (only (f c d && enabled σ e) (Some n))) old ≡ pick (reset_now σ r) (reset_bits Ω r) (pick (f c d && enable_now σ e) (value_of Ω n) old)
+    reset None h = clocked
+    reset (Some q) h = when (asserted σ q.signal q.active) q.value ∙ ap (λ (t : Bool). pick t (value_of Ω q.value) (pick (f c d && enable_now σ e) (value_of Ω n) old)) (level_same σ q.signal q.active h)
 
 -- ALL STATEMENTS HOLD
 
@@ -203,12 +203,12 @@ module _ {widest : ℕ} {M : Model} (sound : Sound widest M) (k : Settling M) wh
   commit_keeps s h e = commit_at s h ∙ ap (λ (o : Option ℕ). become Ω o (σ s)) (given_none (loads k.fires σ) M.stmts s e)
 
   -- and in settling, where no assignment stands on it
-  pub settle_keeps : (s : ℕ) → s < length M.signals → given assigns M.stmts s ≡ none → σ s ≡ at [] k.old s
+  pub settle_keeps : (s : ℕ) → s < length M.signals → given assigns M.stmts s ≡ None → σ s ≡ at [] k.old s
   settle_keeps s h e = sym (k.settled s h) ∙ ap (λ (o : Option ℕ). become Ω o (get_or k.old s [])) e
 
 -- a register is not assigned
-pub register_free : {widest : ℕ} {M : Model} → Sound widest M → (t : Stmt) (s : ℕ) → Mem t M.stmts → IsReg t s → (given assigns M.stmts s ≡ none) × (s < length M.signals) × (1 ≤ drivers M s)
+pub register_free : {widest : ℕ} {M : Model} → Sound widest M → (t : Stmt) (s : ℕ) → Mem t M.stmts → IsReg t s → (given assigns M.stmts s ≡ None) × (s < length M.signals) × (1 ≤ drivers M s)
 register_free sound (assign u e) s m h = absurd h
 register_free {M = M} sound (reg u n c d r e) s m h =
-    subst (λ (i : ℕ). (given assigns M.stmts i ≡ none) × (i < length M.signals) × (1 ≤ drivers M i)) h
+    subst (λ (i : ℕ). (given assigns M.stmts i ≡ None) × (i < length M.signals) × (1 ≤ drivers M i)) h
     (given_one assigns M.stmts (reg u n c d r e) m (only_statement sound (reg u n c d r e) m), stmt_inside sound (reg u n c d r e) m, stands_on M.stmts (reg u n c d r e) m)

@@ -10,7 +10,7 @@ use mathlib.Core.List.Memᴰ.{head as here}
 use mathlib.Core.List.Memᴰ.{not-nil}
 use mathlib.Core.List.Memᴰ.{tail as there}
 use mathlib.Core.List.{List, [], ◌∷◌, ◌++◌, map, Memᴰ as Mem}
-use mathlib.Core.Option.{Option, none, some}
+use Rattle.std.specs.Prelude.{Option, None, Some}
 use Prim.Native.Nat.{ℕ, zero, suc, ◌+◌, ◌-◌, ◌*◌, ◌^◌, ◌≤◌, ◌<◌}
 use native.Mathlib.Nat.{not-suc-le-zero, pow-succ'}
 use native.Mathlib.Omega.{arith}
@@ -69,7 +69,7 @@ pin_wire (w ∷ ws) k g h = go (cases_cons h) (pin_wire ws (suc k) g)
 
 module _ (σ : Signals) (m : Wires) where
   -- the only wire of a group has the one bit of its signal
-  one_bit : (w : ℕ) (b : Bool) (g : Group) → g.wires ≡ w ∷ [] → Driven σ m w (b ∷ []) → (r : Ref) → m (get_or g.wires 0 0) ≡ some r → (i : ℕ) → i < length g.wires → (i ≡ 0) × (b ≡ get_or (σ r.signal) i false)
+  one_bit : (w : ℕ) (b : Bool) (g : Group) → g.wires ≡ w ∷ [] → Driven σ m w (b ∷ []) → (r : Ref) → m (get_or g.wires 0 0) ≡ Some r → (i : ℕ) → i < length g.wires → (i ≡ 0) × (b ≡ get_or (σ r.signal) i false)
   one_bit w b g e d r q i h =
       let z : i ≡ 0 = omega (arith, h, ap length e) in
       let s : σ r.signal ≡ b ∷ [] = d r (ap m (sym (ap (λ (l : List ℕ). get_or l 0 0) e)) ∙ q) in
@@ -113,10 +113,10 @@ module _ (limits : Limits) (κ : Tick) (m : Wires) (z : Constants) where
   v = held κ.before m
 
   abbrev Gives : Cell → List ℕ → Type 0
-  Gives x ws = (g : Group) → Mem g (groups x) → (r : Ref) → m (get_or g.wires 0 0) ≡ some r → (i : ℕ) → i < length g.wires → output v (registers_of σ m x ws) x (g.pin + i) ≡ get_or (σ r.signal) i false
+  Gives x ws = (g : Group) → Mem g (groups x) → (r : Ref) → m (get_or g.wires 0 0) ≡ Some r → (i : ℕ) → i < length g.wires → output v (registers_of σ m x ws) x (g.pin + i) ≡ get_or (σ r.signal) i false
 
   -- a cell of one output
-  single : (o : ℕ) (b : Bool) → Driven σ m o (b ∷ []) → (g : Group) → Mem g (apiece (o ∷ []) 0) → (r : Ref) → m (get_or g.wires 0 0) ≡ some r → (i : ℕ) → i < length g.wires → b ≡ get_or (σ r.signal) i false
+  single : (o : ℕ) (b : Bool) → Driven σ m o (b ∷ []) → (g : Group) → Mem g (apiece (o ∷ []) 0) → (r : Ref) → m (get_or g.wires 0 0) ≡ Some r → (i : ℕ) → i < length g.wires → b ≡ get_or (σ r.signal) i false
   single o b d g h r q i l = (one_bit σ m o b g (ap (λ (y : Group). y.wires) (only_one h)) d r q i l).1
 
   ccu_gives : (u : Rattle.netlist.specs.Netlist.Ccu2c) (ws : List ℕ) → Does κ m z (ccu2c u) ws → Gives (ccu2c u) ws
@@ -169,8 +169,8 @@ module _ (limits : Limits) (κ : Tick) (m : Wires) (z : Constants) where
           ∙ window_at (σ (aim (m (get_or x.output 0 0)))) 0 x.width i k ∙ ap₂ (λ (t j : ℕ). get_or (σ t) j false) s (let y : 0 + i ≡ i = omega arith in y)
 
       second : (o : Option SecondPort) → FitsOption (FitsSecond limits x.width) o → Mem g (second_group x.width o) → get_or (read_of σ m x.width (get_or x.output 0 0) ++ second_read σ m x.width o) (g.pin + i) false ≡ get_or (σ r.signal) i false
-      second none fo k = absurd (not-nil k)
-      second (some p) fo k =
+      second None fo k = absurd (not-nil k)
+      second (Some p) fo k =
           let e : g ≡ record { pin = x.width; wires = p.output } = only_one k in
           let j : i < x.width = omega (arith, l, ap (λ (y : Group). length y.wires) e, fo.output.0) in
           let t : g.pin + i ≡ length (read_of σ m x.width (get_or x.output 0 0)) + i = omega (arith, ap (λ (y : Group). y.pin) e, a_long) in
@@ -188,9 +188,9 @@ module _ (limits : Limits) (κ : Tick) (m : Wires) (z : Constants) where
       let e : g ≡ record { pin = 0; wires = x.output } = only_one h in
       let at_is : values_at v x.read_address 0 4 ≡ values v x.read_address = ap (λ (k : ℕ). values_at v x.read_address 0 k) (sym f.read_address.0) ∙ values_all v x.read_address in
       let long : length (values_at v x.read_address 0 4) ≡ 4 = ap length at_is ∙ length-map x.read_address (value v) ∙ f.read_address.0 in
-      let s : σ r.signal ≡ last_choice (choices σ 4 4 (dram_value v x) none (values_at v x.read_address 0 4) 0 ws) (binary 4 0) = d.shown r (ap m (sym (ap (λ (y : Group). get_or y.wires 0 0) e)) ∙ q) in
-      let c : last_choice (choices σ 4 4 (dram_value v x) none (values_at v x.read_address 0 4) 0 ws) (binary 4 0) ≡ get_or (map (bits_of σ 4) ws) (number (values_at v x.read_address 0 4)) (binary 4 0) =
-      word_chosen σ 4 4 (dram_value v x) none (values_at v x.read_address 0 4) ws (binary 4 0) long (omega (arith, n16)) in
+      let s : σ r.signal ≡ last_choice (choices σ 4 4 (dram_value v x) None (values_at v x.read_address 0 4) 0 ws) (binary 4 0) = d.shown r (ap m (sym (ap (λ (y : Group). get_or y.wires 0 0) e)) ∙ q) in
+      let c : last_choice (choices σ 4 4 (dram_value v x) None (values_at v x.read_address 0 4) 0 ws) (binary 4 0) ≡ get_or (map (bits_of σ 4) ws) (number (values_at v x.read_address 0 4)) (binary 4 0) =
+      word_chosen σ 4 4 (dram_value v x) None (values_at v x.read_address 0 4) ws (binary 4 0) long (omega (arith, n16)) in
       let few : number (values v x.read_address) < length (map (bits_of σ 4) ws) = omega (
         arith,
         number_under (values v x.read_address),

@@ -3,7 +3,7 @@
 use mathlib.Core.Path.{◌≡◌, refl, ap, ap₂, sym, ◌∙◌, subst}
 use mathlib.Core.Bool.{Bool, true, false}
 use mathlib.Core.List.{List, [], ◌∷◌, ◌++◌, map}
-use mathlib.Core.Option.{none, some}
+use Rattle.std.specs.Prelude.{None, Some}
 use Prim.Native.Nat.{ℕ, zero, suc, ◌+◌, ◌≤◌}
 use native.Mathlib.Omega.{arith}
 use lib.Dec.{eqb}
@@ -83,9 +83,9 @@ bytes_shown (s ∷ ss) bytes h =
     go false p q = q
 
 -- bytes that pass the test are bits, and bits pass it
-pub bits_pass : (k : ℕ) (bytes : List ℕ) → AllBits bytes → no_bit k bytes ≡ none
+pub bits_pass : (k : ℕ) (bytes : List ℕ) → AllBits bytes → no_bit k bytes ≡ None
 bits_pass k [] h = refl
-bits_pass k (b ∷ bytes) h = ap (λ (t : Bool). pick t (no_bit (suc k) bytes) (some (14, k))) (borrow.Author.Tests.le-leb b 1 h.0) ∙ bits_pass (suc k) bytes h.1
+bits_pass k (b ∷ bytes) h = ap (λ (t : Bool). pick t (no_bit (suc k) bytes) (Some (14, k))) (borrow.Author.Tests.le-leb b 1 h.0) ∙ bits_pass (suc k) bytes h.1
 
 -- THE PORTS
 

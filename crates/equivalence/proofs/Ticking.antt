@@ -3,7 +3,7 @@
 use mathlib.Core.Path.{◌≡◌, refl, ap, ap₂, sym, ◌∙◌, subst, fun_ext}
 use mathlib.Core.Bool.{Bool, true, false, ◌&&◌}
 use mathlib.Core.List.{List, [], ◌∷◌, ◌++◌, map, append_assoc}
-use mathlib.Core.Option.{Option, none, some}
+use Rattle.std.specs.Prelude.{Option, None, Some}
 use Prim.Native.Nat.{ℕ, suc, ◌≤◌, ◌<◌}
 use native.Mathlib.Omega.{arith}
 use native.Mathlib.Decide.{ℕ_discrete}
@@ -90,8 +90,8 @@ module _ {shared : ℕ} {limits : Limits} {n : Netlist} (a : Lowered shared limi
         ap (λ (t : ℕ). bits_of τ width t) s ∙ ap (λ (v : Bits). Rattle.bits.specs.Bits.window v 0 width) (alike p.target.signal p.registered) ∙ ap (λ (t : ℕ). bits_of ρ width t) (sym s)
 
     second_alike : (width aw shift : ℕ) (x : PortValue) (y : Option PortValue) (o : Option SecondPort) (ws : List ℕ) (clock edge : ℕ) → SecondRead (κ k) m runs.constants width aw shift x y o ws clock edge → second_read τ m width o ≡ second_read ρ m width o
-    second_alike width aw shift x y none ws clock edge h = refl
-    second_alike width aw shift x y (some p) ws clock edge h = read_alike width aw x y p.output p.read_enable p.clock_enable _ ws clock edge h
+    second_alike width aw shift x y None ws clock edge h = refl
+    second_alike width aw shift x y (Some p) ws clock edge h = read_alike width aw x y p.output p.read_enable p.clock_enable _ ws clock edge h
 
     flop_alike : (c : ℕ) (f : Rattle.netlist.specs.Netlist.FlipFlop) → get_or n.cells c absent ≡ flip_flop f → held τ m f.output ≡ held ρ m f.output
     flop_alike c f e =
@@ -100,9 +100,9 @@ module _ {shared : ℕ} {limits : Limits} {n : Netlist} (a : Lowered shared limi
         let first = (bank_is a b.bank b.one_of).first in
         let bk = banked_at (κ k) m runs.constants (collect_flip_flop_banks n.cells) (runs.banks_do k) b.bank b.one_of in
         let long : b.place < length (outputs_of b.bank.members) = omega (arith, b.inside, length-map b.bank.members (λ (x : Member). x.flop.output)) in
-        let mine : m f.output ≡ some (record { signal = p.number; lsb = b.place; width = length (outputs_of b.bank.members) }) =
+        let mine : m f.output ≡ Some (record { signal = p.number; lsb = b.place; width = length (outputs_of b.bank.members) }) =
         ap m (sym (outputs_at b.bank.members b.place b.bank.leader b.inside ∙ ap (λ (x : Member). x.flop.output) b.is)) ∙ wire_at a _ (outputs_of b.bank.members) p b.place long in
-        let leads : m b.bank.leader.flop.output ≡ some (record { signal = p.number; lsb = 0; width = length (outputs_of b.bank.members) }) = ap m (sym (leader_first a b.bank first)) ∙ wire_at a _ (outputs_of b.bank.members) p 0 (leader_there a b.bank first) in
+        let leads : m b.bank.leader.flop.output ≡ Some (record { signal = p.number; lsb = 0; width = length (outputs_of b.bank.members) }) = ap m (sym (leader_first a b.bank first)) ∙ wire_at a _ (outputs_of b.bank.members) p 0 (leader_there a b.bank first) in
         let target : bk.target.signal ≡ p.number = ap (λ (x : Ref). x.signal) (some_is bk.target (record { signal = p.number; lsb = 0; width = length (outputs_of b.bank.members) }) (sym bk.target_is ∙ leads)) in
         ap (ref_bit τ) mine ∙ ap (λ (v : Bits). get_or v b.place false) (alike p.number (subst (RegOn (κ k)) target bk.registered)) ∙ sym (ap (ref_bit ρ) mine)
 
@@ -137,14 +137,14 @@ module _ {shared : ℕ} {limits : Limits} {n : Netlist} (a : Lowered shared limi
   clock_fires : (k : Settling (lowered_model shared n)) (f : Option (ℕ × ℕ)) → k.fires ≡ firing f → Fires a (κ k) runs.constants (runs.zero_is k) (runs.one_is k) (on_fired (slots n) (fired_by f))
   clock_fires k f e b s h d = ap (λ (g : Firing). g s d) e ∙ go f
     where
-      clock_is : (b : Bit) → IsSignal m runs.constants b s → clock_signal (slots n) b ≡ some s
-      clock_is Zero q = ap some (sym (q ∙ runs.zero_number))
-      clock_is One q = ap some (sym (q ∙ runs.one_number))
+      clock_is : (b : Bit) → IsSignal m runs.constants b s → clock_signal (slots n) b ≡ Some s
+      clock_is Zero q = ap Some (sym (q ∙ runs.zero_number))
+      clock_is One q = ap Some (sym (q ∙ runs.one_number))
       clock_is (Wire w) q = ap signal_in (located n m (slot_signals a) (mapping a) w (record { signal = s; lsb = 0; width = 1 }) q.alone).found
 
       go : (f : Option (ℕ × ℕ)) → firing f s d ≡ on_fired (slots n) (fired_by f) b d
-      go none = refl
-      go (some x) = ap₂ (λ (p q : Bool). p && q) (eqb_same x.0 s) (eqb_same x.1 d) ∙ ap (λ (o : Option ℕ). is_signal o x.0 && eqb d x.1) (sym (clock_is b h))
+      go None = refl
+      go (Some x) = ap₂ (λ (p q : Bool). p && q) (eqb_same x.0 s) (eqb_same x.1 d) ∙ ap (λ (o : Option ℕ). is_signal o x.0 && eqb d x.1) (sym (clock_is b h))
 
   -- INPUTS
 

@@ -3,7 +3,7 @@
 use mathlib.Core.Path.{◌≡◌, refl, ap, ap₂, sym, ◌∙◌, subst}
 use mathlib.Core.Bool.{Bool, true, false, ◌&&◌}
 use mathlib.Core.List.{List, [], ◌∷◌, map}
-use mathlib.Core.Option.{Option, none, some}
+use Rattle.std.specs.Prelude.{Option, None, Some}
 use Prim.Native.Nat.{ℕ, suc, ◌+◌, ◌-◌, ◌^◌, ◌≤◌, ◌<◌}
 use native.Mathlib.Omega.{arith}
 use native.Mathlib.Decide.{dec_lt, ℕ_discrete}
@@ -114,20 +114,20 @@ writes_all a aw ws e h =
     go false = indexed_same (λ j w. w) 0 ws (λ j w. refl)
 
 abbrev pub written_second : Option PortValue → List Bits → List Bits
-written_second none ws = ws
-written_second (some v) ws = written v.asserted (number v.address) v.word ws
+written_second None ws = ws
+written_second (Some v) ws = written v.asserted (number v.address) v.word ws
 
 abbrev pub SecondSized : ℕ → ℕ → Option PortValue → Type 0
-SecondSized aw width none = Unit {0}
-SecondSized aw width (some v) = (length v.address ≡ aw) × (length v.word ≡ width)
+SecondSized aw width None = Unit {0}
+SecondSized aw width (Some v) = (length v.address ≡ aw) × (length v.word ≡ width)
 
 written_long : (t : Bool) (A : ℕ) (x : Bits) (ws : List Bits) → length (written t A x ws) ≡ length ws
 written_long true A x ws = lib.ListN.length-set ws A x
 written_long false A x ws = refl
 
 pub second_writes : (b : Option PortValue) (aw width : ℕ) (ws : List Bits) → SecondSized aw width b → length ws ≤ 2 ^ aw → indexed (wrote_second b aw) 0 ws ≡ written_second b ws
-second_writes none aw width ws e h = indexed_same (λ j w. w) 0 ws (λ j w. refl)
-second_writes (some v) aw width ws e h = writes_all v aw ws e.0 h
+second_writes None aw width ws e h = indexed_same (λ j w. w) 0 ws (λ j w. refl)
+second_writes (Some v) aw width ws e h = writes_all v aw ws e.0 h
 
 -- A COMMIT
 
@@ -143,8 +143,8 @@ module _ (κ : Tick) (width aw : ℕ) (a : PortValue) (b : Option PortValue) (cl
   new_length j w h = go b wide_b (wrote a aw j w) (pick_length (a.asserted && same_bits a.address (binary aw j)) a.word w wide_a h)
     where
       go : (o : Option PortValue) → SecondSized aw width o → (x : Bits) → length x ≡ width → length (wrote_second o aw j x) ≡ width
-      go none s x q = q
-      go (some v) s x q = pick_length (v.asserted && same_bits v.address (binary aw j)) v.word x s.1 q
+      go None s x q = q
+      go (Some v) s x q = pick_length (v.asserted && same_bits v.address (binary aw j)) v.word x s.1 q
 
   one_word : (i s : ℕ) → NewWord κ width aw a b clock edge i s → word_of κ.next width s ≡ pick (κ.fires clock edge) (new i (word_of κ.before width s)) (word_of κ.before width s)
   one_word i s h =

@@ -1,6 +1,6 @@
 -- Demand 3: an accepted model shows what the netlist's own cells show, over whole lists of ticks, and refuses the same ticks.
 use Rattle.std.specs.Prelude.{◌≡◌, ◌⊎◌, Bool, true, false, ◌&&◌, List, [], ◌∷◌, map, ℕ, leb, length, take, drop, replicate}
-use Rattle.std.proofs.Math.Option.{Option, none, some}
+use Rattle.std.specs.Prelude.{Option, None, Some}
 use Rattle.bits.specs.Bits.{pick, Bits, digit}
 use Rattle.netlist.specs.declared.Limits.{Limits}
 use Rattle.netlist.specs.Netlist.{Netlist}
@@ -25,8 +25,8 @@ used_lists l t = lists (take t.signals.used l.signals) (take t.exprs.used l.expr
 -- THE CELLS
 
 abbrev pub fired_by : Option (ℕ × ℕ) → Option Fired
-fired_by none = none
-fired_by (some f) = some (record { signal = f.0; edge = f.1 })
+fired_by None = None
+fired_by (Some f) = Some (record { signal = f.0; edge = f.1 })
 
 abbrev pub tick_by : Entry → Tick
 tick_by e = record { bits = e.ticks; fired = fired_by e.fired }
@@ -56,8 +56,8 @@ shown_by_cells shared n s (e ∷ es) = record { made = made shared n e; outputs 
 -- THE SAME: the outputs, and the ticks that are made; a refusal is 1 or 14
 
 pub data Agrees : ByModel → ByCells → Type 0 where
-  done : (outputs : List (List ℕ)) → Agrees (record { answer = none; outputs = outputs }) (record { made = true; outputs = outputs })
-  refused : (number place : ℕ) (outputs : List (List ℕ)) → (number ≡ 1) ⊎ (number ≡ 14) → Agrees (record { answer = some (number, place); outputs = outputs }) (record { made = false; outputs = outputs })
+  done : (outputs : List (List ℕ)) → Agrees (record { answer = None; outputs = outputs }) (record { made = true; outputs = outputs })
+  refused : (number place : ℕ) (outputs : List (List ℕ)) → (number ≡ 1) ⊎ (number ≡ 14) → Agrees (record { answer = Some (number, place); outputs = outputs }) (record { made = false; outputs = outputs })
 
 abbrev pub AllAgree : List ByModel → List ByCells → Type 0
 AllAgree [] [] = Unit {0}

@@ -1,6 +1,6 @@
 -- The registers of a netlist's cells, as the signals of its model hold them.
 use Rattle.std.specs.Prelude.{List, [], ◌∷◌, map, false, ℕ, get_or}
-use Rattle.std.proofs.Math.Option.{Option, none, some}
+use Rattle.std.specs.Prelude.{Option, None, Some}
 use Rattle.bits.specs.Bits.{Bits, window}
 use Rattle.netlist.specs.Netlist.{SecondPort, Cell, lut4, pfumx, l6mux21, ccu2c, multiplier, flip_flop, block_ram, distributed_ram, io, jtagg, pll}
 use Rattle.recorder.specs.Evaluate.{Signals}
@@ -18,8 +18,8 @@ abbrev pub read_of : Signals → Wires → ℕ → ℕ → Bits
 read_of σ m width w = bits_of σ width (aim (m w))
 
 abbrev pub second_read : Signals → Wires → ℕ → Option SecondPort → Bits
-second_read σ m width none = zeros width
-second_read σ m width (some p) = read_of σ m width (get_or p.output 0 0)
+second_read σ m width None = zeros width
+second_read σ m width (Some p) = read_of σ m width (get_or p.output 0 0)
 
 -- those of a cell, whose RAM words have these signals
 abbrev pub registers_of : Signals → Wires → Cell → List ℕ → Registers

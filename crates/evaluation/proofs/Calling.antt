@@ -3,7 +3,7 @@ use Prim.Native.Nat.{ℕ, suc, ◌+◌, ◌≤◌}
 use mathlib.Core.Path.{◌≡◌, refl, sym, ◌∙◌, ap, subst}
 use mathlib.Core.Bool.{true, false}
 use mathlib.Core.List.{List, [], ◌∷◌, ◌++◌, map}
-use mathlib.Core.Option.{none}
+use Rattle.std.specs.Prelude.{None}
 use native.Mathlib.Omega.{arith}
 use lib.ListN.{length, take, drop, length-append, length-map, take-append-drop}
 use lib.Seq.{take_at, drop_at, take-add}
@@ -54,12 +54,12 @@ widths_total : (ss : List Signal) → total (λ (s : Signal). s.width) ss ≡ of
 widths_total [] = refl
 widths_total (s ∷ ss) = ap (λ (n : ℕ). s.width + n) (widths_total ss)
 
-digits_fine : (k : ℕ) (bs : Bits) → no_bit k (map digit bs) ≡ none
+digits_fine : (k : ℕ) (bs : Bits) → no_bit k (map digit bs) ≡ None
 digits_fine k [] = refl
 digits_fine k (true ∷ bs) = digits_fine (suc k) bs
 digits_fine k (false ∷ bs) = digits_fine (suc k) bs
 
-module _ (widest : ℕ) (l : Lists) (h : first_fault widest (raw_of l) ≡ none) where
+module _ (widest : ℕ) (l : Lists) (h : first_fault widest (raw_of l) ≡ None) where
   abbrev m : Model
   m = model_of (raw_of l)
 
@@ -81,7 +81,7 @@ module _ (widest : ℕ) (l : Lists) (h : first_fault widest (raw_of l) ≡ none)
     pub holds_enough : signal_bytes (model_of (raw_of l)) ≤ length bytes
     holds_enough = omega (arith, ap length ho.begin, length-append (map digit (flat old)) behind, long)
 
-    pub holds_bits : no_bit 0 (take (signal_bytes (model_of (raw_of l))) bytes) ≡ none
+    pub holds_bits : no_bit 0 (take (signal_bytes (model_of (raw_of l))) bytes) ≡ None
     holds_bits = ap (no_bit 0) (ap (take (signal_bytes m)) ho.begin ∙ take_at (map digit (flat old)) behind (signal_bytes m) long) ∙ digits_fine 0 (flat old)
 
     -- the state after a tick
@@ -92,7 +92,7 @@ module _ (widest : ℕ) (l : Lists) (h : first_fault widest (raw_of l) ≡ none)
     }
 
   -- bytes that are bits hold some state
-  pub bytes_hold : {bytes : List ℕ} → signal_bytes (model_of (raw_of l)) ≤ length bytes → no_bit 0 (take (signal_bytes (model_of (raw_of l))) bytes) ≡ none → Holds (widths_in l.signals) (per_signal (model_of (raw_of l)).signals (map is_one bytes)) (drop (signal_bytes (model_of (raw_of l))) bytes) bytes
+  pub bytes_hold : {bytes : List ℕ} → signal_bytes (model_of (raw_of l)) ≤ length bytes → no_bit 0 (take (signal_bytes (model_of (raw_of l))) bytes) ≡ None → Holds (widths_in l.signals) (per_signal (model_of (raw_of l)).signals (map is_one bytes)) (drop (signal_bytes (model_of (raw_of l))) bytes) bytes
   bytes_hold {bytes} q n = record {
     wide = subst (λ (ws : List ℕ). Wide ws (per_signal m.signals (map is_one bytes))) (sym (signals_wide widest l h)) (fits_wide m.signals (per_signal m.signals (map is_one bytes)) (fits_cut m.signals (map is_one bytes) (omega (arith, q, length-map bytes is_one))));
     begin =

@@ -5,7 +5,8 @@ use mathlib.Core.Path.{◌≡◌, refl, sym, ◌∙◌, ap, ap₂, subst}
 use mathlib.Core.Bool.{Bool, true, false, ◌&&◌, true≢false, false≢true}
 use mathlib.Core.List.{List, [], ◌∷◌}
 use mathlib.Core.Logic.{◌⊎◌, inl, inr}
-use mathlib.Core.Option.{Option, none, some, some-injective, none-ne-some}
+use Rattle.std.specs.Prelude.{Option, None, Some}
+use Rattle.bits.proofs.Options.{some_injective, none_ne_some}
 use native.Mathlib.Omega.{arith}
 use native.Mathlib.Numerals.{add-one}
 use native.Mathlib.Nat.{not-suc-le-zero}
@@ -71,17 +72,17 @@ record Spelled (l : List ℕ) (word : ℕ) (x : Stmt) : Type 0 where
 
 least : (x : Stmt) → 4 ≤ length (stmt_words x)
 least (assign t e) = omega arith
-least (reg t n c d none none) = omega arith
-least (reg t n c d none (some e)) = omega arith
-least (reg t n c d (some r) none) = omega arith
-least (reg t n c d (some r) (some e)) = omega arith
+least (reg t n c d None None) = omega arith
+least (reg t n c d None (Some e)) = omega arith
+least (reg t n c d (Some r) None) = omega arith
+least (reg t n c d (Some r) (Some e)) = omega arith
 
 register_least : (x : Stmt) → get_or (stmt_words x) 1 0 ≡ 1 → 8 ≤ length (stmt_words x)
 register_least (assign t e) h = absurd (omega arith)
-register_least (reg t n c d none none) h = omega arith
-register_least (reg t n c d none (some e)) h = omega arith
-register_least (reg t n c d (some r) none) h = omega arith
-register_least (reg t n c d (some r) (some e)) h = omega arith
+register_least (reg t n c d None None) h = omega arith
+register_least (reg t n c d None (Some e)) h = omega arith
+register_least (reg t n c d (Some r) None) h = omega arith
+register_least (reg t n c d (Some r) (Some e)) h = omega arith
 
 target_word : (x : Stmt) → get_or (stmt_words x) 2 0 ≡ target x
 target_word (assign t e) = refl
@@ -187,37 +188,37 @@ code_off false false false h i = refl
 
 -- where its enable stands
 abbrev enable_from : ℕ → Option RegReset → ℕ
-enable_from word none = word + 7
-enable_from word (some r) = word + 10
+enable_from word None = word + 7
+enable_from word (Some r) = word + 10
 
 module _ (l : List ℕ) (word t n c d : ℕ) where
-  no_reset : (e : Option RegEnable) → Spelled l word (reg t n c d none e) → Absent l (word + 6)
-  no_reset none p = absent_from p 6 (omega arith) refl
-  no_reset (some e) p = absent_from p 6 (omega arith) refl
+  no_reset : (e : Option RegEnable) → Spelled l word (reg t n c d None e) → Absent l (word + 6)
+  no_reset None p = absent_from p 6 (omega arith) refl
+  no_reset (Some e) p = absent_from p 6 (omega arith) refl
 
-  reset_words : (r : RegReset) (e : Option RegEnable) → Spelled l word (reg t n c d (some r) e) → Given l (word + 6) r.signal r.active
-  reset_words r none p = given_from p 6 (omega arith) refl
-  reset_words r (some e) p = given_from p 6 (omega arith) refl
+  reset_words : (r : RegReset) (e : Option RegEnable) → Spelled l word (reg t n c d (Some r) e) → Given l (word + 6) r.signal r.active
+  reset_words r None p = given_from p 6 (omega arith) refl
+  reset_words r (Some e) p = given_from p 6 (omega arith) refl
 
-  reset_value_lem : (r : RegReset) (e : Option RegEnable) → Spelled l word (reg t n c d (some r) e) → get_or l (word + 9) 0 ≡ r.value
-  reset_value_lem r none p = p.words 9 (omega arith)
-  reset_value_lem r (some e) p = p.words 9 (omega arith)
+  reset_value_lem : (r : RegReset) (e : Option RegEnable) → Spelled l word (reg t n c d (Some r) e) → get_or l (word + 9) 0 ≡ r.value
+  reset_value_lem r None p = p.words 9 (omega arith)
+  reset_value_lem r (Some e) p = p.words 9 (omega arith)
 
-  reset_inside : (r : RegReset) (e : Option RegEnable) → Spelled l word (reg t n c d (some r) e) → word + 9 < length l
-  reset_inside r none p = omega (arith, p.inside)
-  reset_inside r (some e) p = omega (arith, p.inside)
+  reset_inside : (r : RegReset) (e : Option RegEnable) → Spelled l word (reg t n c d (Some r) e) → word + 9 < length l
+  reset_inside r None p = omega (arith, p.inside)
+  reset_inside r (Some e) p = omega (arith, p.inside)
 
-  no_enable : (r : Option RegReset) → Spelled l word (reg t n c d r none) → Absent l (enable_from word r)
-  no_enable none p = absent_from p 7 (omega arith) refl
-  no_enable (some r) p = absent_from p 10 (omega arith) refl
+  no_enable : (r : Option RegReset) → Spelled l word (reg t n c d r None) → Absent l (enable_from word r)
+  no_enable None p = absent_from p 7 (omega arith) refl
+  no_enable (Some r) p = absent_from p 10 (omega arith) refl
 
-  enable_words : (r : Option RegReset) (e : RegEnable) → Spelled l word (reg t n c d r (some e)) → Given l (enable_from word r) e.signal e.active
-  enable_words none e p = given_from p 7 (omega arith) refl
-  enable_words (some r) e p = given_from p 10 (omega arith) refl
+  enable_words : (r : Option RegReset) (e : RegEnable) → Spelled l word (reg t n c d r (Some e)) → Given l (enable_from word r) e.signal e.active
+  enable_words None e p = given_from p 7 (omega arith) refl
+  enable_words (Some r) e p = given_from p 10 (omega arith) refl
 
   enable_from_lem : (r : Option RegReset) (e : Option RegEnable) → Spelled l word (reg t n c d r e) → enable_at l word ≡ enable_from word r
-  enable_from_lem none e p = ap (λ (b : Bool). pick b (word + 7) (word + 10)) (eq-eqb (get_or l (word + 6) 0) 0 (no_reset e p).first)
-  enable_from_lem (some r) e p = ap (λ (b : Bool). pick b (word + 7) (word + 10)) (ne_eqb (get_or l (word + 6) 0) 0 (λ z. absurd (omega (arith, (reset_words r e p).first, z))))
+  enable_from_lem None e p = ap (λ (b : Bool). pick b (word + 7) (word + 10)) (eq-eqb (get_or l (word + 6) 0) 0 (no_reset e p).first)
+  enable_from_lem (Some r) e p = ap (λ (b : Bool). pick b (word + 7) (word + 10)) (ne_eqb (get_or l (word + 6) 0) 0 (λ z. absurd (omega (arith, (reset_words r e p).first, z))))
 
   clock_word : (r : Option RegReset) (e : Option RegEnable) → Spelled l word (reg t n c d r e) → get_or l (word + 4) 0 ≡ c
   clock_word r e p = p.words 4 (omega (arith, register_least (reg t n c d r e) refl))
@@ -228,14 +229,14 @@ module _ (l : List ℕ) (word t n c d : ℕ) where
   -- what is asked of its controls
   module _ (signals ew : List ℕ) where
     reset_asks : (r : Option RegReset) (e : Option RegEnable) → Spelled l word (reg t n c d r e) → reset_fits (widths_in signals) ew t r ≡ true → Control signals l (word + 6)
-    reset_asks none e p h = absent_asks (no_reset e p) signals
-    reset_asks (some r) e p h =
+    reset_asks None e p h = absent_asks (no_reset e p) signals
+    reset_asks (Some r) e p h =
         let b : Bool = broad (widths_in signals) r.signal 1 in
         given_asks (reset_words r e p) signals (and_left b (leb r.active 1) (and_left (b && leb r.active 1) (suits (widths_in signals) ew t r.value) h))
 
     enable_stands : (r : Option RegReset) (e : Option RegEnable) → Spelled l word (reg t n c d r e) → enable_fits (widths_in signals) e ≡ true → Control signals l (enable_from word r)
-    enable_stands r none p h = absent_asks (no_enable r p) signals
-    enable_stands r (some e) p h = given_asks (enable_words r e p) signals (and_left (broad (widths_in signals) e.signal 1) (leb e.active 1) h)
+    enable_stands r None p h = absent_asks (no_enable r p) signals
+    enable_stands r (Some e) p h = given_asks (enable_words r e p) signals (and_left (broad (widths_in signals) e.signal 1) (leb e.active 1) h)
 
     enable_asks : (r : Option RegReset) (e : Option RegEnable) → Spelled l word (reg t n c d r e) → enable_fits (widths_in signals) e ≡ true → Control signals l (enable_at l word)
     enable_asks r e p h = subst (Control signals l) (sym (enable_from_lem r e p)) (enable_stands r e p h)
@@ -243,19 +244,19 @@ module _ (l : List ℕ) (word t n c d : ℕ) where
   -- what they say
   module _ (v : Signals) where
     enable_says : (r : Option RegReset) (e : Option RegEnable) → Spelled l word (reg t n c d r e) → control_at v l (enable_at l word) true ≡ enabled v e
-    enable_says r none p = ap (λ (i : ℕ). control_at v l i true) (enable_from_lem r none p) ∙ absent_says (no_enable r p) v true
-    enable_says r (some e) p = ap (λ (i : ℕ). control_at v l i true) (enable_from_lem r (some e) p) ∙ given_says (enable_words r e p) v true
+    enable_says r None p = ap (λ (i : ℕ). control_at v l i true) (enable_from_lem r None p) ∙ absent_says (no_enable r p) v true
+    enable_says r (Some e) p = ap (λ (i : ℕ). control_at v l i true) (enable_from_lem r (Some e) p) ∙ given_says (enable_words r e p) v true
 
-    reset_says : (r : Option RegReset) (e : Option RegEnable) → Spelled l word (reg t n c d r e) → (b b' : Bool) → marked (load_code (control_at v l (word + 6) false) b b') (reg t n c d r e) ≡ or_else (reset_loads v r) (only (b && b') (some n))
-    reset_says none e p b b' = ap (λ (a : Bool). marked (load_code a b b') (reg t n c d none e)) (absent_says (no_reset e p) v false) ∙ go b b'
+    reset_says : (r : Option RegReset) (e : Option RegEnable) → Spelled l word (reg t n c d r e) → (b b' : Bool) → marked (load_code (control_at v l (word + 6) false) b b') (reg t n c d r e) ≡ or_else (reset_loads v r) (only (b && b') (Some n))
+    reset_says None e p b b' = ap (λ (a : Bool). marked (load_code a b b') (reg t n c d None e)) (absent_says (no_reset e p) v false) ∙ go b b'
       where
-        go : (b b' : Bool) → marked (load_code false b b') (reg t n c d none e) ≡ only (b && b') (some n)
+        go : (b b' : Bool) → marked (load_code false b b') (reg t n c d None e) ≡ only (b && b') (Some n)
         go true true = refl
         go true false = refl
         go false b' = refl
-    reset_says (some r) e p b b' = ap (λ (a : Bool). marked (load_code a b b') (reg t n c d (some r) e)) (given_says (reset_words r e p) v false) ∙ go (asserted v r.signal r.active) b b'
+    reset_says (Some r) e p b b' = ap (λ (a : Bool). marked (load_code a b b') (reg t n c d (Some r) e)) (given_says (reset_words r e p) v false) ∙ go (asserted v r.signal r.active) b b'
       where
-        go : (a b b' : Bool) → marked (load_code a b b') (reg t n c d (some r) e) ≡ or_else (only a (some r.value)) (only (b && b') (some n))
+        go : (a b b' : Bool) → marked (load_code a b b') (reg t n c d (Some r) e) ≡ or_else (only a (Some r.value)) (only (b && b') (Some n))
         go true b b' = refl
         go false true true = refl
         go false true false = refl
@@ -264,11 +265,11 @@ module _ (l : List ℕ) (word t n c d : ℕ) where
     register_loads : (r : Option RegReset) (e : Option RegEnable) → Spelled l word (reg t n c d r e) → (f : Firing) → marked (code_at v l word (f (get_or l (word + 4) 0) (get_or l (word + 5) 0))) (reg t n c d r e) ≡ loads f v (reg t n c d r e)
     register_loads r e p f =
         reset_says r e p (f (get_or l (word + 4) 0) (get_or l (word + 5) 0)) (control_at v l (enable_at l word) true)
-        ∙ ap₂ (λ (b b' : Bool). or_else (reset_loads v r) (only (b && b') (some n))) (ap₂ f (clock_word r e p) (edge_word r e p)) (enable_says r e p)
+        ∙ ap₂ (λ (b b' : Bool). or_else (reset_loads v r) (only (b && b') (Some n))) (ap₂ f (clock_word r e p) (edge_word r e p)) (enable_says r e p)
 
 -- ANY STATEMENT, by its words
 
-other_kind : (x : Stmt) → (get_or (stmt_words x) 1 0 ≡ 1 → ⊥) → (mark : ℕ) → none ≡ marked mark x
+other_kind : (x : Stmt) → (get_or (stmt_words x) 1 0 ≡ 1 → ⊥) → (mark : ℕ) → None ≡ marked mark x
 other_kind (assign t e) h mark = refl
 other_kind (reg t n c d r e) h mark = absurd (h refl)
 
@@ -299,29 +300,29 @@ module _ (l : List ℕ) (word : ℕ) where
   -- what a mark makes it load
 
   module _ {mark : ℕ} where
-    by_next : (x : Stmt) → Spelled l word x → Register → mark ≡ 1 → some (get_or l (word + 3) 0) ≡ marked mark x
+    by_next : (x : Stmt) → Spelled l word x → Register → mark ≡ 1 → Some (get_or l (word + 3) 0) ≡ marked mark x
     by_next (assign t e) p k m = no_register p k
-    by_next (reg t n c d r e) p k m = ap some (p.words 3 (omega (arith, least (reg t n c d r e)))) ∙ ap (λ (i : ℕ). marked i (reg t n c d r e)) (sym m)
+    by_next (reg t n c d r e) p k m = ap Some (p.words 3 (omega (arith, least (reg t n c d r e)))) ∙ ap (λ (i : ℕ). marked i (reg t n c d r e)) (sym m)
 
-    by_none : (x : Stmt) → (mark ≡ 1 → ⊥) → (mark ≡ 2 → ⊥) → none ≡ marked mark x
+    by_none : (x : Stmt) → (mark ≡ 1 → ⊥) → (mark ≡ 2 → ⊥) → None ≡ marked mark x
     by_none (assign t e) a b = refl
     by_none (reg t n c d r e) a b =
-        sym (ap₂ (λ (y z : Bool). pick y (some n) (pick z (reset_value r) none)) (ne_eqb mark 1 a) (ne_eqb mark 2 b))
+        sym (ap₂ (λ (y z : Bool). pick y (Some n) (pick z (reset_value r) None)) (ne_eqb mark 1 a) (ne_eqb mark 2 b))
 
-    by_absent : (x : Stmt) → Spelled l word x → mark ≡ 2 → get_or l (word + 6) 0 ≡ 0 → none ≡ marked mark x
+    by_absent : (x : Stmt) → Spelled l word x → mark ≡ 2 → get_or l (word + 6) 0 ≡ 0 → None ≡ marked mark x
     by_absent (assign t e) p m z = refl
-    by_absent (reg t n c d none e) p m z = ap (λ (i : ℕ). marked i (reg t n c d none e)) (sym m)
-    by_absent (reg t n c d (some r) e) p m z = absurd (omega (arith, (reset_words l word t n c d r e p).first, z))
+    by_absent (reg t n c d None e) p m z = ap (λ (i : ℕ). marked i (reg t n c d None e)) (sym m)
+    by_absent (reg t n c d (Some r) e) p m z = absurd (omega (arith, (reset_words l word t n c d r e p).first, z))
 
-    by_reset : (x : Stmt) → Spelled l word x → Register → mark ≡ 2 → (get_or l (word + 6) 0 ≡ 0 → ⊥) → some (get_or l (word + 9) 0) ≡ marked mark x
+    by_reset : (x : Stmt) → Spelled l word x → Register → mark ≡ 2 → (get_or l (word + 6) 0 ≡ 0 → ⊥) → Some (get_or l (word + 9) 0) ≡ marked mark x
     by_reset (assign t e) p k m z = no_register p k
-    by_reset (reg t n c d none e) p k m z = absurd (z (no_reset l word t n c d e p).first)
-    by_reset (reg t n c d (some r) e) p k m z = ap some (reset_value_lem l word t n c d r e p) ∙ ap (λ (i : ℕ). marked i (reg t n c d (some r) e)) (sym m)
+    by_reset (reg t n c d None e) p k m z = absurd (z (no_reset l word t n c d e p).first)
+    by_reset (reg t n c d (Some r) e) p k m z = ap Some (reset_value_lem l word t n c d r e p) ∙ ap (λ (i : ℕ). marked i (reg t n c d (Some r) e)) (sym m)
 
   value_inside : (x : Stmt) → Spelled l word x → Register → (get_or l (word + 6) 0 ≡ 0 → ⊥) → word + 9 < length l
   value_inside (assign t e) p k z = no_register p k
-  value_inside (reg t n c d none e) p k z = absurd (z (no_reset l word t n c d e p).first)
-  value_inside (reg t n c d (some r) e) p k z = reset_inside l word t n c d r e p
+  value_inside (reg t n c d None e) p k z = absurd (z (no_reset l word t n c d e p).first)
+  value_inside (reg t n c d (Some r) e) p k z = reset_inside l word t n c d r e p
 
 -- the target is there, and what it loads is as wide
 
@@ -337,22 +338,22 @@ module _ (sw ew : List ℕ) where
   target_there (reg t n c d r e) h = suits_there t n (next_suits t n c d r e h)
 
   marked_gives : (mark : ℕ) → Gives sw ew (marked mark)
-  marked_gives mark (assign t x) h e q = absurd (none-ne-some e q)
+  marked_gives mark (assign t x) h e q = absurd (none_ne_some e q)
   marked_gives mark (reg t n c d r x) h e q = go (eqb mark 1) q
     where
       fits : reset_fits sw ew t r ≡ true
       fits = and_right (suits sw ew t n && broad sw c 1 && leb d 1) (reset_fits sw ew t r) (and_left (suits sw ew t n && broad sw c 1 && leb d 1 && reset_fits sw ew t r) (enable_fits sw x) h)
 
-      value : (o : Option RegReset) → reset_fits sw ew t o ≡ true → reset_value o ≡ some e → suits sw ew t e ≡ true
-      value none f k = absurd (none-ne-some e k)
-      value (some o) f k = subst (λ (i : ℕ). suits sw ew t i ≡ true) (some-injective o.value e k) (and_right (broad sw o.signal 1 && leb o.active 1) (suits sw ew t o.value) f)
+      value : (o : Option RegReset) → reset_fits sw ew t o ≡ true → reset_value o ≡ Some e → suits sw ew t e ≡ true
+      value None f k = absurd (none_ne_some e k)
+      value (Some o) f k = subst (λ (i : ℕ). suits sw ew t i ≡ true) (some_injective o.value e k) (and_right (broad sw o.signal 1 && leb o.active 1) (suits sw ew t o.value) f)
 
-      by_two : (b : Bool) → pick b (reset_value r) none ≡ some e → suits sw ew t e ≡ true
+      by_two : (b : Bool) → pick b (reset_value r) None ≡ Some e → suits sw ew t e ≡ true
       by_two true k = value r fits k
-      by_two false k = absurd (none-ne-some e k)
+      by_two false k = absurd (none_ne_some e k)
 
-      go : (b : Bool) → pick b (some n) (pick (eqb mark 2) (reset_value r) none) ≡ some e → suits sw ew t e ≡ true
-      go true k = subst (λ (i : ℕ). suits sw ew t i ≡ true) (some-injective n e k) (next_suits t n c d r x h)
+      go : (b : Bool) → pick b (Some n) (pick (eqb mark 2) (reset_value r) None) ≡ Some e → suits sw ew t e ≡ true
+      go true k = subst (λ (i : ℕ). suits sw ew t i ≡ true) (some_injective n e k) (next_suits t n c d r x h)
       go false k = by_two (eqb mark 2) k
 
 -- STATEMENT k OF A LIST
@@ -434,10 +435,10 @@ module _ {signals stmts : List ℕ} (s : Stated signals stmts) where
       others = λ i d. refl;
     }
       where
-        other : (mark : ℕ) → none ≡ marked mark (stmt_in stmts k)
+        other : (mark : ℕ) → None ≡ marked mark (stmt_in stmts k)
         other = other_kind (stmt_in stmts k) (λ e. r (kind_is (spelled q b) ∙ e))
 
-        nothing : (x : Stmt) → (get_or (stmt_words x) 1 0 ≡ 1 → ⊥) → (v : Signals) → none ≡ loads f v x
+        nothing : (x : Stmt) → (get_or (stmt_words x) 1 0 ≡ 1 → ⊥) → (v : Signals) → None ≡ loads f v x
         nothing (assign t e) d v = refl
         nothing (reg t n c d r e) z v = absurd (z refl)
 
@@ -520,23 +521,23 @@ module _ {signals stmts : List ℕ} (s : Stated signals stmts) {word : ℕ} (mar
   abbrev x : Stmt
   x = stmt_in stmts k
 
-  pub loaded_other : (get_or stmts (word + 1) 0 ≡ 1 → ⊥) → none ≡ by_marks marks (stmt_in stmts k)
+  pub loaded_other : (get_or stmts (word + 1) 0 ≡ 1 → ⊥) → None ≡ by_marks marks (stmt_in stmts k)
   loaded_other r = other_kind x (λ e. r (kind_is (spelled s q b) ∙ e)) (get_or marks (target x) 0)
 
   module _ (r : get_or stmts (word + 1) 0 ≡ 1) {t mark : ℕ} (ht : t ≡ get_or stmts (word + 2) 0) (hm : mark ≡ get_or marks t 0) where
     own : marked mark (stmt_in stmts k) ≡ by_marks marks (stmt_in stmts k)
     own = ap (λ (i : ℕ). marked i x) (hm ∙ ap (λ (i : ℕ). get_or marks i 0) (ht ∙ target_is (spelled s q b)))
 
-    pub loaded_next : mark ≡ 1 → some (get_or stmts (word + 3) 0) ≡ by_marks marks (stmt_in stmts k)
+    pub loaded_next : mark ≡ 1 → Some (get_or stmts (word + 3) 0) ≡ by_marks marks (stmt_in stmts k)
     loaded_next m = by_next stmts word x (spelled s q b) r m ∙ own
 
-    pub loaded_none : (mark ≡ 1 → ⊥) → (mark ≡ 2 → ⊥) → none ≡ by_marks marks (stmt_in stmts k)
+    pub loaded_none : (mark ≡ 1 → ⊥) → (mark ≡ 2 → ⊥) → None ≡ by_marks marks (stmt_in stmts k)
     loaded_none m n = by_none stmts word x m n ∙ own
 
-    pub loaded_absent : mark ≡ 2 → get_or stmts (word + 6) 0 ≡ 0 → none ≡ by_marks marks (stmt_in stmts k)
+    pub loaded_absent : mark ≡ 2 → get_or stmts (word + 6) 0 ≡ 0 → None ≡ by_marks marks (stmt_in stmts k)
     loaded_absent m z = by_absent stmts word x (spelled s q b) m z ∙ own
 
-    pub loaded_reset : mark ≡ 2 → (get_or stmts (word + 6) 0 ≡ 0 → ⊥) → some (get_or stmts (word + 9) 0) ≡ by_marks marks (stmt_in stmts k)
+    pub loaded_reset : mark ≡ 2 → (get_or stmts (word + 6) 0 ≡ 0 → ⊥) → Some (get_or stmts (word + 9) 0) ≡ by_marks marks (stmt_in stmts k)
     loaded_reset m z = by_reset stmts word x (spelled s q b) r m z ∙ own
 
 -- STORING, in a prepared model
@@ -563,7 +564,7 @@ module _ {signals exprs stmts expr_table signal_table : List ℕ} (p : Prepared 
     one_each = λ i q. one_each p.widest m (is_sound p) i (omega (arith, count, ap length (signals_wide p), length_widths signals));
   }
 
-  module _ (marks : List ℕ) {word : ℕ} (d : ℕ) (b : Begins stmts word) (g : (k : ℕ) → k < length (records_in stmts) → word ≡ start_of stmts k → some d ≡ by_marks marks (stmt_in stmts k)) where
+  module _ (marks : List ℕ) {word : ℕ} (d : ℕ) (b : Begins stmts word) (g : (k : ℕ) → k < length (records_in stmts) → word ≡ start_of stmts k → Some d ≡ by_marks marks (stmt_in stmts k)) where
     abbrev y : Stmt
     y = stmt_in stmts b.number
 
@@ -587,7 +588,7 @@ module _ {signals exprs stmts expr_table signal_table : List ℕ} (p : Prepared 
 
   -- one statement
   module _ {values marks bytes : List ℕ} {word k : ℕ} (q : k < length (records_in stmts)) (b : word ≡ start_of stmts k) where
-    pub load_stored : {t d e : ℕ} {bytes' : List ℕ} → some d ≡ by_marks marks (stmt_in stmts k) → t ≡ get_or stmts (word + 2) 0 → e ≡ d → StoresOne signals exprs values t e bytes bytes' → StoresLoad signals exprs stmts values marks k bytes bytes'
+    pub load_stored : {t d e : ℕ} {bytes' : List ℕ} → Some d ≡ by_marks marks (stmt_in stmts k) → t ≡ get_or stmts (word + 2) 0 → e ≡ d → StoresOne signals exprs values t e bytes bytes' → StoresLoad signals exprs stmts values marks k bytes bytes'
     load_stored {t} {d} {e} {bytes'} g ht he o = record {
       stores_load = λ old vs behind rest ho hv.
           subst (λ (z : Option ℕ). Holds (widths_in signals) (store vs z (target (stmt_in stmts k)) old) behind bytes') g
@@ -595,7 +596,7 @@ module _ {signals exprs stmts expr_table signal_table : List ℕ} (p : Prepared 
           (subst (λ (i : ℕ). Holds (widths_in signals) (set old t (get_or vs i [])) behind bytes') he (o.stores_one old vs behind rest ho hv)));
     }
 
-    pub load_none : none ≡ by_marks marks (stmt_in stmts k) → StoresLoad signals exprs stmts values marks k bytes bytes
+    pub load_none : None ≡ by_marks marks (stmt_in stmts k) → StoresLoad signals exprs stmts values marks k bytes bytes
     load_none g = record { stores_load = λ old vs behind rest ho hv. subst (λ (z : Option ℕ). Holds (widths_in signals) (store vs z (target (stmt_in stmts k)) old) behind bytes) g ho }
 
 -- every statement: what is left to store leads to the same
@@ -656,13 +657,13 @@ module _ (l : List ℕ) (word e : ℕ) where
   NamedBy = (get_or l (word + 3) 0 ≡ e) ⊎ ((get_or l (word + 1) 0 ≡ 1) × (get_or l (word + 6) 0 ≡ 0 → ⊥) × (get_or l (word + 9) 0 ≡ e))
 
   names_by : (x : Stmt) → Spelled l word x → Names x e → NamedBy
-  names_by (assign t n) p (inl h) = inl (p.words 3 (omega arith) ∙ some-injective n e h)
-  names_by (assign t n) p (inr (inl h)) = absurd (none-ne-some e h)
-  names_by (assign t n) p (inr (inr h)) = absurd (none-ne-some e h)
-  names_by (reg t n c d r v) p (inl h) = absurd (none-ne-some e h)
-  names_by (reg t n c d r v) p (inr (inl h)) = inl (p.words 3 (omega (arith, least (reg t n c d r v))) ∙ some-injective n e h)
-  names_by (reg t n c d none v) p (inr (inr h)) = absurd (none-ne-some e h)
-  names_by (reg t n c d (some r) v) p (inr (inr h)) = inr (kind_is p, (λ z. absurd (omega (arith, (reset_words l word t n c d r v p).first, z))), reset_value_lem l word t n c d r v p ∙ some-injective r.value e h)
+  names_by (assign t n) p (inl h) = inl (p.words 3 (omega arith) ∙ some_injective n e h)
+  names_by (assign t n) p (inr (inl h)) = absurd (none_ne_some e h)
+  names_by (assign t n) p (inr (inr h)) = absurd (none_ne_some e h)
+  names_by (reg t n c d r v) p (inl h) = absurd (none_ne_some e h)
+  names_by (reg t n c d r v) p (inr (inl h)) = inl (p.words 3 (omega (arith, least (reg t n c d r v))) ∙ some_injective n e h)
+  names_by (reg t n c d None v) p (inr (inr h)) = absurd (none_ne_some e h)
+  names_by (reg t n c d (Some r) v) p (inr (inr h)) = inr (kind_is p, (λ z. absurd (omega (arith, (reset_words l word t n c d r v p).first, z))), reset_value_lem l word t n c d r v p ∙ some_injective r.value e h)
 
 pub names_word : {signals stmts : List ℕ} → Stated signals stmts → {word k : ℕ} → k < length (records_in stmts) → word ≡ start_of stmts k → (e : ℕ) → Names (stmt_in stmts k) e → (get_or stmts (word + 3) 0 ≡ e) ⊎ ((get_or stmts (word + 1) 0 ≡ 1) × (get_or stmts (word + 6) 0 ≡ 0 → ⊥) × (get_or stmts (word + 9) 0 ≡ e))
 names_word {stmts = stmts} s {word} {k} q b e h = names_by stmts word e (stmt_in stmts k) (spelled s q b) h
@@ -679,15 +680,15 @@ module _ (l : List ℕ) (word s : ℕ) where
 
   asked_by : (x : Stmt) → Spelled l word x → Asks x s → AskedBy
   asked_by (assign t n) p h = absurd h
-  asked_by (reg t n c d none e) p (inl h) = absurd (none-ne-some s h)
-  asked_by (reg t n c d (some r) e) p (inl h) =
+  asked_by (reg t n c d None e) p (inl h) = absurd (none_ne_some s h)
+  asked_by (reg t n c d (Some r) e) p (inl h) =
       let g = reset_words l word t n c d r e p in
-      (kind_is p, inl ((λ z. absurd (omega (arith, g.first, z))), g.signal ∙ some-injective r.signal s h))
-  asked_by (reg t n c d r none) p (inr h) = absurd (none-ne-some s h)
-  asked_by (reg t n c d r (some e)) p (inr h) =
+      (kind_is p, inl ((λ z. absurd (omega (arith, g.first, z))), g.signal ∙ some_injective r.signal s h))
+  asked_by (reg t n c d r None) p (inr h) = absurd (none_ne_some s h)
+  asked_by (reg t n c d r (Some e)) p (inr h) =
       let g = enable_words l word t n c d r e p in
-      let i = enable_from_lem l word t n c d r (some e) p in
-      (kind_is p, inr ((λ z. absurd (omega (arith, g.first, ap (λ (j : ℕ). get_or l j 0) (sym i) ∙ z))), ap (λ (j : ℕ). get_or l (j + 1) 0) i ∙ g.signal ∙ some-injective e.signal s h))
+      let i = enable_from_lem l word t n c d r (Some e) p in
+      (kind_is p, inr ((λ z. absurd (omega (arith, g.first, ap (λ (j : ℕ). get_or l j 0) (sym i) ∙ z))), ap (λ (j : ℕ). get_or l (j + 1) 0) i ∙ g.signal ∙ some_injective e.signal s h))
 
 module _ {signals stmts : List ℕ} (s : Stated signals stmts) {word k : ℕ} (q : k < length (records_in stmts)) (b : word ≡ start_of stmts k) where
   pub target_of : get_or stmts (word + 2) 0 ≡ target (stmt_in stmts k)
@@ -709,25 +710,25 @@ same_stores rule rule' vs (x ∷ ss) t h =
     ∙ same_stores rule rule' vs ss (store vs (rule' x) (target x) t) (λ k q. h (suc k) (omega arith))
 
 -- and so do values that agree on what the rule gives
-pub same_values : (rule : Stmt → Option ℕ) (a b : List Bits) (ss : List Stmt) (t : List Bits) → ((k : ℕ) → k < length ss → (e : ℕ) → rule (get_or ss k (assign 0 0)) ≡ some e → get_or a e [] ≡ get_or b e []) → stores rule a ss t ≡ stores rule b ss t
+pub same_values : (rule : Stmt → Option ℕ) (a b : List Bits) (ss : List Stmt) (t : List Bits) → ((k : ℕ) → k < length ss → (e : ℕ) → rule (get_or ss k (assign 0 0)) ≡ Some e → get_or a e [] ≡ get_or b e []) → stores rule a ss t ≡ stores rule b ss t
 same_values rule a b [] t h = refl
 same_values rule a b (x ∷ ss) t h =
     ap (stores rule a ss) (one (rule x) (λ e k. h 0 (omega arith) e k))
     ∙ same_values rule a b ss (store b (rule x) (target x) t) (λ k q. h (suc k) (omega arith))
   where
-    one : (o : Option ℕ) → ((e : ℕ) → o ≡ some e → get_or a e [] ≡ get_or b e []) → store a o (target x) t ≡ store b o (target x) t
-    one none g = refl
-    one (some e) g = ap (set t (target x)) (g e refl)
+    one : (o : Option ℕ) → ((e : ℕ) → o ≡ Some e → get_or a e [] ≡ get_or b e []) → store a o (target x) t ≡ store b o (target x) t
+    one None g = refl
+    one (Some e) g = ap (set t (target x)) (g e refl)
 
 -- what a register loads by a mark it names
-names_marked : (mark : ℕ) (x : Stmt) (e : ℕ) → marked mark x ≡ some e → Names x e
-names_marked mark (assign t n) e h = absurd (none-ne-some e h)
+names_marked : (mark : ℕ) (x : Stmt) (e : ℕ) → marked mark x ≡ Some e → Names x e
+names_marked mark (assign t n) e h = absurd (none_ne_some e h)
 names_marked mark (reg t n c d r v) e h = go (eqb mark 1) (eqb mark 2) h
   where
-    go : (y z : Bool) → pick y (some n) (pick z (reset_value r) none) ≡ some e → Names (reg t n c d r v) e
+    go : (y z : Bool) → pick y (Some n) (pick z (reset_value r) None) ≡ Some e → Names (reg t n c d r v) e
     go true z k = inr (inl k)
     go false true k = inr (inr k)
-    go false false k = absurd (none-ne-some e k)
+    go false false k = absurd (none_ne_some e k)
 
 module _ {signals exprs stmts expr_table signal_table : List ℕ} (p : Prepared signals exprs stmts expr_table signal_table) where
   pub committed : {f : Firing} {values marks bytes bytes' : List ℕ} → Noted signals stmts f bytes (length (records_in stmts)) marks → StoresMarked signals exprs stmts values marks bytes bytes' → Commits signals exprs stmts f values bytes bytes'

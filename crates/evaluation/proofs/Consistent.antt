@@ -10,7 +10,7 @@ use mathlib.Core.List.Memᴰ.{head as here}
 use mathlib.Core.List.Memᴰ.{not-nil}
 use mathlib.Core.List.Memᴰ.{tail as there}
 use mathlib.Core.List.{List, [], ◌∷◌, ◌++◌, append-nil, Memᴰ as Mem}
-use mathlib.Core.Option.{Option, none, some}
+use Rattle.std.specs.Prelude.{Option, None, Some}
 use native.Mathlib.Omega.{arith}
 use native.Mathlib.Nat.{not-suc-le-zero, zero-add}
 use lib.Dec.{eqb, leb, ltb}
@@ -63,8 +63,8 @@ module _ (v w : Signals) (a b : List Bits) where
 
 -- what an assigned signal has depends on its expression's value
 pub become_same : (a b : List Bits) (o : Option ℕ) (old : Bits) → ((e : ℕ) → Mem e (listed o) → get_or a e [] ≡ get_or b e []) → become a o old ≡ become b o old
-become_same a b none old g = refl
-become_same a b (some e) old g = g e (here refl)
+become_same a b None old g = refl
+become_same a b (Some e) old g = g e (here refl)
 
 -- an expression needs its operands
 operand_needed : (ts : List Stmt) (x : Expr) (y : ℕ) → Mem y (operands x) → Mem y (needs_of ts x)
@@ -259,7 +259,7 @@ module _ (widest : ℕ) (sw ew : List ℕ) (v w : Signals) (agree : (s : ℕ) �
       longer = length-append d (eval_expr v d e ∷ []) ∙ omega arith
 
 -- they agree with one another
-pub settled_consistent : (widest : ℕ) (m : Model) (old : List Bits) → Sound widest m → length old ≡ length m.signals → looped m ≡ none → Consistent m old (values_in m (settle m old))
+pub settled_consistent : (widest : ℕ) (m : Model) (old : List Bits) → Sound widest m → length old ≡ length m.signals → looped m ≡ None → Consistent m old (values_in m (settle m old))
 settled_consistent widest m old h lo q = record {
   each = length_all (at [] (settle m old)) m.exprs [] ∙ zero-add (length m.exprs);
   right = λ e k. each_means widest (signal_widths m) (expr_widths m) (at [] (settle m old)) (assigned m old (values_in m (settle m old))) agrees m.exprs [] h.exprs_fit e k ∙ ap (λ (n : ℕ). get_or (values_in m (settle m old)) n []) (zero-add e);

@@ -4,7 +4,8 @@ use mathlib.Core.Path.{◌≡◌, refl, sym, ◌∙◌, ap, ap₂}
 use mathlib.Core.Logic.{◌⊎◌, inl, inr}
 use mathlib.Core.Bool.{Bool, true, false, ◌&&◌, ◌||◌, not}
 use mathlib.Core.List.{List, [], ◌∷◌, map}
-use mathlib.Core.Option.{none, some, some-ne-none}
+use Rattle.std.specs.Prelude.{None, Some}
+use Rattle.bits.proofs.Options.{some_ne_none}
 use native.Mathlib.Omega.{arith}
 use native.Mathlib.Numerals.{add-one}
 use native.Mathlib.Nat.{add-zero, not-suc-le-zero, add-mul, mul-add, mul_assoc, mul_comm, mul-mul-mul_comm, mul-le-mul}
@@ -90,13 +91,13 @@ bits_back [] = refl
 bits_back (b ∷ bs) = ap₂ ◌∷◌ (is_one_digit b) (bits_back bs)
 
 -- bytes that are bits
-pub bytes_back : (k : ℕ) (bytes : List ℕ) → no_bit k bytes ≡ none → map digit (map is_one bytes) ≡ bytes
+pub bytes_back : (k : ℕ) (bytes : List ℕ) → no_bit k bytes ≡ None → map digit (map is_one bytes) ≡ bytes
 bytes_back k [] h = refl
 bytes_back k (b ∷ bytes) h = go (leb b 1) refl (bytes_back (suc k) bytes) h
   where
-    go : (t : Bool) → leb b 1 ≡ t → (no_bit (suc k) bytes ≡ none → map digit (map is_one bytes) ≡ bytes) → pick t (no_bit (suc k) bytes) (some (14, k)) ≡ none → map digit (map is_one (b ∷ bytes)) ≡ b ∷ bytes
+    go : (t : Bool) → leb b 1 ≡ t → (no_bit (suc k) bytes ≡ None → map digit (map is_one bytes) ≡ bytes) → pick t (no_bit (suc k) bytes) (Some (14, k)) ≡ None → map digit (map is_one (b ∷ bytes)) ≡ b ∷ bytes
     go true e ih q = ap₂ ◌∷◌ (digit_bit b (omega (arith, leb-true b 1 e))) (ih q)
-    go false e ih q = absurd (some-ne-none _ q)
+    go false e ih q = absurd (some_ne_none _ q)
 
 digit_le : (b : Bool) → digit b ≤ 1
 digit_le true = omega arith

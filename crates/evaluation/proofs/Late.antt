@@ -4,7 +4,7 @@ use mathlib.Core.Path.{◌≡◌, refl, sym, ◌∙◌, ap, ap₂, subst, fun_ex
 use mathlib.Core.Bool.{Bool, true, false, ◌&&◌}
 use mathlib.Core.Logic.{◌⊎◌, inl, inr}
 use mathlib.Core.List.{List, [], ◌∷◌}
-use mathlib.Core.Option.{Option, none, some}
+use Rattle.std.specs.Prelude.{Option, None, Some}
 use native.Mathlib.Omega.{arith}
 use native.Mathlib.Nat.{zero-add, not-suc-le-zero}
 use native.Mathlib.Decide.{dec_lt}
@@ -34,7 +34,7 @@ free_sym f = record { as_many = sym f.as_many; free = λ s q. sym (f.free s q) }
 
 -- SETTLING
 
-module _ (widest : ℕ) (m : Model) (h : Sound widest m) (q : looped m ≡ none) where
+module _ (widest : ℕ) (m : Model) (h : Sound widest m) (q : looped m ≡ None) where
   module _ {a b : List Bits} (la : length a ≡ length m.signals) (f : SameFree m a b) where
     abbrev vs : List Bits
     vs = values_in m (settle m a)
@@ -43,8 +43,8 @@ module _ (widest : ℕ) (m : Model) (h : Sound widest m) (q : looped m ≡ none)
     same_assigned = fun_ext (λ s. go s (given assigns m.stmts s) refl)
       where
         go : (s : ℕ) (o : Option ℕ) → given assigns m.stmts s ≡ o → become vs o (get_or a s []) ≡ become vs o (get_or b s [])
-        go s none z = f.free s z
-        go s (some e) z = refl
+        go s None z = f.free s z
+        go s (Some e) z = refl
 
     agrees : Consistent m b (values_in m (settle m a))
     agrees =
@@ -74,7 +74,7 @@ module _ (widest : ℕ) (m : Model) (h : Sound widest m) (q : looped m ≡ none)
     pub settle_keeps : SameFree m (settle m a) a
     settle_keeps = record { as_many = settle_long ∙ sym la; free = λ s z. go s z (dec_lt s (length m.signals)) }
       where
-        go : (s : ℕ) → given assigns m.stmts s ≡ none → Dec (s < length m.signals) → get_or (settle m a) s [] ≡ get_or a s []
+        go : (s : ℕ) → given assigns m.stmts s ≡ None → Dec (s < length m.signals) → get_or (settle m a) s [] ≡ get_or a s []
         go s z (yes k) = settle_at s k ∙ ap (λ (o : Option ℕ). become (values_in m (settle m a)) o (get_or a s [])) z
         go s z (no k) = beyond (settle m a) s (omega (arith, settle_long, k)) ∙ sym (beyond a s (omega (arith, la, k)))
 
@@ -120,7 +120,7 @@ inputs_all (s ∷ ss) bs (x ∷ a) l = go (eqb s.label 0) (inputs_all ss (drop s
     go false i j = ap suc j
 
 -- A TICK starts as well from a late state
-pub tick_free : (widest : ℕ) (m : Model) → Sound widest m → looped m ≡ none → {a b : List Bits} → length a ≡ length m.signals → SameFree m a b → (bs : Bits) (f : Firing) → tick m bs f a ≡ tick m bs f b
+pub tick_free : (widest : ℕ) (m : Model) → Sound widest m → looped m ≡ None → {a b : List Bits} → length a ≡ length m.signals → SameFree m a b → (bs : Bits) (f : Firing) → tick m bs f a ≡ tick m bs f b
 unfolding tick
 tick_free widest m h q {a} {b} la g bs f =
     ap (λ (t : List Bits). settle m (commit m f t))
@@ -129,81 +129,81 @@ tick_free widest m h q {a} {b} la g bs f =
 -- REGISTERS
 
 abbrev ThereIs : Option ℕ → Type 0
-ThereIs none = ⊥
-ThereIs (some e) = Unit
+ThereIs None = ⊥
+ThereIs (Some e) = Unit
 
-none_some : {e : ℕ} → none ≡ some e → ⊥
+none_some : {e : ℕ} → None ≡ Some e → ⊥
 none_some z = subst ThereIs (sym z) tt
 
-reset_marked : (v : Signals) (r : Option RegReset) (e : ℕ) → reset_loads v r ≡ some e → reset_value r ≡ some e
-reset_marked v none e z = z
-reset_marked v (some r) e z = go (asserted v r.signal r.active) z
+reset_marked : (v : Signals) (r : Option RegReset) (e : ℕ) → reset_loads v r ≡ Some e → reset_value r ≡ Some e
+reset_marked v None e z = z
+reset_marked v (Some r) e z = go (asserted v r.signal r.active) z
   where
-    go : (b : Bool) → only b (some r.value) ≡ some e → some r.value ≡ some e
+    go : (b : Bool) → only b (Some r.value) ≡ Some e → Some r.value ≡ Some e
     go true y = y
     go false y = absurd (none_some y)
 
 -- what a register loads is one of two
-loads_marked : (f : Firing) (v : Signals) (x : Stmt) (e : ℕ) → loads f v x ≡ some e → (marked 1 x ≡ some e) ⊎ (marked 2 x ≡ some e)
+loads_marked : (f : Firing) (v : Signals) (x : Stmt) (e : ℕ) → loads f v x ≡ Some e → (marked 1 x ≡ Some e) ⊎ (marked 2 x ≡ Some e)
 loads_marked f v (assign t d) e z = absurd (none_some z)
 loads_marked f v (reg t n c d r k) e z = go (reset_loads v r) refl z
   where
-    next : (b : Bool) → only b (some n) ≡ some e → some n ≡ some e
+    next : (b : Bool) → only b (Some n) ≡ Some e → Some n ≡ Some e
     next true y = y
     next false y = absurd (none_some y)
 
-    go : (o : Option ℕ) → reset_loads v r ≡ o → or_else o (only (f c d && enabled v k) (some n)) ≡ some e → (some n ≡ some e) ⊎ (reset_value r ≡ some e)
-    go none w y = inl (next (f c d && enabled v k) y)
-    go (some i) w y = inr (reset_marked v r e (w ∙ y))
+    go : (o : Option ℕ) → reset_loads v r ≡ o → or_else o (only (f c d && enabled v k) (Some n)) ≡ Some e → (Some n ≡ Some e) ⊎ (reset_value r ≡ Some e)
+    go None w y = inl (next (f c d && enabled v k) y)
+    go (Some i) w y = inr (reset_marked v r e (w ∙ y))
 
 -- by the levels it asks for
 same_loads : (f : Firing) (v w : Signals) (x : Stmt) → ((s : ℕ) → Asks x s → v s ≡ w s) → loads f v x ≡ loads f w x
 same_loads f v w (assign t d) g = refl
-same_loads f v w (reg t n c d r k) g = ap₂ (λ (o : Option ℕ) (b : Bool). or_else o (only (f c d && b) (some n))) (resets r (λ s z. g s (inl z))) (enables k (λ s z. g s (inr z)))
+same_loads f v w (reg t n c d r k) g = ap₂ (λ (o : Option ℕ) (b : Bool). or_else o (only (f c d && b) (Some n))) (resets r (λ s z. g s (inl z))) (enables k (λ s z. g s (inr z)))
   where
-    resets : (r : Option RegReset) → ((s : ℕ) → reset_signal r ≡ some s → v s ≡ w s) → reset_loads v r ≡ reset_loads w r
-    resets none h = refl
-    resets (some y) h = ap (λ (u : Bits). only (asserted (λ i. u) y.signal y.active) (some y.value)) (h y.signal refl)
+    resets : (r : Option RegReset) → ((s : ℕ) → reset_signal r ≡ Some s → v s ≡ w s) → reset_loads v r ≡ reset_loads w r
+    resets None h = refl
+    resets (Some y) h = ap (λ (u : Bits). only (asserted (λ i. u) y.signal y.active) (Some y.value)) (h y.signal refl)
 
-    enables : (k : Option RegEnable) → ((s : ℕ) → enable_signal k ≡ some s → v s ≡ w s) → enabled v k ≡ enabled w k
-    enables none h = refl
-    enables (some y) h = ap (λ (u : Bits). asserted (λ i. u) y.signal y.active) (h y.signal refl)
+    enables : (k : Option RegEnable) → ((s : ℕ) → enable_signal k ≡ Some s → v s ≡ w s) → enabled v k ≡ enabled w k
+    enables None h = refl
+    enables (Some y) h = ap (λ (u : Bits). asserted (λ i. u) y.signal y.active) (h y.signal refl)
 
 pub given_same : (a b : Stmt → Option ℕ) (ts : List Stmt) → ((k : ℕ) → k < length ts → a (get_or ts k (assign 0 0)) ≡ b (get_or ts k (assign 0 0))) → (s : ℕ) → given a ts s ≡ given b ts s
 given_same a b [] g s = refl
 given_same a b (t ∷ ts) g s = ap₂ (λ (o p : Option ℕ). pick (eqb (target t) s) (or_else o p) p) (g 0 (omega arith)) (given_same a b ts (λ k h. g (suc k) (omega arith)) s)
 
-pub given_by : (rule : Stmt → Option ℕ) (ts : List Stmt) (s e : ℕ) → given rule ts s ≡ some e → (k : ℕ) × (k < length ts) × (rule (get_or ts k (assign 0 0)) ≡ some e)
+pub given_by : (rule : Stmt → Option ℕ) (ts : List Stmt) (s e : ℕ) → given rule ts s ≡ Some e → (k : ℕ) × (k < length ts) × (rule (get_or ts k (assign 0 0)) ≡ Some e)
 given_by rule [] s e z = absurd (none_some z)
 given_by rule (t ∷ ts) s e z = go (λ y. given_by rule ts s e y) (eqb (target t) s) (rule t) refl z
   where
-    more : ((k : ℕ) × (k < length ts) × (rule (get_or ts k (assign 0 0)) ≡ some e)) → (k : ℕ) × (k < suc (length ts)) × (rule (get_or (t ∷ ts) k (assign 0 0)) ≡ some e)
+    more : ((k : ℕ) × (k < length ts) × (rule (get_or ts k (assign 0 0)) ≡ Some e)) → (k : ℕ) × (k < suc (length ts)) × (rule (get_or (t ∷ ts) k (assign 0 0)) ≡ Some e)
     more r = (suc r.0, omega (arith, r.1), r.2)
 
-    go : (given rule ts s ≡ some e → (k : ℕ) × (k < length ts) × (rule (get_or ts k (assign 0 0)) ≡ some e)) → (b : Bool) (o : Option ℕ) → rule t ≡ o → pick b (or_else o (given rule ts s)) (given rule ts s) ≡ some e → (k : ℕ) × (k < suc (length ts)) × (rule (get_or (t ∷ ts) k (assign 0 0)) ≡ some e)
+    go : (given rule ts s ≡ Some e → (k : ℕ) × (k < length ts) × (rule (get_or ts k (assign 0 0)) ≡ Some e)) → (b : Bool) (o : Option ℕ) → rule t ≡ o → pick b (or_else o (given rule ts s)) (given rule ts s) ≡ Some e → (k : ℕ) × (k < suc (length ts)) × (rule (get_or (t ∷ ts) k (assign 0 0)) ≡ Some e)
     go ih false o w y = more (ih y)
-    go ih true none w y = more (ih y)
-    go ih true (some i) w y = (0, omega arith, w ∙ y)
+    go ih true None w y = more (ih y)
+    go ih true (Some i) w y = (0, omega arith, w ∙ y)
 
-module _ (widest : ℕ) (m : Model) (h : Sound widest m) (q : looped m ≡ none) (old : List Bits) (lo : length old ≡ length m.signals) where
+module _ (widest : ℕ) (m : Model) (h : Sound widest m) (q : looped m ≡ None) (old : List Bits) (lo : length old ≡ length m.signals) where
   abbrev S : List Bits
   S = settle m old
 
   abbrev us : List Bits
   us = values_in m (settle m old)
 
-  module _ (vs new : List Bits) (ln : length new ≡ length m.signals) (keep : (s : ℕ) → given assigns m.stmts s ≡ none → get_or new s [] ≡ get_or old s []) where
+  module _ (vs new : List Bits) (ln : length new ≡ length m.signals) (keep : (s : ℕ) → given assigns m.stmts s ≡ None → get_or new s [] ≡ get_or old s []) where
     -- a signal that has its expression's value, or to which nothing is assigned
-    pub settled_so : (s : ℕ) → ((d : ℕ) → given assigns m.stmts s ≡ some d → get_or new s [] ≡ get_or vs d []) → ((d : ℕ) → given assigns m.stmts s ≡ some d → get_or vs d [] ≡ get_or (values_in m (settle m old)) d []) → get_or new s [] ≡ get_or (settle m old) s []
+    pub settled_so : (s : ℕ) → ((d : ℕ) → given assigns m.stmts s ≡ Some d → get_or new s [] ≡ get_or vs d []) → ((d : ℕ) → given assigns m.stmts s ≡ Some d → get_or vs d [] ≡ get_or (values_in m (settle m old)) d []) → get_or new s [] ≡ get_or (settle m old) s []
     settled_so s a b = go (dec_lt s (length m.signals)) (given assigns m.stmts s) refl
       where
         go : Dec (s < length m.signals) → (o : Option ℕ) → given assigns m.stmts s ≡ o → get_or new s [] ≡ get_or (settle m old) s []
         go (no k) o z = beyond new s (omega (arith, ln, k)) ∙ sym (beyond (settle m old) s (omega (arith, settle_long widest m h q old lo, k)))
-        go (yes k) none z = keep s z ∙ sym (settle_at widest m h q old lo s k ∙ ap (λ (o : Option ℕ). become us o (get_or old s [])) z)
-        go (yes k) (some d) z = a d z ∙ b d z ∙ sym (settle_at widest m h q old lo s k ∙ ap (λ (o : Option ℕ). become us o (get_or old s [])) z)
+        go (yes k) None z = keep s z ∙ sym (settle_at widest m h q old lo s k ∙ ap (λ (o : Option ℕ). become us o (get_or old s [])) z)
+        go (yes k) (Some d) z = a d z ∙ b d z ∙ sym (settle_at widest m h q old lo s k ∙ ap (λ (o : Option ℕ). become us o (get_or old s [])) z)
 
     -- the registers load from it what they load from the settled state
-    module _ (f : Firing) (asked : (k s : ℕ) → k < length m.stmts → Asks (get_or m.stmts k (assign 0 0)) s → get_or new s [] ≡ get_or (settle m old) s []) (loaded : (k e : ℕ) → k < length m.stmts → (marked 1 (get_or m.stmts k (assign 0 0)) ≡ some e) ⊎ (marked 2 (get_or m.stmts k (assign 0 0)) ≡ some e) → get_or vs e [] ≡ get_or (values_in m (settle m old)) e []) where
+    module _ (f : Firing) (asked : (k s : ℕ) → k < length m.stmts → Asks (get_or m.stmts k (assign 0 0)) s → get_or new s [] ≡ get_or (settle m old) s []) (loaded : (k e : ℕ) → k < length m.stmts → (marked 1 (get_or m.stmts k (assign 0 0)) ≡ Some e) ⊎ (marked 2 (get_or m.stmts k (assign 0 0)) ≡ Some e) → get_or vs e [] ≡ get_or (values_in m (settle m old)) e []) where
       same_given : (s : ℕ) → given (loads f (signals_at [] new)) m.stmts s ≡ given (loads f (signals_at [] (settle m old))) m.stmts s
       same_given = given_same (loads f (signals_at [] new)) (loads f (signals_at [] S)) m.stmts (λ k l. same_loads f (signals_at [] new) (signals_at [] S) (get_or m.stmts k (assign 0 0)) (λ s z. asked k s l z))
 
@@ -214,13 +214,13 @@ module _ (widest : ℕ) (m : Model) (h : Sound widest m) (q : looped m ≡ none)
           committed : ℕ → Bits
           committed s = become (values_in m (settle m old)) (given (loads f (signals_at [] (settle m old))) m.stmts s) (get_or (settle m old) s [])
 
-          same : (s : ℕ) → given assigns m.stmts s ≡ none → (o : Option ℕ) → given (loads f (signals_at [] (settle m old))) m.stmts s ≡ o → become vs o (get_or new s []) ≡ become (values_in m (settle m old)) o (get_or (settle m old) s [])
-          same s z none w = keep s z ∙ sym ((settle_keeps widest m h q old lo).free s z)
-          same s z (some e) w =
+          same : (s : ℕ) → given assigns m.stmts s ≡ None → (o : Option ℕ) → given (loads f (signals_at [] (settle m old))) m.stmts s ≡ o → become vs o (get_or new s []) ≡ become (values_in m (settle m old)) o (get_or (settle m old) s [])
+          same s z None w = keep s z ∙ sym ((settle_keeps widest m h q old lo).free s z)
+          same s z (Some e) w =
               let r = given_by (loads f (signals_at [] S)) m.stmts s e w in
               loaded r.0 e r.1 (loads_marked f (signals_at [] S) (get_or m.stmts r.0 (assign 0 0)) e r.2)
 
-          go : (s : ℕ) → given assigns m.stmts s ≡ none → Dec (s < length m.signals) → get_or late s [] ≡ get_or (tab_from committed 0 (length m.signals)) s []
+          go : (s : ℕ) → given assigns m.stmts s ≡ None → Dec (s < length m.signals) → get_or late s [] ≡ get_or (tab_from committed 0 (length m.signals)) s []
           go s z (yes k) =
               each s
               ∙ ap (λ (o : Option ℕ). become vs o (get_or new s [])) (same_given s)
@@ -229,16 +229,16 @@ module _ (widest : ℕ) (m : Model) (h : Sound widest m) (q : looped m ≡ none)
           go s z (no k) = beyond late s (omega (arith, ll, k)) ∙ sym (beyond (tab_from committed 0 (length m.signals)) s (omega (arith, length_tab committed 0 (length m.signals), k)))
 
     -- the outputs show the settled state
-    pub shown_late : ((s d : ℕ) → Output m.signals s → given assigns m.stmts s ≡ some d → get_or new s [] ≡ get_or vs d []) → ((s d : ℕ) → Output m.signals s → given assigns m.stmts s ≡ some d → get_or vs d [] ≡ get_or (values_in m (settle m old)) d []) → Late m (settle m old) new
+    pub shown_late : ((s d : ℕ) → Output m.signals s → given assigns m.stmts s ≡ Some d → get_or new s [] ≡ get_or vs d []) → ((s d : ℕ) → Output m.signals s → given assigns m.stmts s ≡ Some d → get_or vs d [] ≡ get_or (values_in m (settle m old)) d []) → Late m (settle m old) new
     shown_late a b = record {
       settles_to = settle_free widest m h q ln (record { as_many = ln ∙ sym lo; free = keep });
       outputs = λ s o. settled_so s (λ d z. a s d o z) (λ d z. b s d o z);
     }
 
 -- a settled state is late to itself
-pub late_itself : (widest : ℕ) (m : Model) → Sound widest m → looped m ≡ none → (a : List Bits) → length a ≡ length m.signals → Late m (settle m a) (settle m a)
+pub late_itself : (widest : ℕ) (m : Model) → Sound widest m → looped m ≡ None → (a : List Bits) → length a ≡ length m.signals → Late m (settle m a) (settle m a)
 late_itself widest m h q a la = record { settles_to = settle_again widest m h q a la; outputs = λ s o. refl }
 
 -- what settles to a state agrees with it where nothing is assigned
-pub late_free : (widest : ℕ) (m : Model) → Sound widest m → looped m ≡ none → {state late : List Bits} → length late ≡ length m.signals → Late m state late → SameFree m state late
+pub late_free : (widest : ℕ) (m : Model) → Sound widest m → looped m ≡ None → {state late : List Bits} → length late ≡ length m.signals → Late m state late → SameFree m state late
 late_free widest m h q {state} {late} ll l = subst (λ (t : List Bits). SameFree m t late) l.settles_to (settle_keeps widest m h q late ll)

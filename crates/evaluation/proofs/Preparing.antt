@@ -2,7 +2,7 @@
 use Prim.Native.Nat.{ℕ, ◌≤◌}
 use mathlib.Core.Path.{◌≡◌, refl, sym, ◌∙◌, subst}
 use mathlib.Core.List.{List, Memᴰ as Mem}
-use mathlib.Core.Option.{none}
+use Rattle.std.specs.Prelude.{None}
 use native.Mathlib.Omega.{arith}
 use native.Mathlib.Nat.{not-suc-le-zero, le_trans}
 use lib.ListN.{length, take}
@@ -59,7 +59,7 @@ module _ {signals exprs stmts : List ℕ} (f : NoFault signals exprs stmts) wher
 
   -- all n were noted: there is no loop
   module _ {n k : ℕ} {marks order : List ℕ} (c : n ≡ length (records_in exprs)) (s : SortsAll (part_in exprs stmts) n k marks order) (e : k ≡ n) where
-    pub sorted_unlooped : none ≡ looped (model_in signals exprs stmts)
+    pub sorted_unlooped : None ≡ looped (model_in signals exprs stmts)
     unfolding model_of
     sorted_unlooped =
         sym (marked_unlooped f.widest (model_in signals exprs stmts) (sound f.widest (raw_of (lists signals exprs stmts)) f.faultless) marks

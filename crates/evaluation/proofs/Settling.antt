@@ -11,7 +11,8 @@ use mathlib.Core.List.Memᴰ.{head as here}
 use mathlib.Core.List.Memᴰ.{not-nil}
 use mathlib.Core.List.Memᴰ.{tail as there}
 use mathlib.Core.List.{List, [], ◌∷◌, ◌++◌, Memᴰ as Mem}
-use mathlib.Core.Option.{Option, none, some, none-ne-some}
+use Rattle.std.specs.Prelude.{Option, None, Some}
+use Rattle.bits.proofs.Options.{none_ne_some}
 use native.Mathlib.Omega.{arith}
 use native.Mathlib.Decide.{ℕ_discrete}
 use lib.Dec.{eqb, leb}
@@ -151,16 +152,16 @@ module _ {signals exprs stmts bytes : List ℕ} {e : ℕ} {values marks : List �
   settles_more h c = record { added = sym (sym (not-not b) ∙ ap not h) ∙ q ∙ adds_same signals exprs stmts marks e; marks_are = refl; computes = λ z. c; keeps = λ z. absurd (false≢true (sym z)) }
 
 -- what is assigned is named
-assigned_named : (ss : List Stmt) (s d : ℕ) → given assigns ss s ≡ some d → (k : ℕ) × (k < length ss) × (assigns (get_or ss k (assign 0 0)) ≡ some d)
-assigned_named [] s d h = absurd (none-ne-some d h)
+assigned_named : (ss : List Stmt) (s d : ℕ) → given assigns ss s ≡ Some d → (k : ℕ) × (k < length ss) × (assigns (get_or ss k (assign 0 0)) ≡ Some d)
+assigned_named [] s d h = absurd (none_ne_some d h)
 assigned_named (x ∷ ss) s d h = go (eqb (target x) s) (assigns x) refl h (assigned_named ss s d)
   where
-    later : (k : ℕ) × (k < length ss) × (assigns (get_or ss k (assign 0 0)) ≡ some d) → (k : ℕ) × (k < length (x ∷ ss)) × (assigns (get_or (x ∷ ss) k (assign 0 0)) ≡ some d)
+    later : (k : ℕ) × (k < length ss) × (assigns (get_or ss k (assign 0 0)) ≡ Some d) → (k : ℕ) × (k < length (x ∷ ss)) × (assigns (get_or (x ∷ ss) k (assign 0 0)) ≡ Some d)
     later t = (suc t.0, omega (arith, t.1), t.2)
 
-    go : (b : Bool) (o : Option ℕ) → assigns x ≡ o → pick b (or_else o (given assigns ss s)) (given assigns ss s) ≡ some d → (given assigns ss s ≡ some d → (k : ℕ) × (k < length ss) × (assigns (get_or ss k (assign 0 0)) ≡ some d)) → (k : ℕ) × (k < length (x ∷ ss)) × (assigns (get_or (x ∷ ss) k (assign 0 0)) ≡ some d)
-    go true (some e) z k ih = (0, omega arith, z ∙ k)
-    go true none z k ih = later (ih k)
+    go : (b : Bool) (o : Option ℕ) → assigns x ≡ o → pick b (or_else o (given assigns ss s)) (given assigns ss s) ≡ Some d → (given assigns ss s ≡ Some d → (k : ℕ) × (k < length ss) × (assigns (get_or ss k (assign 0 0)) ≡ Some d)) → (k : ℕ) × (k < length (x ∷ ss)) × (assigns (get_or (x ∷ ss) k (assign 0 0)) ≡ Some d)
+    go true (Some e) z k ih = (0, omega arith, z ∙ k)
+    go true None z k ih = later (ih k)
     go false o z k ih = later (ih k)
 
 -- THE EXPRESSIONS IN S
@@ -183,11 +184,11 @@ module _ {signals exprs stmts expr_table signal_table : List ℕ} (p : Prepared 
   unfolding model_of
   same_stored old a b z = ap (λ (f : ℕ → Bits). tab_from f 0 (length m.signals)) (fun_ext (λ s. become_same a b (given assigns (stmts_in stmts) s) (get_or old s []) (λ e k. z e (named s e (listed_some (given assigns (stmts_in stmts) s) e k)))))
     where
-      listed_some : (o : Option ℕ) (e : ℕ) → Mem e (listed o) → o ≡ some e
-      listed_some none e k = absurd (not-nil k)
-      listed_some (some d) e k = ap some (sym (singleton k))
+      listed_some : (o : Option ℕ) (e : ℕ) → Mem e (listed o) → o ≡ Some e
+      listed_some None e k = absurd (not-nil k)
+      listed_some (Some d) e k = ap Some (sym (singleton k))
 
-      named : (s e : ℕ) → given assigns (stmts_in stmts) s ≡ some e → Named stmts e
+      named : (s e : ℕ) → given assigns (stmts_in stmts) s ≡ Some e → Named stmts e
       named s e h = let t = assigned_named (stmts_in stmts) s e h in record { number = t.0; there = omega (arith, t.1, read_length read_stmt (records_in stmts) (stmts_read p.widest (raw_of (lists signals exprs stmts)) p.faultless)); names = inl t.2 }
 
   module _ {bytes : List ℕ} where
@@ -301,14 +302,14 @@ module _ {signals exprs stmts expr_table signal_table : List ℕ} (p : Prepared 
     passed_start marks {values} {marks'} z f =
         record { right = none_on (InMarks marks') (λ e k. false≢true (subst (λ (i : ℕ). leb 1 i ≡ true) (ap (λ (l : List ℕ). get_or l e 0) z ∙ get_d_zeros (length marks) e) k)) f; values_long = refl; marks_long = refl }
 
-    pub passes_end : {n : ℕ} {marks values' marks' : List ℕ} {more : Bool} → looped (model_in signals exprs stmts) ≡ none → SettlesPass signals exprs stmts n bytes marks more values' marks' → not more ≡ true → Settles signals exprs stmts bytes values'
+    pub passes_end : {n : ℕ} {marks values' marks' : List ℕ} {more : Bool} → looped (model_in signals exprs stmts) ≡ None → SettlesPass signals exprs stmts n bytes marks more values' marks' → not more ≡ true → Settles signals exprs stmts bytes values'
     passes_end {marks' = marks'} {more} h s z =
         all_on (InMarks marks') s.right (λ e q. unlooped_marked p.widest m (is_sound p) marks' (s.stuck (sym (not-not more) ∙ ap not z)) h e (omega (arith, exprs_count, q)))
 
     -- THE WHOLE
 
     -- consistent values are those of the settled model
-    pub settles_all : {values' : List ℕ} → looped (model_in signals exprs stmts) ≡ none → Settles signals exprs stmts bytes values' → SettlesNamed signals exprs stmts bytes values'
+    pub settles_all : {values' : List ℕ} → looped (model_in signals exprs stmts) ≡ None → Settles signals exprs stmts bytes values' → SettlesNamed signals exprs stmts bytes values'
     settles_all q s = record {
       settles_named = λ old behind h.
           let r = s.settles old behind h in
@@ -317,7 +318,7 @@ module _ {signals exprs stmts expr_table signal_table : List ℕ} (p : Prepared 
     }
 
     -- stored, they settle the model
-    pub settles_stored : {bytes' values' : List ℕ} → looped (model_in signals exprs stmts) ≡ none → SettlesNamed signals exprs stmts bytes values' → Stores signals exprs stmts values' bytes bytes' → Settled signals exprs stmts bytes bytes' values'
+    pub settles_stored : {bytes' values' : List ℕ} → looped (model_in signals exprs stmts) ≡ None → SettlesNamed signals exprs stmts bytes values' → Stores signals exprs stmts values' bytes bytes' → Settled signals exprs stmts bytes bytes' values'
     settles_stored {bytes'} {values'} q s t = record {
       signals_hold = λ old behind h.
           let r = s.settles_named old behind h in

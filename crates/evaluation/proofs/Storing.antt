@@ -3,7 +3,7 @@ use Prim.Native.Nat.{ℕ, zero, suc, ◌+◌, ◌-◌, ◌≤◌, ◌<◌}
 use mathlib.Core.Path.{◌≡◌, refl, sym, ◌∙◌, ap, ap₂, subst}
 use mathlib.Core.Bool.{Bool}
 use mathlib.Core.List.{List, [], ◌∷◌, map}
-use mathlib.Core.Option.{Option, none, some}
+use Rattle.std.specs.Prelude.{Option, None, Some}
 use native.Mathlib.Omega.{arith}
 use native.Mathlib.Numerals.{add-one}
 use native.Mathlib.Nat.{not-suc-le-zero, zero-add}
@@ -102,12 +102,12 @@ module _ {signals exprs stmts values : List ℕ} where
     next {bytes'} e f = subst (λ (n : ℕ). Storing signals exprs stmts values bytes₀ bytes' n) (sym (add-one s)) (record { as_long = e ∙ g.as_long; so_far = λ old vs behind rest ho hv. f old vs behind rest (g.so_far old vs behind rest ho hv) hv })
 
     -- it takes its expression's value
-    pub storing_by : {bytes' : List ℕ} {d : ℕ} → given assigns (stmts_in stmts) s ≡ some d → length bytes' ≡ length bytes → StoresOne signals exprs values s d bytes bytes' → Storing signals exprs stmts values bytes₀ bytes' (s + 1)
+    pub storing_by : {bytes' : List ℕ} {d : ℕ} → given assigns (stmts_in stmts) s ≡ Some d → length bytes' ≡ length bytes → StoresOne signals exprs values s d bytes bytes' → Storing signals exprs stmts values bytes₀ bytes' (s + 1)
     unfolding model_of
     storing_by {bytes'} z e o = next e (λ old vs behind rest ho hv. subst (λ (x : Option ℕ). Holds (widths_in signals) (set (anew (assigned (model_in signals exprs stmts) old vs) old s) s (become vs x (get_or old s []))) behind bytes') (sym z) (o.stores_one (anew (assigned (model_in signals exprs stmts) old vs) old s) vs behind rest ho hv))
 
     -- none is assigned: it keeps what it had
-    pub storing_none : given assigns (stmts_in stmts) s ≡ none → Storing signals exprs stmts values bytes₀ bytes (s + 1)
+    pub storing_none : given assigns (stmts_in stmts) s ≡ None → Storing signals exprs stmts values bytes₀ bytes (s + 1)
     unfolding model_of
     storing_none z = next refl (λ old vs behind rest ho hv.
         subst (λ (l : List Bits). Holds (widths_in signals) l behind bytes)
@@ -116,7 +116,7 @@ module _ {signals exprs stmts values : List ℕ} where
 
     module _ {expr_table signal_table : List ℕ} (p : Prepared signals exprs stmts expr_table signal_table) where
       -- what storing one asks
-      pub storing_asks : {d : ℕ} → Room signals exprs bytes₀ values → s < length (records_in signals) → given assigns (stmts_in stmts) s ≡ some d → Indexed (widths_in exprs) expr_table × Indexed (widths_in signals) signal_table × Room signals exprs bytes values × (s < length (records_in signals)) × (d < length (records_in exprs)) × (get_or (widths_in exprs) d 0 ≡ get_or (widths_in signals) s 0)
+      pub storing_asks : {d : ℕ} → Room signals exprs bytes₀ values → s < length (records_in signals) → given assigns (stmts_in stmts) s ≡ Some d → Indexed (widths_in exprs) expr_table × Indexed (widths_in signals) signal_table × Room signals exprs bytes values × (s < length (records_in signals)) × (d < length (records_in exprs)) × (get_or (widths_in exprs) d 0 ≡ get_or (widths_in signals) s 0)
       storing_asks r q z = (p.expr_offsets, p.signal_offsets, record { bytes_room = omega (arith, r.bytes_room, g.as_long); values_room = r.values_room }, q, omega (arith, driver_there p s z, length_widths exprs), driver_wide p s z)
 
       pub storing_end : length (records_in signals) ≤ s → Stores signals exprs stmts values bytes₀ bytes

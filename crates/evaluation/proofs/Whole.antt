@@ -4,7 +4,7 @@ use mathlib.Core.Path.{◌≡◌, refl, sym, ◌∙◌, ap, ap₂, subst}
 use mathlib.Core.Logic.{◌⊎◌, inl, inr}
 use mathlib.Core.Bool.{Bool, true, false}
 use mathlib.Core.List.{List, [], ◌∷◌, map}
-use mathlib.Core.Option.{Option, none, some}
+use Rattle.std.specs.Prelude.{Option, None, Some}
 use native.Mathlib.Omega.{arith}
 use native.Mathlib.Numerals.{add-one}
 use native.Mathlib.Nat.{not-suc-le-zero, add-zero, zero-add}
@@ -43,15 +43,15 @@ pub read_length : {A : Type 0} (g : List ℕ → Option A) (rs : List (List ℕ)
 read_length g [] t = refl
 read_length g (r ∷ rs) t = rw (t.0.reads, read_all) (ap suc (read_length g rs t.1))
 
-pub read_at : {A : Type 0} (g : List ℕ → Option A) (rs : List (List ℕ)) → EachReads g rs → (i : ℕ) → i < length rs → (d : A) → g (get_or rs i []) ≡ some (get_or (read_all g rs) i d)
+pub read_at : {A : Type 0} (g : List ℕ → Option A) (rs : List (List ℕ)) → EachReads g rs → (i : ℕ) → i < length rs → (d : A) → g (get_or rs i []) ≡ Some (get_or (read_all g rs) i d)
 read_at g [] t i q d = absurd (not-suc-le-zero q)
-read_at {A} g (r ∷ rs) t zero q d = t.0.reads ∙ ap (λ (l : List A). some (get_or l 0 d)) (sym (read_cons t.0.as_this t.0.reads))
+read_at {A} g (r ∷ rs) t zero q d = t.0.reads ∙ ap (λ (l : List A). Some (get_or l 0 d)) (sym (read_cons t.0.as_this t.0.reads))
   where
-    read_cons : (a : A) → g r ≡ some a → read_all g (r ∷ rs) ≡ a ∷ read_all g rs
+    read_cons : (a : A) → g r ≡ Some a → read_all g (r ∷ rs) ≡ a ∷ read_all g rs
     read_cons a e = rw (e, read_all)
-read_at {A} g (r ∷ rs) t (suc i) q d = read_at g rs t.1 i (omega arith) d ∙ ap (λ (l : List A). some (get_or l (suc i) d)) (sym (read_cons t.0.as_this t.0.reads))
+read_at {A} g (r ∷ rs) t (suc i) q d = read_at g rs t.1 i (omega arith) d ∙ ap (λ (l : List A). Some (get_or l (suc i) d)) (sym (read_cons t.0.as_this t.0.reads))
   where
-    read_cons : (a : A) → g r ≡ some a → read_all g (r ∷ rs) ≡ a ∷ read_all g rs
+    read_cons : (a : A) → g r ≡ Some a → read_all g (r ∷ rs) ≡ a ∷ read_all g rs
     read_cons a e = rw (e, read_all)
 
 pub all_at : {A : Type 0} (p : ℕ → A → Bool) (n : ℕ) (l : List A) (d : A) → AllFrom p n l → (i : ℕ) → i < length l → p (n + i) (get_or l i d) ≡ true
@@ -138,7 +138,7 @@ module _ {signals exprs stmts expr_table signal_table : List ℕ} (p : Prepared 
   all_read = exprs_read p.widest (raw_of (lists signals exprs stmts)) p.faultless
 
   -- what is assigned to a signal is there, and as wide
-  module _ (s : ℕ) {d : ℕ} (hd : given assigns (stmts_in stmts) s ≡ some d) where
+  module _ (s : ℕ) {d : ℕ} (hd : given assigns (stmts_in stmts) s ≡ Some d) where
     suited : suits (widths_in signals) (widths_in exprs) s d ≡ true
     unfolding model_of
     suited = ap₂ (λ (sw ew : List ℕ). suits sw ew s d) signals_wide exprs_wide ∙ assigned_suits p.widest m is_sound s d hd
@@ -153,7 +153,7 @@ module _ {signals exprs stmts expr_table signal_table : List ℕ} (p : Prepared 
     driver_wide = eqb-true (get_or (widths_in exprs) d 0) (get_or (widths_in signals) s 0) (and_right (ltb d (length (widths_in exprs))) (eqb (get_or (widths_in exprs) d 0) (get_or (widths_in signals) s 0)) wide_there)
 
   module _ {e : ℕ} (q : e < length (records_in exprs)) where
-    pub expr_reads : read_expr (get_or (records_in exprs) e []) ≡ some (expr_in exprs e)
+    pub expr_reads : read_expr (get_or (records_in exprs) e []) ≡ Some (expr_in exprs e)
     expr_reads = read_at read_expr (records_in exprs) all_read e q (const 0 0)
 
     pub expr_fits_lem : expr_fits p.widest (widths_in signals) (widths_in exprs) e (expr_in exprs e) ≡ true
@@ -243,12 +243,12 @@ module _ {signals exprs stmts expr_table signal_table : List ℕ} (p : Prepared 
           pub signal_copies : (to + w ≤ length values) × (from + l + w ≤ length bytes)
           signal_copies = (read_own, from_end)
 
-          pub signal_done : {values' : List ℕ} → given assigns (stmts_in stmts) s ≡ none → values' ≡ over values to (part bytes (from + l) w) → Computed signals exprs stmts bytes e values values'
+          pub signal_done : {values' : List ℕ} → given assigns (stmts_in stmts) s ≡ None → values' ≡ over values to (part bytes (from + l) w) → Computed signals exprs stmts bytes e values values'
           unfolding model_of
           signal_done g z = finish (λ old vs behind rest ho hv. z ∙ ap (over values to) (ap (λ (i : ℕ). part bytes (i + l) w) hf ∙ holds_window ho s l w signal_there window_fits ∙ ap (λ (o : Option ℕ). map digit (window (become vs o (get_or old s [])) l w)) (sym g)))
 
         -- from the value of what is assigned
-        module _ {d : ℕ} (hd : given assigns (stmts_in stmts) s ≡ some d) where
+        module _ {d : ℕ} (hd : given assigns (stmts_in stmts) s ≡ Some d) where
           pub driver_asks : length values < 18446744073709551616 → Indexed (widths_in exprs) expr_table × (d ≤ length (records_in exprs)) × (offset (widths_in exprs) (length (records_in exprs)) ≤ 18446744073709551615)
           driver_asks v = (p.expr_offsets, omega (arith, driver_there s hd, length_widths exprs), omega (arith, r.values_room))
 

@@ -1,6 +1,6 @@
 -- Values of all expressions that agree with one another: what a settling in any order reaches.
 use Rattle.std.specs.Prelude.{ℕ, ◌<◌, ◌≡◌, List, [], ◌∷◌, length, get_or}
-use Rattle.std.proofs.Math.Option.{none}
+use Rattle.std.specs.Prelude.{None}
 use Rattle.bits.specs.Bits.{Bits}
 use Rattle.settle.specs.Table.{tab_from}
 use Rattle.recorder.specs.Record.{Expr, Model}
@@ -38,7 +38,7 @@ pub record Consistent (m : Model) (old vs : List Bits) : Type 0 where
 pub record Settling (m : Model) (old vs : List Bits) : Type 0 where
   pub values : values_in m (stored m old vs) ≡ vs
   pub settled : IsSettled m old (stored m old vs)
-  pub settling : looped m ≡ none → settle m old ≡ stored m old vs
+  pub settling : looped m ≡ None → settle m old ≡ stored m old vs
 
 abbrev pub ConsistentSettles : Type 0
 ConsistentSettles = (widest : ℕ) (m : Model) (old vs : List Bits) → Sound widest m → length old ≡ length m.signals → Consistent m old vs → Settling m old vs

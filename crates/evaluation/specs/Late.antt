@@ -1,7 +1,7 @@
 -- Ticks that store less. Of the signals to which an expression is assigned only those are stored that something looks at: the levels that
 -- registers ask for, and the outputs. The state that is held then is late: settled, it is the one that is meant.
 use Rattle.std.specs.Prelude.{ℕ, ◌+◌, ◌≤◌, ◌<◌, ◌≡◌, Bool, true, false, List, [], map, ◌⊎◌, length, get_or}
-use Rattle.std.proofs.Math.Option.{Option, none, some}
+use Rattle.std.specs.Prelude.{Option, None, Some}
 use Rattle.bits.specs.Bits.{Bits}
 use Rattle.settle.specs.Table.{at as signals_at}
 use Rattle.recorder.specs.Record.{Signal, RegReset, RegEnable, Stmt, Model, assign, reg}
@@ -25,7 +25,7 @@ pub record Among (list : List ℕ) (from k x : ℕ) : Type 0 where
 -- two states that agree where nothing is assigned
 pub record SameFree (m : Model) (a b : List Bits) : Type 0 where
   pub as_many : length a ≡ length b
-  pub free : (s : ℕ) → given assigns m.stmts s ≡ none → get_or a s [] ≡ get_or b s []
+  pub free : (s : ℕ) → given assigns m.stmts s ≡ None → get_or a s [] ≡ get_or b s []
 
 abbrev pub no_signal : Signal
 no_signal = record { label = 0; width = 0; owner = 0 }
@@ -55,23 +55,23 @@ is_register (assign t e) = false
 is_register (reg t n c d r e) = true
 
 abbrev pub reset_signal : Option RegReset → Option ℕ
-reset_signal none = none
-reset_signal (some r) = some r.signal
+reset_signal None = None
+reset_signal (Some r) = Some r.signal
 
 abbrev pub enable_signal : Option RegEnable → Option ℕ
-enable_signal none = none
-enable_signal (some e) = some e.signal
+enable_signal None = None
+enable_signal (Some e) = Some e.signal
 
 -- a register asks for the level of signal s
 abbrev pub Asks : Stmt → ℕ → Type 0
 Asks (assign t e) s = ⊥
-Asks (reg t n c d r e) s = (reset_signal r ≡ some s) ⊎ (enable_signal e ≡ some s)
+Asks (reg t n c d r e) s = (reset_signal r ≡ Some s) ⊎ (enable_signal e ≡ Some s)
 
 -- an expression that a register may load
 pub record Loaded (stmts : List ℕ) (e : ℕ) : Type 0 where
   pub number : ℕ
   pub there : number < length (records_in stmts)
-  pub loaded : (marked 1 (stmt_in stmts number) ≡ some e) ⊎ (marked 2 (stmt_in stmts number) ≡ some e)
+  pub loaded : (marked 1 (stmt_in stmts number) ≡ Some e) ⊎ (marked 2 (stmt_in stmts number) ≡ Some e)
 
 -- k words of a list, from an index on, at which statements begin, all registers among them
 pub record Registers (stmts list : List ℕ) (from k : ℕ) : Type 0 where
@@ -89,7 +89,7 @@ module _ (signals exprs stmts : List ℕ) where
   -- k signals of a list take the values of what is assigned to them; those to which nothing is assigned are kept
   pub record StoresListed (list : List ℕ) (from k : ℕ) (values bytes bytes' : List ℕ) : Type 0 where
     pub stores_listed : (old vs : List Bits) (behind rest : List ℕ) → Holds (widths_in signals) old behind bytes → Holds (widths_in exprs) vs rest values
-        → (new : List Bits) × Holds (widths_in signals) new behind bytes' × ((s d : ℕ) → Among list from k s → given assigns (stmts_in stmts) s ≡ some d → get_or new s [] ≡ get_or vs d []) × ((s : ℕ) → given assigns (stmts_in stmts) s ≡ none → get_or new s [] ≡ get_or old s [])
+        → (new : List Bits) × Holds (widths_in signals) new behind bytes' × ((s d : ℕ) → Among list from k s → given assigns (stmts_in stmts) s ≡ Some d → get_or new s [] ≡ get_or vs d []) × ((s : ℕ) → given assigns (stmts_in stmts) s ≡ None → get_or new s [] ≡ get_or old s [])
 
   -- every register takes what it loads by the marks
   pub record LoadsMarked (values marks bytes bytes' : List ℕ) : Type 0 where

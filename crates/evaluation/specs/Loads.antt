@@ -1,7 +1,7 @@
 -- How the registers load, in two passes over the statements: marks note what each loads before any value is stored, as a register's control
 -- may be a register; then the values are stored.
 use Rattle.std.specs.Prelude.{ℕ, ◌+◌, ◌≤◌, ◌<◌, ◌≡◌, Bool, List, [], ◌⊎◌, eqb, length, get_or}
-use Rattle.std.proofs.Math.Option.{Option, none, some}
+use Rattle.std.specs.Prelude.{Option, None, Some}
 use Rattle.bits.specs.Bits.{pick, Bits}
 use Rattle.settle.specs.Table.{at as signals_at}
 use Rattle.recorder.specs.Record.{RegReset, Stmt, assign, reg}
@@ -52,13 +52,13 @@ enable_at stmts word = pick (eqb (get_or stmts (word + 6) 0) 0) (word + 7) (word
 -- MARKS: a register's is 1 if it loads its next value, 2 if it loads its reset's, anything else if it keeps its own
 
 abbrev pub reset_value : Option RegReset → Option ℕ
-reset_value none = none
-reset_value (some r) = some r.value
+reset_value None = None
+reset_value (Some r) = Some r.value
 
 -- what a statement loads by a mark
 abbrev pub marked : ℕ → Stmt → Option ℕ
-marked mark (assign t e) = none
-marked mark (reg t n c d r e) = pick (eqb mark 1) (some n) (pick (eqb mark 2) (reset_value r) none)
+marked mark (assign t e) = None
+marked mark (reg t n c d r e) = pick (eqb mark 1) (Some n) (pick (eqb mark 2) (reset_value r) None)
 
 -- each signal's mark stands by its number
 abbrev pub by_marks : List ℕ → Stmt → Option ℕ
@@ -67,7 +67,7 @@ by_marks marks x = marked (get_or marks (target x) 0) x
 -- EXPRESSIONS THAT STATEMENTS NAME: what is assigned, a register's next value and its reset's
 
 abbrev pub Names : Stmt → ℕ → Type 0
-Names x e = (assigns x ≡ some e) ⊎ ((marked 1 x ≡ some e) ⊎ (marked 2 x ≡ some e))
+Names x e = (assigns x ≡ Some e) ⊎ ((marked 1 x ≡ Some e) ⊎ (marked 2 x ≡ Some e))
 
 pub record Named (stmts : List ℕ) (e : ℕ) : Type 0 where
   pub number : ℕ

@@ -1,6 +1,6 @@
 -- What evaluating an expression asks, and what it leaves.
 use Rattle.std.specs.Prelude.{ℕ, ◌+◌, ◌≤◌, ◌<◌, ◌≡◌, true, List, [], length, get_or, set}
-use Rattle.std.proofs.Math.Option.{some, none}
+use Rattle.std.specs.Prelude.{Some, None}
 use Rattle.bits.specs.Bits.{Bits}
 use Rattle.recorder.specs.Record.{Expr, Model, const, expr_words}
 use Rattle.recorder.specs.Lists.{lists}
@@ -22,7 +22,7 @@ pub record Ready (exprs table values : List ℕ) (at e : ℕ) : Type 0 where
   pub widest : ℕ
   pub signal_widths_lem : List ℕ
   pub there : e < length (records_in exprs)
-  pub reads : read_expr (get_or (records_in exprs) e []) ≡ some (expr_in exprs e)
+  pub reads : read_expr (get_or (records_in exprs) e []) ≡ Some (expr_in exprs e)
   pub fits : expr_fits widest signal_widths_lem (widths_in exprs) e (expr_in exprs e) ≡ true
   pub inside : at + length (expr_words (expr_in exprs e)) ≤ length exprs
   pub words : (j : ℕ) → j < length (expr_words (expr_in exprs e)) → get_or exprs (at + j) 0 ≡ get_or (expr_words (expr_in exprs e)) j 0
@@ -42,7 +42,7 @@ model_in signals exprs stmts = model_of (raw_of (lists signals exprs stmts))
 -- a model without a fault, and tables of the offsets of its expressions and signals
 pub record Prepared (signals exprs stmts expr_table signal_table : List ℕ) : Type 0 where
   pub widest : ℕ
-  pub faultless : first_fault widest (raw_of (lists signals exprs stmts)) ≡ none
+  pub faultless : first_fault widest (raw_of (lists signals exprs stmts)) ≡ None
   pub expr_offsets : Indexed (widths_in exprs) expr_table
   pub signal_offsets : Indexed (widths_in signals) signal_table
 

@@ -1,7 +1,7 @@
 -- What settling, storing, committing and a whole tick leave in the bytes, for all signals that they may hold.
 use Rattle.std.specs.Prelude.{ℕ, ◌≤◌, ◌<◌, ◌≡◌, length, get_or, take, set}
 use mathlib.Core.List.{List, [], map, Memᴰ as Mem}
-use Rattle.std.proofs.Math.Option.{none}
+use Rattle.std.specs.Prelude.{None}
 use Rattle.bits.specs.Bits.{Bits}
 use Rattle.recorder.specs.Record.{Signal, Model}
 use Rattle.recorder.specs.Read.{read_signal, read_all}
@@ -20,7 +20,7 @@ use Rattle.evaluation.specs.Loads.{SameNamed}
 -- a model without a fault
 pub record NoFault (signals exprs stmts : List ℕ) : Type 0 where
   pub widest : ℕ
-  pub faultless : first_fault widest (raw_of (lists signals exprs stmts)) ≡ none
+  pub faultless : first_fault widest (raw_of (lists signals exprs stmts)) ≡ None
 
 -- bytes that hold some values of these widths
 pub record Filled (ws bytes : List ℕ) : Type 0 where
@@ -43,7 +43,7 @@ pub record ReadSignals (signals : List ℕ) : Type 0 where
 -- the bits of a tick: as many as the inputs have
 pub record GoodTicks (signals ticks : List ℕ) : Type 0 where
   pub right_count : length ticks ≡ total input_width (signals_in signals)
-  pub all_bits : no_bit 0 ticks ≡ none
+  pub all_bits : no_bit 0 ticks ≡ None
 
 -- the inputs take them
 pub record Inputs (signals ticks bytes bytes' : List ℕ) : Type 0 where

@@ -3,7 +3,7 @@
 use mathlib.Core.Path.{◌≡◌, refl, ap, ap₂, sym, ◌∙◌}
 use mathlib.Core.Bool.{Bool, true, false, ◌||◌}
 use mathlib.Core.List.{List, [], ◌∷◌, ◌++◌, append-nil, append_assoc}
-use mathlib.Core.Option.{Option, none, some}
+use Rattle.std.specs.Prelude.{Option, None, Some}
 use Prim.Native.Nat.{ℕ, zero, suc, ◌+◌}
 use native.Mathlib.Omega.{arith}
 use lib.Dec.{eqb}
@@ -203,22 +203,22 @@ module _ (m : Wires) (z : Constants) where
 
   -- the second port's expressions, where it is there
   IsPort : Option SecondPort → Option PortExprs → Type 0
-  IsPort none p = p ≡ none
-  IsPort (some q) p = (x : PortExprs) × (p ≡ some x) × (x.read_data ≡ q.output)
+  IsPort None p = p ≡ None
+  IsPort (Some q) p = (x : PortExprs) × (p ≡ Some x) × (x.read_data ≡ q.output)
 
   is_port : (seen : Seen) (shift aw : ℕ) (o : Option SecondPort) → Gets (Rattle.memories.specs.Memories.second_exprs m seen shift aw o) (λ r. IsPort o r.value)
   unfolding IsPort
-  is_port seen shift aw none = Rattle.meaning.proofs.Settling.gets_pure refl
-  is_port seen shift aw (some q) =
+  is_port seen shift aw None = Rattle.meaning.proofs.Settling.gets_pure refl
+  is_port seen shift aw (Some q) =
       Rattle.meaning.proofs.Settling.gets_bind (gets_any _) (λ a u. Rattle.meaning.proofs.Settling.gets_bind (gets_any _) (λ d v. Rattle.meaning.proofs.Settling.gets_bind (gets_any _) (λ y w. Rattle.meaning.proofs.Settling.gets_pure (_, refl, refl))))
 
   second_acts : (o : Option SecondPort) (p : Option PortExprs) (k : Option ℕ) (ws : List Word) (width aw clock edge : ℕ) {n : Count} → IsPort o p → Acts n (emit_second_read_port m z p k ws width aw clock edge) Unit₀ [] (second_aim m o)
   unfolding IsPort
-  second_acts none none k ws width aw clock edge h = acts_pure tt
-  second_acts none (some p) k ws width aw clock edge h = absurd (let e : ◌≡◌ {A = ℕ} 0 1 = cc in omega arith)
-  second_acts (some q) none k ws width aw clock edge h = absurd (let y : none ≡ some h.0 = h.1 in let e : ◌≡◌ {A = ℕ} 0 1 = cc in omega arith)
-  second_acts (some q) (some p) k ws width aw clock edge h =
-      let y : some p ≡ some h.0 = h.1 in
+  second_acts None None k ws width aw clock edge h = acts_pure tt
+  second_acts None (Some p) k ws width aw clock edge h = absurd (let e : ◌≡◌ {A = ℕ} 0 1 = cc in omega arith)
+  second_acts (Some q) None k ws width aw clock edge h = absurd (let y : None ≡ Some h.0 = h.1 in let e : ◌≡◌ {A = ℕ} 0 1 = cc in omega arith)
+  second_acts (Some q) (Some p) k ws width aw clock edge h =
+      let y : Some p ≡ Some h.0 = h.1 in
       let same : p ≡ h.0 = cc in
       acts_as refl (ap (λ (l : List ℕ). aim (m (get_or l 0 0)) ∷ []) (ap (λ (x : PortExprs). x.read_data) same ∙ h.2)) (λ a u. u) (port_acts p k ws width aw clock edge)
 
@@ -243,7 +243,7 @@ dram_words_acts : (p : PortExprs) (owner clock edge left index : ℕ) (ws : List
 unfolding dram_words
 dram_words_acts p owner clock edge zero index ws = acts_pure tt
 dram_words_acts p owner clock edge (suc left) index ws {n} =
-    acts_bind (word_acts p none owner 4 4 index) (λ w q n₁ e₁.
+    acts_bind (word_acts p None owner 4 4 index) (λ w q n₁ e₁.
     acts_as refl (ap₂ (λ (a b : ℕ). a ∷ range b left) q (let z : n₁.signals ≡ suc n.signals = omega (arith, e₁) in z)) (λ u v. v)
     (acts_bind acts_state (λ u v n₂ e₂.
     acts_as refl (ap (λ (k : ℕ). range k left) (let z : n₂.signals ≡ n₁.signals = omega (arith, e₂) in z)) (λ u v. v) (dram_words_acts p owner clock edge left (suc index) (ws ++ (w ∷ []))))))
@@ -267,7 +267,7 @@ module _ (m : Wires) (z : Constants) where
   dram_acts seen owner r {n} =
       quietly (quiet_vector_once m seen r.write_address 0 4) (λ wa n₁ e₁. quietly (quiet_vector_once m wa.seen r.read_address 0 4) (λ ra n₂ e₂. quietly (quiet_vector_once m ra.seen r.input 0 4) (λ d n₃ e₃. quietly (quiet_asserted_once m d.seen r.write) (λ y n₄ e₄.
       quietly (quiet_signal m z r.clock) (λ clock n₅ e₅.
-      let p : PortExprs = record { write_address = wa.value; write_data = d.value; write_asserted = y.value; read_address = ra.value; read_data = r.output; read_enable = none; clock_enabled = none } in
+      let p : PortExprs = record { write_address = wa.value; write_data = d.value; write_asserted = y.value; read_address = ra.value; read_data = r.output; read_enable = None; clock_enabled = None } in
       acts_as (append-nil (replicate 16 (word_signal 4 owner))) (ap (λ (k : ℕ). range k 16 ++ (aim (m (get_or r.output 0 0)) ∷ [])) (let q : n₅.signals ≡ n.signals = omega (arith, e₁, e₂, e₃, e₄, e₅) in q)) (λ u v. v)
       (acts_bind (dram_words_acts p owner clock r.edge 16 0 []) (λ ws u n₆ e₆.
       quietly quiet_emit (λ e n₇ e₇. quietly (quiet_select ra.value 0 ws e) (λ v n₈ e₈. acts_keeping _ (aim_at m (get_or r.output 0 0) v))))))))))

@@ -11,7 +11,8 @@ use mathlib.Core.List.Memᴰ.{head as here}
 use mathlib.Core.List.Memᴰ.{not-nil}
 use mathlib.Core.List.Memᴰ.{tail as there}
 use mathlib.Core.List.{List, [], ◌∷◌, ◌++◌, map, Memᴰ as Mem}
-use mathlib.Core.Option.{Option, none, some, some-ne-none}
+use Rattle.std.specs.Prelude.{Option, None, Some}
+use Rattle.bits.proofs.Options.{some_ne_none}
 use Prim.Native.Nat.{ℕ, zero, suc, ◌+◌, ◌≤◌, ◌<◌}
 use native.Mathlib.Nat.{not-suc-le-zero}
 use native.Mathlib.Omega.{arith}
@@ -68,14 +69,14 @@ statements_occur s [] = refl
 statements_occur s (t ∷ ts) = ap (λ (k : ℕ). pick (eqb (target t) s) 1 0 + k) (statements_occur s ts)
 
 -- 11 did not come
-not_overdriven : (k : ℕ) (xs : List Signal) (ts : List Stmt) → overdriven_from k xs ts ≡ none → (i : ℕ) (d : Signal) → i < length xs → statements_on (k + i) ts ≤ allowed (get_or xs i d)
+not_overdriven : (k : ℕ) (xs : List Signal) (ts : List Stmt) → overdriven_from k xs ts ≡ None → (i : ℕ) (d : Signal) → i < length xs → statements_on (k + i) ts ≤ allowed (get_or xs i d)
 unfolding overdriven_from
 not_overdriven k [] ts h i d l = absurd (not-suc-le-zero l)
 not_overdriven k (x ∷ xs) ts h i d l = go (leb (statements_on k ts) (allowed x)) refl (not_overdriven (suc k) xs ts) h i l
   where
-    go : (b : Bool) → leb (statements_on k ts) (allowed x) ≡ b → (overdriven_from (suc k) xs ts ≡ none → (i : ℕ) (d : Signal) → i < length xs → statements_on (suc k + i) ts ≤ allowed (get_or xs i d))
-        → pick b (overdriven_from (suc k) xs ts) (some k) ≡ none → (i : ℕ) → i < length (x ∷ xs) → statements_on (k + i) ts ≤ allowed (get_or (x ∷ xs) i d)
-    go false e f q i l = absurd (some-ne-none k q)
+    go : (b : Bool) → leb (statements_on k ts) (allowed x) ≡ b → (overdriven_from (suc k) xs ts ≡ None → (i : ℕ) (d : Signal) → i < length xs → statements_on (suc k + i) ts ≤ allowed (get_or xs i d))
+        → pick b (overdriven_from (suc k) xs ts) (Some k) ≡ None → (i : ℕ) → i < length (x ∷ xs) → statements_on (k + i) ts ≤ allowed (get_or (x ∷ xs) i d)
+    go false e f q i l = absurd (some_ne_none k q)
     go true e f q zero l = subst (λ (j : ℕ). statements_on j ts ≤ allowed x) (let z : k ≡ k + 0 = omega arith in z) (leb-true _ _ e)
     go true e f q (suc i) l = subst (λ (j : ℕ). statements_on j ts ≤ allowed (get_or xs i d)) (let z : suc k + i ≡ k + suc i = omega arith in z) (f q i d (omega arith))
 
@@ -230,8 +231,8 @@ cell_drives limits m base (flip_flop f') g f h = absurd (not-nil h)
 cell_drives limits m base (block_ram r) g f h = go (cases_cons h)
   where
     second : (o : Option SecondPort) → Mem g (second_group r.width o) → Mem (aim (m (get_or g.wires 0 0))) (second_aim m o)
-    second none q = absurd (not-nil q)
-    second (some p) q = here (ap (λ (y : Group). aim (m (get_or y.wires 0 0))) (only_one q))
+    second None q = absurd (not-nil q)
+    second (Some p) q = here (ap (λ (y : Group). aim (m (get_or y.wires 0 0))) (only_one q))
 
     go : (g ≡ record { pin = 0; wires = r.output }) ⊎ Mem g (second_group r.width r.second) → Mem (aim (m (get_or g.wires 0 0))) (cell_aims m base (block_ram r))
     go (inl e) = here (ap (λ (y : Group). aim (m (get_or y.wires 0 0))) e)
@@ -260,8 +261,8 @@ group_some limits (flip_flop f') g f h = absurd (not-nil h)
 group_some limits (block_ram r) g f h = go (cases_cons h)
   where
     second : (o : Option SecondPort) → FitsOption (FitsSecond limits r.width) o → Mem g (second_group r.width o) → 1 ≤ length g.wires
-    second none k q = absurd (not-nil q)
-    second (some p) k q = omega (arith, ap (λ (y : Group). length y.wires) (only_one q), k.output.0, f.width.0)
+    second None k q = absurd (not-nil q)
+    second (Some p) k q = omega (arith, ap (λ (y : Group). length y.wires) (only_one q), k.output.0, f.width.0)
 
     go : (g ≡ record { pin = 0; wires = r.output }) ⊎ Mem g (second_group r.width r.second) → 1 ≤ length g.wires
     go (inl e) = omega (arith, ap (λ (y : Group). length y.wires) e, f.output.0, f.width.0)
@@ -357,10 +358,10 @@ module _ {shared : ℕ} {limits : Limits} {n : Netlist} (a : Lowered shared limi
   parts s = omega (arith, occurs_append s cell_part (bank_part ++ port_aims 0 n.ports), occurs_append s bank_part (port_aims 0 n.ports))
 
   -- a wire of a slot is found there
-  pub found_in : (x : Slot) (p : Placed (slots n) x) (i w : ℕ) → i < length x.bits → get_or x.bits i Zero ≡ Wire w → find w (slots n) 0 ≡ some (record { signal = p.number; lowest = i; width = length x.bits; source = x.source })
+  pub found_in : (x : Slot) (p : Placed (slots n) x) (i w : ℕ) → i < length x.bits → get_or x.bits i Zero ≡ Wire w → find w (slots n) 0 ≡ Some (record { signal = p.number; lowest = i; width = length x.bits; source = x.source })
   found_in x p i w l q =
       mapping.apart p.number i w p.inside (subst (λ (y : Slot). i < length y.bits) (sym p.is) l) (ap (λ (y : Slot). get_or y.bits i Zero) p.is ∙ q)
-      ∙ ap (λ (y : Slot). some (record { signal = p.number; lowest = i; width = length y.bits; source = y.source })) p.is
+      ∙ ap (λ (y : Slot). Some (record { signal = p.number; lowest = i; width = length y.bits; source = y.source })) p.is
 
   wires_bit : (ws : List ℕ) (i : ℕ) → i < length ws → get_or (map Wire ws) i Zero ≡ Wire (get_or ws i 0)
   wires_bit [] i h = absurd (not-suc-le-zero h)
@@ -368,11 +369,11 @@ module _ {shared : ℕ} {limits : Limits} {n : Netlist} (a : Lowered shared limi
   wires_bit (w ∷ ws) (suc i) h = wires_bit ws i (omega arith)
 
   -- the i-th wire of a slot of several wires
-  pub wire_at : (source : Source) (ws : List ℕ) (p : Placed (slots n) (record { source = source; bits = map Wire ws })) (i : ℕ) → i < length ws → m (get_or ws i 0) ≡ some (record { signal = p.number; lsb = i; width = length ws })
+  pub wire_at : (source : Source) (ws : List ℕ) (p : Placed (slots n) (record { source = source; bits = map Wire ws })) (i : ℕ) → i < length ws → m (get_or ws i 0) ≡ Some (record { signal = p.number; lsb = i; width = length ws })
   wire_at source ws p i h =
       mapping.finds (get_or ws i 0)
       ∙ ap ref_of (found_in (record { source = source; bits = map Wire ws }) p i (get_or ws i 0) (omega (arith, h, length-map ws Wire)) (wires_bit ws i h))
-      ∙ ap (λ (k : ℕ). some (record { signal = p.number; lsb = i; width = k })) (length-map ws Wire)
+      ∙ ap (λ (k : ℕ). Some (record { signal = p.number; lsb = i; width = k })) (length-map ws Wire)
 
   aim_is : (source : Source) (ws : List ℕ) (p : Placed (slots n) (record { source = source; bits = map Wire ws })) → 1 ≤ length ws → aim (m (get_or ws 0 0)) ≡ p.number
   aim_is source ws p h = ap aim (wire_at source ws p 0 h)
@@ -458,7 +459,7 @@ module _ {shared : ℕ} {limits : Limits} {n : Netlist} (a : Lowered shared limi
   at_most : (s : ℕ) → s < length (slots n) → on_signal a s ≤ 1
   at_most s h = omega (arith, few a s (omega (arith, h, slots_within)), few_allowed (get_or (lowered_model shared n).signals s no_signal))
 
-  module _ (c : ℕ) (p : Pll) (inside : c < length n.cells) (is : get_or n.cells c absent ≡ pll p) (w : ℕ) (one_of : Mem w (pll_wires p)) (r : Ref) (e : wires w ≡ some r) where
+  module _ (c : ℕ) (p : Pll) (inside : c < length n.cells) (is : get_or n.cells c absent ≡ pll p) (w : ℕ) (one_of : Mem w (pll_wires p)) (r : Ref) (e : wires w ≡ Some r) where
     at : Located n w r
     at = located n wires (slot_signals a) (mapping a) w r e
 

@@ -11,7 +11,7 @@ use mathlib.Core.List.Memᴰ.{head as here}
 use mathlib.Core.List.Memᴰ.{not-nil}
 use mathlib.Core.List.Memᴰ.{tail as there}
 use mathlib.Core.List.{List, [], ◌∷◌, ◌++◌, Memᴰ as Mem}
-use mathlib.Core.Option.{Option, none, some}
+use Rattle.std.specs.Prelude.{Option, None, Some}
 use Prim.Native.Nat.{ℕ, zero, suc, ◌+◌, ◌≤◌, ◌<◌}
 use native.Mathlib.Omega.{arith}
 use lib.Dec.{eqb}
@@ -39,7 +39,7 @@ use Rattle.wires.specs.Expressions.{ref_of, wire_ref, read_ref, bit_expression, 
 use Rattle.cells.specs.Cells.{emit_multiplier, emit_lut4, emit_pfumx, emit_l6mux21, emit_io, ccu_row, emit_ccu2c, assign_all, emit_idle_jtagg, pll_clocks, emit_cycle_pll}
 use Rattle.lowering.specs.Emit.{with_enable, reset_bit, with_reset, next_bit, next_bits, reset_bits, bank_reset, emit_flip_flop_bank}
 use Rattle.meaning.proofs.Standing.{AllStand, none_stand, nothing_stands, noted_stand}
-use Rattle.forms.specs.Typed.{Context, At, Sig, Exp, Parts, no_part, part, Grows, Wide, Fit, None, Any, Wired, Based, GoodReset}
+use Rattle.forms.specs.Typed.{Context, At, Sig, Exp, Parts, no_part, part, Grows, Wide, Fit, NoSignal, Any, Wired, Based, GoodReset}
 use Rattle.forms.specs.Suits.{From, WideAs, Suits, AllSuit}
 use Rattle.forms.proofs.Fits.{grow_exp, exp_so, grow_sig, grow_parts, parts_snoc, fit_pure, fit_refuse, fit_state, fit_bind, fit_so, emit_read, emit_concat, emit_not, emit_and, emit_or, emit_xor, emit_mux, emit_mul}
 
@@ -69,7 +69,7 @@ pub record Ready (words : ℕ) (c : Context) (m : Wires) : Type 0 where
   pub wired : Wired c m
   pub based : Based c
   pub many : words ≤ length c.signals
-  pub under : (w : ℕ) (r : WireRef) → m w ≡ some r → r.signal < words
+  pub under : (w : ℕ) (r : WireRef) → m w ≡ Some r → r.signal < words
 
 pub grow_based : {c c' : Context} → Grows c c' → Based c → Based c'
 grow_based g b = record { zero_is = grow_exp g b.zero_is; one_is = grow_exp g b.one_is }
@@ -102,7 +102,7 @@ small room w l h = (l, omega (arith, h, room))
 -- READING WIRES
 
 module _ {widest words : ℕ} {D : ℕ → ℕ → Type 0} (room : 36 ≤ widest) (m : Wires) where
-  fit_read : {c : Context} {S : ℕ → Type 0} (w : ℕ) (r : WireRef) → (m w ≡ some r) × Sig c r.signal r.width × (r.lsb < r.width) → ((y : ℕ) → From m (Wire w ∷ []) y → S y) → Fit widest words D c (read_ref r) (λ e c'. Exp c' e 1 S)
+  fit_read : {c : Context} {S : ℕ → Type 0} (w : ℕ) (r : WireRef) → (m w ≡ Some r) × Sig c r.signal r.width × (r.lsb < r.width) → ((y : ℕ) → From m (Wire w ∷ []) y → S y) → Fit widest words D c (read_ref r) (λ e c'. Exp c' e 1 S)
   fit_read w r h f = emit_read (one_wide room) h.1 (omega (arith, h.2)) (f r.signal (record { wire = w; one_of = here refl; ref = r; is = h.0; signal = refl }))
 
 module _ {widest words : ℕ} {D : ℕ → ℕ → Type 0} where
@@ -113,13 +113,13 @@ module _ {widest words : ℕ} {D : ℕ → ℕ → Type 0} where
   fit_concat (e ∷ f ∷ es) h w = emit_concat w refl h
 
 module _ {widest words : ℕ} {D : ℕ → ℕ → Type 0} (room : 36 ≤ widest) (m : Wires) where
-  pub fit_ref : {c : Context} → Ready words c m → (w : ℕ) → Fit widest words D c (wire_ref m w) (λ r c'. (m w ≡ some r) × Sig c' r.signal r.width × (r.lsb < r.width))
+  pub fit_ref : {c : Context} → Ready words c m → (w : ℕ) → Fit widest words D c (wire_ref m w) (λ r c'. (m w ≡ Some r) × Sig c' r.signal r.width × (r.lsb < r.width))
   unfolding wire_ref
   fit_ref {c} ready w = go (m w) refl
     where
-      go : (o : Option WireRef) → m w ≡ o → Fit widest words D c (ref_of o w) (λ r c'. (m w ≡ some r) × Sig c' r.signal r.width × (r.lsb < r.width))
-      go none q = fit_refuse
-      go (some r) q = fit_pure (q, (ready.wired w r q).0, (ready.wired w r q).1)
+      go : (o : Option WireRef) → m w ≡ o → Fit widest words D c (ref_of o w) (λ r c'. (m w ≡ Some r) × Sig c' r.signal r.width × (r.lsb < r.width))
+      go None q = fit_refuse
+      go (Some r) q = fit_pure (q, (ready.wired w r q).0, (ready.wired w r q).1)
 
   pub fit_bit : {c : Context} {S : ℕ → Type 0} → Ready words c m → (b : Bit) → ((y : ℕ) → From m (b ∷ []) y → S y) → Fit widest words D c (bit_expression m b) (λ e c'. Exp c' e 1 S)
   unfolding bit_expression
@@ -152,8 +152,8 @@ module _ {widest words : ℕ} {D : ℕ → ℕ → Type 0} (room : 36 ≤ widest
   fit_once {c} {S} {seen} ready stood (Wire w) f = go (standing seen w) refl
     where
       go : (o : Option ℕ) → standing seen w ≡ o → Fit widest words D c (read_once o m seen w) (λ r c'. Exp c' r.value 1 S × Stood c' m r.seen)
-      go (some e) q = fit_pure (exp_so f (stood.all w e q), stood)
-      go none q =
+      go (Some e) q = fit_pure (exp_so f (stood.all w e q), stood)
+      go None q =
           fit_bind (fit_bit {S = From m (Wire w ∷ [])} ready (Wire w) (λ y h. h)) (λ e c₁ g h.
           fit_pure (exp_so f h, record { all = noted_stand (λ (v d : ℕ). Exp c₁ d 1 (From m (Wire v ∷ []))) seen w e (grow_stood g stood).all h }))
 
@@ -338,7 +338,7 @@ module _ {widest words : ℕ} {D : ℕ → ℕ → Type 0} (room : 36 ≤ widest
   fit_all [] ready s h = fit_pure tt
   fit_all (w ∷ ws) ready s h = fit_bind (fit_assign room m w ready (s w (here refl)) h) (λ x c₁ g u. fit_all ws (grow_ready g ready) (λ v q. s v (there q)) (grow_exp g h))
 
-  pub fit_jtagg : (ws : List ℕ) {c : Context} → Ready words c m → length ws ≡ 9 → ((w : ℕ) → Mem w ws → Suits D words m w 1 None) → Fit widest words D c (emit_idle_jtagg m ws) (λ x c'. Unit {0})
+  pub fit_jtagg : (ws : List ℕ) {c : Context} → Ready words c m → length ws ≡ 9 → ((w : ℕ) → Mem w ws → Suits D words m w 1 NoSignal) → Fit widest words D c (emit_idle_jtagg m ws) (λ x c'. Unit {0})
   unfolding emit_idle_jtagg
   fit_jtagg ws ready l s =
       fit_bind (fit_all (take 6 ws ++ drop 7 ws) ready (λ w q. s w (among w (append_cases (take 6 ws) q))) ready.based.zero_is) (λ x c₁ g u.
@@ -376,7 +376,7 @@ module _ {widest words : ℕ} {D : ℕ → ℕ → Type 0} (room : 36 ≤ widest
   fit_clocks S f o [] ready s h = fit_pure tt
   fit_clocks S f o (w ∷ ws) ready s h = fit_bind (fit_unless (eqb w f || eqb w o) w ready s.0 h) (λ x c₁ g u. fit_clocks S f o ws (grow_ready g ready) s.1 (grow_exp g h))
 
-  pub fit_pll : (p : Pll) {c : Context} → Ready words c m → AllSuit D words m (p.feedback ∷ p.output ∷ p.more) (From m (p.reference ∷ [])) → Suits D words m p.locked 1 None → Fit widest words D c (emit_cycle_pll m p) (λ x c'. Unit {0})
+  pub fit_pll : (p : Pll) {c : Context} → Ready words c m → AllSuit D words m (p.feedback ∷ p.output ∷ p.more) (From m (p.reference ∷ [])) → Suits D words m p.locked 1 NoSignal → Fit widest words D c (emit_cycle_pll m p) (λ x c'. Unit {0})
   unfolding emit_cycle_pll
   fit_pll p ready s l =
       fit_bind (fit_bit room m ready p.reference (λ y q. q)) (λ e c₁ g₁ h.
@@ -391,8 +391,8 @@ module _ {widest words : ℕ} {D : ℕ → ℕ → Type 0} (room : 36 ≤ widest
 -- FLIP-FLOPS
 
 reset_bit_lem : {c : Context} → Based c → (o : Option Reset) → Exp c (reset_bit o) 1 Any
-reset_bit_lem based none = zero_exp based
-reset_bit_lem {c} based (some r) = by_test (λ (e : ℕ). Exp c e 1 Any) (eqb r.value 1) (λ q. one_exp based) (λ q. zero_exp based)
+reset_bit_lem based None = zero_exp based
+reset_bit_lem {c} based (Some r) = by_test (λ (e : ℕ). Exp c e 1 Any) (eqb r.value 1) (λ q. one_exp based) (λ q. zero_exp based)
 
 reset_bits_lem : {c : Context} → Based c → (fs : List Member) {ps : List ℕ} → Parts c Any ps → Parts c Any (reset_bits fs ps)
 unfolding reset_bits
@@ -405,29 +405,29 @@ reset_count [] ps = omega arith
 reset_count (f ∷ fs) ps = omega (arith, reset_count fs (reset_bit f.flop.reset ∷ ps))
 
 grow_reset : {c c' : Context} (w : ℕ) → Grows c c' → (o : Option RegReset) → GoodReset c w o → GoodReset c' w o
-grow_reset w g none h = tt
-grow_reset w g (some r) h = (grow_sig g h.0, h.1, g.exprs r.value w h.2)
+grow_reset w g None h = tt
+grow_reset w g (Some r) h = (grow_sig g h.0, h.1, g.exprs r.value w h.2)
 
 -- the level of an asynchronous reset is 0 or 1
 abbrev pub Levelled : Option Reset → Type 0
-Levelled none = Unit {0}
-Levelled (some r) = r.active ≤ 1
+Levelled None = Unit {0}
+Levelled (Some r) = r.active ≤ 1
 
 module _ {widest words : ℕ} {D : ℕ → ℕ → Type 0} (room : 36 ≤ widest) (m : Wires) where
   fit_enable : (output : ℕ) (o : Option Control) {next : ℕ} {c : Context} → Ready words c m → Exp c next 1 Any → Fit widest words D c (with_enable m output o next) (λ e c'. Exp c' e 1 Any)
-  fit_enable output none ready h = fit_pure h
-  fit_enable output (some k) ready h =
+  fit_enable output None ready h = fit_pure h
+  fit_enable output (Some k) ready h =
       fit_bind (fit_ref room m ready output) (λ r c₁ g₁ x.
       fit_bind (fit_read room m {S = Any} output r x (λ y q. tt)) (λ q c₂ g₂ hq.
       fit_bind (fit_asserted room m (grow_ready g₂ (grow_ready g₁ ready)) k (λ y p. tt)) (λ y c₃ g₃ hy.
       emit_mux (one_wide room) hy (grow_exp g₃ (grow_exp g₂ (grow_exp g₁ h))) (grow_exp g₃ hq))))
 
   fit_reset : (o : Option Reset) {next : ℕ} {c : Context} → Ready words c m → Exp c next 1 Any → Fit widest words D c (with_reset m o next) (λ e c'. Exp c' e 1 Any)
-  fit_reset none ready h = fit_pure h
-  fit_reset (some r) {c = c} ready h =
+  fit_reset None ready h = fit_pure h
+  fit_reset (Some r) {c = c} ready h =
       by_test (λ (w : Writer ℕ). Fit widest words D c w (λ e c'. Exp c' e 1 Any)) (eqb r.asynchronous 1) (λ q. fit_pure h) (λ q.
       fit_bind (fit_asserted room m ready (record { signal = r.signal; active = r.active }) (λ y p. tt)) (λ y c₁ g hy.
-      emit_mux (one_wide room) hy (reset_bit_lem (grow_ready g ready).based (some r)) (grow_exp g h)))
+      emit_mux (one_wide room) hy (reset_bit_lem (grow_ready g ready).based (Some r)) (grow_exp g h)))
 
   fit_next : (f : FlipFlop) {c : Context} → Ready words c m → Fit widest words D c (next_bit m f) (λ e c'. Exp c' e 1 Any)
   unfolding next_bit
@@ -445,8 +445,8 @@ module _ {widest words : ℕ} {D : ℕ → ℕ → Type 0} (room : 36 ≤ widest
 
   fit_bank_reset : (z : Constants) (o : Option Reset) (fs : List Member) {c : Context} → Ready words c m → Sig c z.zero.0 1 → Sig c z.one.0 1 → Wide widest (length fs) → Levelled o
       → Fit widest words D c (bank_reset m z o fs) (λ r c'. GoodReset c' (length fs) r)
-  fit_bank_reset z none fs ready hz ho w l = fit_pure tt
-  fit_bank_reset z (some r) fs {c} ready hz ho w l =
+  fit_bank_reset z None fs ready hz ho w l = fit_pure tt
+  fit_bank_reset z (Some r) fs {c} ready hz ho w l =
       let k : length (reset_bits fs []) ≡ length fs = omega (arith, reset_count fs []) in
       fit_bind (fit_concat (reset_bits fs []) (reset_bits_lem ready.based fs no_part) (omega (arith, k, w.0), omega (arith, k, w.1))) (λ v c₁ g₁ hv.
       fit_bind (fit_signal room m (grow_ready g₁ ready) (grow_sig g₁ hz) (grow_sig g₁ ho) r.signal) (λ s c₂ g₂ hs.

@@ -3,7 +3,7 @@
 use mathlib.Core.Path.{◌≡◌, refl, ap, ◌∙◌, subst}
 use mathlib.Core.Bool.{Bool, true, false}
 use mathlib.Core.List.{List, [], ◌∷◌, ◌++◌}
-use mathlib.Core.Option.{some}
+use Rattle.std.specs.Prelude.{Some}
 use Prim.Native.Nat.{ℕ, suc, ◌≤◌, ◌<◌}
 use native.Mathlib.Omega.{arith}
 use lib.Dec.{eqb}
@@ -21,7 +21,7 @@ use Rattle.wires.specs.Wires.{WireRef, Wires}
 use Rattle.wires.specs.Expressions.{bits_expression}
 use Rattle.lowering.specs.Emit.{emit_cell, emit_cells, emit_banks, emit_outputs}
 use Rattle.lowering.specs.Lower.{emit_constants, emit_netlist}
-use Rattle.forms.specs.Typed.{Context, Sig, Exp, Grows, Wide, Fit, None, Wired}
+use Rattle.forms.specs.Typed.{Context, Sig, Exp, Grows, Wide, Fit, NoSignal, Wired}
 use Rattle.forms.specs.Suits.{CellSuits, BankSuits, PortsSuit}
 use Rattle.forms.proofs.Fits.{grows_trans, grow_exp, exp_so, grow_sig, fit_pure, fit_refuse, fit_new, fit_declare, fit_state, fit_bind}
 use Rattle.forms.proofs.FitCells.{Ready, grow_ready, one_wide, Levelled, stood_nothing, fit_forgetting, fit_vector, fit_multiplier, fit_lut4, fit_pfumx, fit_l6mux21, fit_io, fit_ccu2c, fit_jtagg, fit_pll, fit_bank}
@@ -90,7 +90,7 @@ module _ {widest words : ℕ} {D : ℕ → ℕ → Type 0} (room : 36 ≤ widest
 -- THE CONSTANTS are the first two expressions
 
 module _ {widest words : ℕ} {D : ℕ → ℕ → Type 0} (room : 36 ≤ widest) where
-  fit_constants : (m : Wires) {c : Context} → c.exprs ≡ [] → Wired c m → words ≡ suc (suc (length c.signals)) → ((w : ℕ) (r : WireRef) → m w ≡ some r → r.signal < words) → Fit widest words D c emit_constants (λ z c'. Set words c' m z)
+  fit_constants : (m : Wires) {c : Context} → c.exprs ≡ [] → Wired c m → words ≡ suc (suc (length c.signals)) → ((w : ℕ) (r : WireRef) → m w ≡ Some r → r.signal < words) → Fit widest words D c emit_constants (λ z c'. Set words c' m z)
   unfolding emit_constants
   fit_constants m {c} none_yet h many under =
       let one : Wide widest 1 = one_wide room in
@@ -98,14 +98,14 @@ module _ {widest words : ℕ} {D : ℕ → ℕ → Type 0} (room : 36 ≤ widest
       fit_bind (fit_declare one) (λ o c₂ g₂ ho.
       let count₁ : length c₁.signals ≡ suc (length c.signals) = hz.3 in
       let empty : length c₂.exprs ≡ 0 = ap length (ho.2 ∙ hz.2 ∙ none_yet) in
-      fit_bind (fit_new {x = const 1 0} {S = None} (one, omega arith) (λ y m. absurd (mathlib.Core.List.Memᴰ.not-nil m))) (λ e₀ c₃ g₃ h₀.
-      fit_bind (fit_new {x = const 1 1} {S = None} (one, omega arith) (λ y m. absurd (mathlib.Core.List.Memᴰ.not-nil m))) (λ e₁ c₄ g₄ h₁.
+      fit_bind (fit_new {x = const 1 0} {S = NoSignal} (one, omega arith) (λ y m. absurd (mathlib.Core.List.Memᴰ.not-nil m))) (λ e₀ c₃ g₃ h₀.
+      fit_bind (fit_new {x = const 1 1} {S = NoSignal} (one, omega arith) (λ y m. absurd (mathlib.Core.List.Memᴰ.not-nil m))) (λ e₁ c₄ g₄ h₁.
       let one_under : o < words = omega (arith, many, ho.1, hz.1, count₁) in
       let z₄ = grow_sig g₄ (grow_sig g₃ (grow_sig g₂ hz.0)) in
       let o₄ = grow_sig g₄ (grow_sig g₃ ho.0) in
-      let x₄ : Exp c₄ e₀ 1 None = grow_exp g₄ h₀.exp in
-      let zero₄ : Exp c₄ 0 1 None = subst (λ (e : ℕ). Exp c₄ e 1 None) (let p : e₀ ≡ 0 = omega (arith, h₀.number, empty) in p) x₄ in
-      let one₄ : Exp c₄ 1 1 None = subst (λ (e : ℕ). Exp c₄ e 1 None) (let p : e₁ ≡ 1 = omega (arith, h₁.number, h₀.count, empty) in p) h₁.exp in
+      let x₄ : Exp c₄ e₀ 1 NoSignal = grow_exp g₄ h₀.exp in
+      let zero₄ : Exp c₄ 0 1 NoSignal = subst (λ (e : ℕ). Exp c₄ e 1 NoSignal) (let p : e₀ ≡ 0 = omega (arith, h₀.number, empty) in p) x₄ in
+      let one₄ : Exp c₄ 1 1 NoSignal = subst (λ (e : ℕ). Exp c₄ e 1 NoSignal) (let p : e₁ ≡ 1 = omega (arith, h₁.number, h₀.count, empty) in p) h₁.exp in
       fit_bind (fit_state (1, z₄, exp_so (λ y q. absurd q) x₄, omega (arith, many, hz.1))) (λ u c₅ g₅ v.
       fit_bind (fit_state (1, grow_sig g₅ o₄, exp_so (λ y q. absurd q) (grow_exp g₅ h₁.exp), one_under)) (λ u c₆ g₆ v.
       let g = grows_trans g₁ (grows_trans g₂ (grows_trans g₃ (grows_trans g₄ (grows_trans g₅ g₆)))) in
@@ -127,7 +127,7 @@ pub record Suited (widest : ℕ) (D : ℕ → ℕ → Type 0) (words : ℕ) (lim
   pub none_yet : c.exprs ≡ []
   pub wired : Wired c m
   pub many : words ≡ suc (suc (length c.signals))
-  pub under : (w : ℕ) (r : WireRef) → m w ≡ some r → r.signal < words
+  pub under : (w : ℕ) (r : WireRef) → m w ≡ Some r → r.signal < words
   pub cells : Each (FitsCell limits) n.cells
   pub cells_suit : Each (CellSuits D words m) n.cells
   pub banks : Each (FitsBank widest) (collect_flip_flop_banks n.cells)

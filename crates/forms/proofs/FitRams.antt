@@ -4,7 +4,7 @@ use mathlib.Core.Path.{◌≡◌, refl, subst}
 use mathlib.Core.Logic.{◌⊎◌, inl, inr}
 use mathlib.Core.Bool.{Bool, true, false, false≢true}
 use mathlib.Core.List.{List, [], ◌∷◌, ◌++◌}
-use mathlib.Core.Option.{Option, none, some}
+use Rattle.std.specs.Prelude.{Option, None, Some}
 use Prim.Native.Nat.{ℕ, zero, suc, ◌+◌, ◌^◌, ◌≤◌, ◌<◌}
 use native.Mathlib.Omega.{arith}
 use lib.Dec.{leb}
@@ -60,8 +60,8 @@ addressed limits r f = record {
 }
   where
     go : (o : Option ℕ) → shift_fits r.depth o ≡ true → shift_in o + address_width r.depth ≤ 14
-    go none q = absurd (false≢true q)
-    go (some s) q = leb-true (s + address_width r.depth) 14 q
+    go None q = absurd (false≢true q)
+    go (Some s) q = leb-true (s + address_width r.depth) 14 q
 
 -- THE TREE
 
@@ -100,8 +100,8 @@ module _ {widest words : ℕ} {D : ℕ → ℕ → Type 0} (width : ℕ) (wide :
 
 -- a clock enable asserted, where it is there
 data FitEnabled (c : Context) : Option ℕ → Type 0 where
-  no_enable : FitEnabled c none
-  enable : {e : ℕ} → Exp c e 1 Any → FitEnabled c (some e)
+  no_enable : FitEnabled c None
+  enable : {e : ℕ} → Exp c e 1 Any → FitEnabled c (Some e)
 
 grow_enabled : {c c' : Context} {o : Option ℕ} → Grows c c' → FitEnabled c o → FitEnabled c' o
 grow_enabled g no_enable = no_enable
@@ -109,8 +109,8 @@ grow_enabled g (enable h) = enable (grow_exp g h)
 
 -- a register's own read, where it stands
 data FitOwn (c : Context) (width : ℕ) : Option ℕ → Type 0 where
-  no_own : FitOwn c width none
-  stands : {e : ℕ} → Exp c e width Any → FitOwn c width (some e)
+  no_own : FitOwn c width None
+  stands : {e : ℕ} → Exp c e width Any → FitOwn c width (Some e)
 
 grow_own : {c c' : Context} {width : ℕ} {o : Option ℕ} → Grows c c' → FitOwn c width o → FitOwn c' width o
 grow_own g no_own = no_own
@@ -123,8 +123,8 @@ fit_own_read width (w ∷ v ∷ ws) stood h = no_own
 fit_own_read {c} {m} {seen} width (w ∷ []) stood h = go (standing seen w) refl
   where
     go : (o : Option ℕ) → standing seen w ≡ o → FitOwn c width o
-    go none q = no_own
-    go (some e) q = stands (subst (λ (k : ℕ). Exp c e k Any) (let p : 1 ≡ width = omega (arith, h refl) in p) (exp_so (λ y x. tt) (stood.all w e q)))
+    go None q = no_own
+    go (Some e) q = stands (subst (λ (k : ℕ). Exp c e k Any) (let p : 1 ≡ width = omega (arith, h refl) in p) (exp_so (λ y x. tt) (stood.all w e q)))
 
 record FitPort (c : Context) (width aw : ℕ) (p : PortExprs) : Type 0 where
   write_address_lem : Exp c p.write_address aw Any
@@ -137,8 +137,8 @@ grow_port : {c c' : Context} {width aw : ℕ} {p : PortExprs} → Grows c c' →
 grow_port g h = record { write_address_lem = grow_exp g h.write_address_lem; write_data_lem = grow_exp g h.write_data_lem; write_asserted_lem = grow_exp g h.write_asserted_lem; read_address_lem = grow_exp g h.read_address_lem; clock_enabled_lem = grow_enabled g h.clock_enabled_lem }
 
 data FitSecond (c : Context) (width aw : ℕ) : Option PortExprs → Type 0 where
-  no_second : FitSecond c width aw none
-  second : {p : PortExprs} → FitPort c width aw p → FitSecond c width aw (some p)
+  no_second : FitSecond c width aw None
+  second : {p : PortExprs} → FitPort c width aw p → FitSecond c width aw (Some p)
 
 grow_second : {c c' : Context} {width aw : ℕ} {o : Option PortExprs} → Grows c c' → FitSecond c width aw o → FitSecond c' width aw o
 grow_second g no_second = no_second
@@ -178,8 +178,8 @@ module _ {widest words : ℕ} {D : ℕ → ℕ → Type 0} (room : 36 ≤ widest
       emit_mux wide hy (grow_exp g₃ (grow_exp g₂ (grow_exp g₁ hp.write_data_lem))) (grow_exp g₃ (grow_exp g₂ (grow_exp g₁ h))))))
 
   fit_second : (o : Option PortExprs) (index : ℕ) {now : ℕ} {c : Context} → FitSecond c width aw o → index < 2 ^ aw → Exp c now width Any → Fit widest words D c (write_second o width aw index now) (λ e c'. Exp c' e width Any)
-  fit_second none index hp hi h = fit_pure h
-  fit_second (some p) index (second hp) hi h = fit_write p index hp hi h
+  fit_second None index hp hi h = fit_pure h
+  fit_second (Some p) index (second hp) hi h = fit_write p index hp hi h
 
   fit_word : (a : PortExprs) (b : Option PortExprs) (owner index : ℕ) {c : Context} → words ≤ length c.signals → FitPort c width aw a → FitSecond c width aw b → index < 2 ^ aw
       → Fit widest words D c (ram_word a b owner width aw index) (λ w c'. FitWord c' words width w)
@@ -217,30 +217,30 @@ module _ {widest words : ℕ} {D : ℕ → ℕ → Type 0} (room : 36 ≤ widest
 
 -- a second port's own read
 second_one_bit : (limits : Limits) (width : ℕ) (o : Option SecondPort) → FitsOption (FitsSecond limits width) o → length (second_output o) ≡ 1 → width ≡ 1
-second_one_bit limits width none h q = absurd (omega (arith, q))
-second_one_bit limits width (some p) h q = omega (arith, q, h.output.0)
+second_one_bit limits width None h q = absurd (omega (arith, q))
+second_one_bit limits width (Some p) h q = omega (arith, q, h.output.0)
 
 abbrev pub LevelledControl : Option Control → Type 0
-LevelledControl none = Unit {0}
-LevelledControl (some k) = k.active ≤ 1
+LevelledControl None = Unit {0}
+LevelledControl (Some k) = k.active ≤ 1
 
 -- the second port: its expressions, its level and its wires
 abbrev SecondIs : Wires → ℕ → Option PortExprs → Type 0
-SecondIs m width none = Unit {0}
-SecondIs m width (some p) = LevelledControl p.read_enable × WideAs m (get_or p.read_data 0 0) width
+SecondIs m width None = Unit {0}
+SecondIs m width (Some p) = LevelledControl p.read_enable × WideAs m (get_or p.read_data 0 0) width
 
 control_level : (limits : Limits) (o : Option Control) → FitsOption (FitsControl limits) o → LevelledControl o
-control_level limits none h = tt
-control_level limits (some k) h = omega (arith, h.active)
+control_level limits None h = tt
+control_level limits (Some k) h = omega (arith, h.active)
 
 grow_reg_enable : {c c' : Context} → Grows c c' → (e : Option RegEnable) → GoodEnable c e → GoodEnable c' e
-grow_reg_enable g none h = tt
-grow_reg_enable g (some e) h = (grow_sig g h.0, h.1)
+grow_reg_enable g None h = tt
+grow_reg_enable g (Some e) h = (grow_sig g h.0, h.1)
 
 module _ {widest words : ℕ} {D : ℕ → ℕ → Type 0} (room : 36 ≤ widest) (m : Wires) (z : Constants) where
   fit_enable : (o : Option Control) {c : Context} → Ready words c m → Sig c z.zero.0 1 → Sig c z.one.0 1 → LevelledControl o → Fit widest words D c (enable_of m z o) (λ e c'. GoodEnable c' e)
-  fit_enable none ready hz ho l = fit_pure tt
-  fit_enable (some k) ready hz ho l = fit_bind (fit_signal room m ready hz ho k.signal) (λ s c₁ g h. fit_pure (h, l))
+  fit_enable None ready hz ho l = fit_pure tt
+  fit_enable (Some k) ready hz ho l = fit_bind (fit_signal room m ready hz ho k.signal) (λ s c₁ g h. fit_pure (h, l))
 
   fit_own : (width : ℕ) {o : Option ℕ} {target : ℕ} {c : Context} → Wide widest width → FitOwn c width o → Sig c target width → Fit widest words D c (own_expression o width target) (λ e c'. Exp c' e width Any)
   fit_own width wide no_own hs = emit_read wide hs (omega arith) tt
@@ -267,21 +267,21 @@ module _ {widest words : ℕ} {D : ℕ → ℕ → Type 0} (room : 36 ≤ widest
 
   fit_second_port : (o : Option PortExprs) (k : Option ℕ) (ws : List Word) (width aw clock edge : ℕ) {c : Context} → FitOwn c width k → Wide widest width → Wide widest aw → Ready words c m → Sig c z.zero.0 1 → Sig c z.one.0 1 → FitSecond c width aw o
       → length ws ≤ 2 ^ aw → FitWords c words width ws → Sig c clock 1 → edge ≤ 1 → SecondIs m width o → Fit widest words D c (emit_second_read_port m z o k ws width aw clock edge) (λ x c'. Unit {0})
-  fit_second_port none k ws width aw clock edge own wide aww ready hz ho hp hl hw hk he hs = fit_pure tt
-  fit_second_port (some p) k ws width aw clock edge own wide aww ready hz ho (second hp) hl hw hk he hs = fit_read_port p k ws width aw clock edge own wide aww ready hz ho hp hl hw hk he hs.0 hs.1
+  fit_second_port None k ws width aw clock edge own wide aww ready hz ho hp hl hw hk he hs = fit_pure tt
+  fit_second_port (Some p) k ws width aw clock edge own wide aww ready hz ho (second hp) hl hw hk he hs = fit_read_port p k ws width aw clock edge own wide aww ready hz ho hp hl hw hk he hs.0 hs.1
 
   fit_gate : {c : Context} {seen : Seen} → Ready words c m → Stood c m seen → (write : Control) (o : Option Control) → Fit widest words D c (gate m seen write o) (λ r c'. (Exp c' r.value.write_asserted 1 Any × FitEnabled c' r.value.clock_enabled) × Stood c' m r.seen)
   unfolding gate
-  fit_gate ready stood write none = fit_bind (fit_asserted_once room m {S = Any} ready stood write (λ y q. tt)) (λ y c₁ g₁ hy. fit_pure ((hy.0, no_enable), hy.1))
-  fit_gate ready stood write (some k) =
+  fit_gate ready stood write None = fit_bind (fit_asserted_once room m {S = Any} ready stood write (λ y q. tt)) (λ y c₁ g₁ hy. fit_pure ((hy.0, no_enable), hy.1))
+  fit_gate ready stood write (Some k) =
       fit_bind (fit_asserted_once room m {S = Any} ready stood write (λ y q. tt)) (λ y c₁ g₁ hy.
       fit_bind (fit_asserted_once room m {S = Any} (grow_ready g₁ ready) hy.1 k (λ y q. tt)) (λ e c₂ g₂ he.
       fit_bind (emit_and (grow_exp g₂ hy.0) he.0) (λ g c₃ g₃ hg. fit_pure ((hg, enable (grow_exp g₃ he.0)), grow_stood g₃ he.1))))
 
   fit_second_exprs : (limits : Limits) (shift aw width : ℕ) (o : Option SecondPort) {c : Context} {seen : Seen} → Ready words c m → Stood c m seen → Wide widest aw → Wide widest width → FitsOption (FitsSecond limits width) o → SecondSuits D words m width o
       → Fit widest words D c (second_exprs m seen shift aw o) (λ r c'. (FitSecond c' width aw r.value × SecondIs m width r.value) × Stood c' m r.seen)
-  fit_second_exprs limits shift aw width none ready stood aww wide sh su = fit_pure ((no_second, tt), stood)
-  fit_second_exprs limits shift aw width (some p) ready stood aww wide sh su =
+  fit_second_exprs limits shift aw width None ready stood aww wide sh su = fit_pure ((no_second, tt), stood)
+  fit_second_exprs limits shift aw width (Some p) ready stood aww wide sh su =
       let k : length p.input ≡ width = sh.input.0 in
       fit_bind (fit_vector_once room m {S = Any} p.address shift aw ready stood aww (λ y q. tt)) (λ a c₁ g₁ ha.
       let r₁ = grow_ready g₁ ready in
@@ -348,7 +348,7 @@ module _ {widest words : ℕ} {D : ℕ → ℕ → Type 0} (room : 36 ≤ widest
   unfolding dram_words
   fit_dram_words p owner clock edge zero index ws many hp hk he hi h = fit_pure (h, omega arith)
   fit_dram_words p owner clock edge (suc left) index ws many hp hk he hi h =
-      fit_bind (fit_word room 4 4 (four_wide room) (four_wide room) p none owner index many hp no_second (omega (arith, hi))) (λ w c₁ g₁ hw.
+      fit_bind (fit_word room 4 4 (four_wide room) (four_wide room) p None owner index many hp no_second (omega (arith, hi))) (λ w c₁ g₁ hw.
       fit_bind (fit_state (4, hw.signal, hw.next.typed, grow_sig g₁ hk, he, tt, tt)) (λ x c₂ g₂ u.
       fit_so (fit_dram_words p owner clock edge left (suc index) (ws ++ (w ∷ [])) (omega (arith, many, g₁.many, g₂.many)) (grow_port g₂ (grow_port g₁ hp)) (grow_sig g₂ (grow_sig g₁ hk)) he (omega (arith, hi)) (words_snoc (grow_words g₂ (grow_words g₁ h)) (grow_word g₂ hw)))
       (λ vs c₃ g₃ r. (r.0, omega (arith, r.1, length-append ws (w ∷ []))))))
@@ -379,7 +379,7 @@ module _ {widest words : ℕ} {D : ℕ → ℕ → Type 0} (room : 36 ≤ widest
       fit_bind (fit_signal room m r₄ (grow_sig g₄ (grow_sig g₃ (grow_sig g₂ (grow_sig g₁ hz)))) (grow_sig g₄ (grow_sig g₃ (grow_sig g₂ (grow_sig g₁ ho)))) r.clock) (λ clock c₅ g₅ hk.
       let r₅ = grow_ready g₅ r₄ in
       let ra₅ = grow_exp g₅ (grow_exp g₄ (grow_exp g₃ hra.0)) in
-      let p : PortExprs = record { write_address = wa.value; write_data = d.value; write_asserted = y.value; read_address = ra.value; read_data = r.output; read_enable = none; clock_enabled = none } in
+      let p : PortExprs = record { write_address = wa.value; write_data = d.value; write_asserted = y.value; read_address = ra.value; read_data = r.output; read_enable = None; clock_enabled = None } in
       let hp : FitPort c₅ 4 4 p = record { write_address_lem = grow_exp g₅ (grow_exp g₄ (grow_exp g₃ (grow_exp g₂ hwa.0))); write_data_lem = grow_exp g₅ (grow_exp g₄ hd.0); write_asserted_lem = grow_exp g₅ hy.0; read_address_lem = any ra₅; clock_enabled_lem = no_enable } in
       fit_bind (fit_dram_words p owner clock r.edge 16 0 [] r₅.many hp hk edge (omega arith) no_word) (λ ws c₆ g₆ hw.
       fit_bind (emit_const {S = λ y. From m r.read_address y ⊎ (words ≤ y)} four (pow_pos 4)) (λ e c₇ g₇ he.

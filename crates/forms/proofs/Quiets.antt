@@ -2,7 +2,7 @@
 -- Assumes nothing.
 use mathlib.Core.Path.{◌≡◌, refl, ap₂, ◌∙◌}
 use mathlib.Core.List.{List, [], ◌∷◌, ◌++◌}
-use mathlib.Core.Option.{Option, none, some}
+use Rattle.std.specs.Prelude.{Option, None, Some}
 use Prim.Native.Nat.{ℕ, zero, suc, ◌+◌}
 use lib.Dec.{eqb}
 use lib.ListN.{length, get_or}
@@ -91,8 +91,8 @@ module _ (m : Wires) where
   quiet_once seen (Wire w) = go (standing seen w)
     where
       go : (o : Option ℕ) → Quiet (read_once o m seen w)
-      go none = quiet_bind (quiet_bit (Wire w)) (λ e. quiet_pure)
-      go (some e) = quiet_pure
+      go None = quiet_bind (quiet_bit (Wire w)) (λ e. quiet_pure)
+      go (Some e) = quiet_pure
 
   pub quiet_asserted_once : (seen : Seen) (c : Control) → Quiet (asserted_once m seen c)
   unfolding asserted_once
@@ -137,8 +137,8 @@ quiet_levels fuel width ns e = quiet_plain (plain_levels fuel width ns e)
 
 pub quiet_gate : (m : Wires) (seen : Seen) (write : Control) (o : Option Control) → Quiet (gate m seen write o)
 unfolding gate
-quiet_gate m seen write none = quiet_bind (quiet_asserted_once m seen write) (λ y. quiet_pure)
-quiet_gate m seen write (some enable) = quiet_bind (quiet_asserted_once m seen write) (λ y. quiet_bind (quiet_asserted_once m y.seen enable) (λ c. quiet_bind quiet_emit (λ g. quiet_pure)))
+quiet_gate m seen write None = quiet_bind (quiet_asserted_once m seen write) (λ y. quiet_pure)
+quiet_gate m seen write (Some enable) = quiet_bind (quiet_asserted_once m seen write) (λ y. quiet_bind (quiet_asserted_once m y.seen enable) (λ c. quiet_bind quiet_emit (λ g. quiet_pure)))
 
 pub quiet_write : (p : PortExprs) (width aw index now : ℕ) → Quiet (write_word p width aw index now)
 quiet_write p width aw index now = quiet_plain (plain_write p width aw index now)
@@ -153,16 +153,16 @@ pub quiet_enable : (m : Wires) (z : Constants) (o : Option Control) → Quiet (e
 quiet_enable m z o = quiet_plain (plain_enable m z o)
 
 quiet_own : (o : Option ℕ) (width target : ℕ) → Quiet (own_expression o width target)
-quiet_own none width target = quiet_emit
-quiet_own (some e) width target = quiet_pure
+quiet_own None width target = quiet_emit
+quiet_own (Some e) width target = quiet_pure
 
 pub quiet_next_read : (o own : Option ℕ) (width target word : ℕ) → Quiet (next_read o own width target word)
-quiet_next_read none own width target word = quiet_pure
-quiet_next_read (some c) own width target word = quiet_bind (quiet_own own width target) (λ e. quiet_emit)
+quiet_next_read None own width target word = quiet_pure
+quiet_next_read (Some c) own width target word = quiet_bind (quiet_own own width target) (λ e. quiet_emit)
 
 pub quiet_exprs : (m : Wires) (seen : Seen) (shift aw : ℕ) (o : Option SecondPort) → Quiet (second_exprs m seen shift aw o)
-quiet_exprs m seen shift aw none = quiet_pure
-quiet_exprs m seen shift aw (some p) = quiet_bind (quiet_vector_once m seen p.address shift aw) (λ a. quiet_bind (quiet_vector_once m a.seen p.input 0 (length p.input)) (λ d. quiet_bind (quiet_gate m d.seen p.write p.clock_enable) (λ g. quiet_pure)))
+quiet_exprs m seen shift aw None = quiet_pure
+quiet_exprs m seen shift aw (Some p) = quiet_bind (quiet_vector_once m seen p.address shift aw) (λ a. quiet_bind (quiet_vector_once m a.seen p.input 0 (length p.input)) (λ d. quiet_bind (quiet_gate m d.seen p.write p.clock_enable) (λ g. quiet_pure)))
 
 pub quiet_select : (address index : ℕ) (ws : List Word) (now : ℕ) → Quiet (dram_select address index ws now)
 quiet_select address index ws now = quiet_plain (plain_select address index ws now)
@@ -175,12 +175,12 @@ module _ (m : Wires) where
   quiet_next f = quiet_bind (quiet_bit m f.input) (λ d. quiet_bind (enable f.enable d) (λ e. reset f.reset e))
     where
       enable : (o : Option Control) (d : ℕ) → Quiet (with_enable m f.output o d)
-      enable none d = quiet_pure
-      enable (some c) d = quiet_bind (quiet_ref m f.output) (λ r. quiet_bind quiet_emit (λ q. quiet_bind (quiet_asserted m c) (λ y. quiet_emit)))
+      enable None d = quiet_pure
+      enable (Some c) d = quiet_bind (quiet_ref m f.output) (λ r. quiet_bind quiet_emit (λ q. quiet_bind (quiet_asserted m c) (λ y. quiet_emit)))
 
       reset : (o : Option Reset) (d : ℕ) → Quiet (with_reset m o d)
-      reset none d = quiet_pure
-      reset (some r) d = by_test (λ (x : Writer ℕ). Quiet x) (eqb r.asynchronous 1) (λ q. quiet_pure) (λ q. quiet_bind (quiet_asserted m (record { signal = r.signal; active = r.active })) (λ y. quiet_emit))
+      reset None d = quiet_pure
+      reset (Some r) d = by_test (λ (x : Writer ℕ). Quiet x) (eqb r.asynchronous 1) (λ q. quiet_pure) (λ q. quiet_bind (quiet_asserted m (record { signal = r.signal; active = r.active })) (λ y. quiet_emit))
 
   pub quiet_nexts : (fs : List Member) (ps : List ℕ) → Quiet (next_bits m fs ps)
   unfolding next_bits
@@ -188,5 +188,5 @@ module _ (m : Wires) where
   quiet_nexts (f ∷ fs) ps = quiet_bind (quiet_next f.flop) (λ e. quiet_nexts fs (e ∷ ps))
 
   pub quiet_bank_reset : (z : Constants) (o : Option Reset) (fs : List Member) → Quiet (bank_reset m z o fs)
-  quiet_bank_reset z none fs = quiet_pure
-  quiet_bank_reset z (some r) fs = quiet_bind (quiet_concat m (reset_bits fs [])) (λ v. quiet_bind (quiet_signal m z r.signal) (λ s. quiet_pure))
+  quiet_bank_reset z None fs = quiet_pure
+  quiet_bank_reset z (Some r) fs = quiet_bind (quiet_concat m (reset_bits fs [])) (λ v. quiet_bind (quiet_signal m z r.signal) (λ s. quiet_pure))

@@ -11,7 +11,7 @@ use mathlib.Core.List.Memᴰ.{head as here}
 use mathlib.Core.List.Memᴰ.{not-nil}
 use mathlib.Core.List.Memᴰ.{tail as there}
 use mathlib.Core.List.{List, [], ◌∷◌, ◌++◌, map, append-nil, Memᴰ as Mem}
-use mathlib.Core.Option.{Option, none, some}
+use Rattle.std.specs.Prelude.{Option, None, Some}
 use Prim.Native.Nat.{ℕ, zero, suc, ◌+◌, ◌-◌, ◌≤◌, ◌<◌}
 use native.Mathlib.Nat.{not-suc-le-zero}
 use native.Mathlib.Omega.{arith}
@@ -42,8 +42,8 @@ single_groups c [] k = refl
 single_groups c (w ∷ ws) k = ap (λ (l : List Slot). record { source = pins c k; bits = Wire w ∷ [] } ∷ l) (single_groups c ws (suc k))
 
 second_groups : (c k : ℕ) (o : Option SecondPort) → second_slot c k o ≡ map (slot_of c) (second_group k o)
-second_groups c k none = refl
-second_groups c k (some p) = refl
+second_groups c k None = refl
+second_groups c k (Some p) = refl
 
 -- a cell that is no PLL adds its groups' slots
 plain_adds : (c : ℕ) (x : Cell) (held : List Slot) → is_pll x ≡ false → reserve c x held ≡ held ++ map (slot_of c) (groups x)

@@ -7,7 +7,7 @@ use mathlib.Core.List.Memᴰ.{cases_cons}
 use mathlib.Core.List.Memᴰ.{head as here}
 use mathlib.Core.List.Memᴰ.{not-nil}
 use mathlib.Core.List.{List, [], ◌∷◌, ◌++◌, map, append-nil, append_assoc, Memᴰ as Mem}
-use mathlib.Core.Option.{Option, none, some}
+use Rattle.std.specs.Prelude.{Option, None, Some}
 use Prim.Native.Nat.{ℕ, zero, suc, ◌+◌, ◌^◌, ◌≤◌, ◌<◌}
 use native.Mathlib.Nat.{not-suc-le-zero}
 use native.Mathlib.Omega.{arith}
@@ -125,12 +125,12 @@ module _ (widest words : ℕ) (D : ℕ → ℕ → Type 0) (F : Context) where
         both (lt-ltb t (length sw) x.there) (both (lt-ltb e (length ew) y.there) (eq-eqb (get_or ew e 0) (get_or sw t 0) (y.width ∙ sym x.width)))
 
     reset_fits_lem : (t w : ℕ) (r : Option RegReset) → Sig c t w → GoodReset c w r → reset_fits sw ew t r ≡ true
-    reset_fits_lem t w none ht h = refl
-    reset_fits_lem t w (some r) ht h = both (both (is_broad h.0) (le-leb r.active 1 h.1)) (is_suited ht h.2)
+    reset_fits_lem t w None ht h = refl
+    reset_fits_lem t w (Some r) ht h = both (both (is_broad h.0) (le-leb r.active 1 h.1)) (is_suited ht h.2)
 
     enable_fits_lem : (e : Option RegEnable) → GoodEnable c e → enable_fits sw e ≡ true
-    enable_fits_lem none h = refl
-    enable_fits_lem (some e) h = both (is_broad h.0) (le-leb e.active 1 h.1)
+    enable_fits_lem None h = refl
+    enable_fits_lem (Some e) h = both (is_broad h.0) (le-leb e.active 1 h.1)
 
     stmt_fits_lem : (t : Stmt) → GoodStmt widest words D c t → stmt_fits sw ew t ≡ true
     stmt_fits_lem (assign t e) h = is_suited h.1 h.2.typed
@@ -191,8 +191,8 @@ group_few limits (flip_flop f') g f h = absurd (not-nil h)
 group_few limits (block_ram r) g f h = go (cases_cons h)
   where
     second : (o : Option SecondPort) → FitsOption (FitsSecond limits r.width) o → Mem g (second_group r.width o) → length g.wires ≤ 36
-    second none k q = absurd (not-nil q)
-    second (some p) k q = omega (arith, ap (λ (y : Group). length y.wires) (only_one q), k.output.0, f.width.1)
+    second None k q = absurd (not-nil q)
+    second (Some p) k q = omega (arith, ap (λ (y : Group). length y.wires) (only_one q), k.output.0, f.width.1)
 
     go : (g ≡ record { pin = 0; wires = r.output }) ⊎ Mem g (second_group r.width r.second) → length g.wires ≤ 36
     go (inl e) = omega (arith, ap (λ (y : Group). length y.wires) e, f.output.0, f.width.1)
@@ -351,13 +351,13 @@ module _ {shared : ℕ} {limits : Limits} {n : Netlist} (a : Lowered shared limi
   leader_level : (f : FlipFlop) → FitsOption (FitsReset limits) f.reset → Levelled (async_reset f)
   leader_level f h = go f.reset h
     where
-      two : (b : Bool) (q : Reset) → q.active ≤ 1 → Levelled (pick b (some q) none)
+      two : (b : Bool) (q : Reset) → q.active ≤ 1 → Levelled (pick b (Some q) None)
       two true q l = l
       two false q l = tt
 
       go : (o : Option Reset) → FitsOption (FitsReset limits) o → Levelled (filter_async o)
-      go none k = tt
-      go (some q) k = two (eqb q.asynchronous 1) q (omega (arith, k.active))
+      go None k = tt
+      go (Some q) k = two (eqb q.asynchronous 1) q (omega (arith, k.active))
 
   leader_in : (b : Bank) → Begins b.leader b.members → Mem b.leader b.members
   leader_in b f = subst (λ (l : List Member). Mem b.leader l) (sym f.1) (here refl)

@@ -8,7 +8,7 @@ use mathlib.Core.List.Memᴰ.{head as here}
 use mathlib.Core.List.Memᴰ.{not-nil}
 use mathlib.Core.List.Memᴰ.{tail as there}
 use mathlib.Core.List.{List, [], ◌∷◌, ◌++◌, map, Memᴰ as Mem}
-use mathlib.Core.Option.{Option, none, some}
+use Rattle.std.specs.Prelude.{Option, None, Some}
 use Prim.Native.Nat.{ℕ, zero, suc, ◌+◌, ◌-◌, ◌≤◌, ◌<◌}
 use native.Mathlib.Nat.{not-suc-le-zero}
 use native.Mathlib.Omega.{arith}
@@ -27,7 +27,7 @@ use Rattle.behaviour.specs.Behaviour.{Driver, pin, driver, driver_in, bit_source
 use Rattle.wires.specs.Wires.{Wires, WireRef as Ref}
 use Rattle.meaning.specs.Mapped.{no_slot}
 use Rattle.forms.specs.Groups.{Group, apiece, second_group, groups, slot_of, is_pll}
-use Rattle.forms.specs.Typed.{None}
+use Rattle.forms.specs.Typed.{NoSignal}
 use Rattle.forms.specs.Suits.{From, WideAs, Suits, AllSuit, SecondSuits, CellSuits, BankSuits, PortSuits, PortsSuit}
 use Rattle.forms.specs.Lowered.{Lowered}
 use Rattle.forms.specs.Dependent.{first_word, MayRead, a_word, a_wire}
@@ -45,16 +45,16 @@ module _ {shared : ℕ} {limits : Limits} {n : Netlist} (a : Lowered shared limi
   abbrev words : ℕ
   words = first_word n
 
-  pub at_wire : (v : ℕ) (q : Ref) → m v ≡ some q → Located n v q
+  pub at_wire : (v : ℕ) (q : Ref) → m v ≡ Some q → Located n v q
   at_wire v q e = located n m (slot_signals a) (mapping a) v q e
 
   -- a wire in a group's slot is driven by that cell
-  pub driven_by : (c : ℕ) (g : Group) (v : ℕ) (q : Ref) → m v ≡ some q → get_or (slots n) q.signal no_slot ≡ slot_of c g → driver (slots n) v ≡ pin c (g.pin + q.lsb)
+  pub driven_by : (c : ℕ) (g : Group) (v : ℕ) (q : Ref) → m v ≡ Some q → get_or (slots n) q.signal no_slot ≡ slot_of c g → driver (slots n) v ≡ pin c (g.pin + q.lsb)
   driven_by c g v q e s = ap driver_in (at_wire v q e).found ∙ ap (λ (x : Slot). bit_source x.source q.lsb) s
 
   -- so it depends on what the cell reads
   depends_by : (c : ℕ) (g : Group) (t : ℕ) (bits : List Bit) → get_or (slots n) t no_slot ≡ slot_of c g → ((k : ℕ) → depends (get_or n.cells c absent) (g.pin + k) ≡ bits) → (b : ℕ) → Mem b (wires_of bits)
-      → (v : ℕ) (q : Ref) → m v ≡ some q → q.signal ≡ t → Depends n v b
+      → (v : ℕ) (q : Ref) → m v ≡ Some q → q.signal ≡ t → Depends n v b
   depends_by c g t bits s f b h v q e z =
       subst (λ (d : Driver). Mem b (driver_reads n.cells d)) (sym (driven_by c g v q e (ap (λ (i : ℕ). get_or (slots n) i no_slot) z ∙ s)))
       (subst (λ (l : List Bit). Mem b (wires_of l)) (sym (f q.lsb)) h)
@@ -75,29 +75,29 @@ module _ {shared : ℕ} {limits : Limits} {n : Netlist} (a : Lowered shared limi
       at : Placed (slots n) (slot_of c g)
       at = group_slot n c g inside plain one_of
 
-      there_is : m (get_or g.wires 0 0) ≡ some (record { signal = at.number; lsb = 0; width = length g.wires })
+      there_is : m (get_or g.wires 0 0) ≡ Some (record { signal = at.number; lsb = 0; width = length g.wires })
       there_is = wire_at a (pins c g.pin) g.wires at 0 (group_some limits x g fits one_of)
 
       group_wide : WideAs m (get_or g.wires 0 0) (length g.wires)
       group_wide r e =
-          let y : some r ≡ some (record { signal = at.number; lsb = 0; width = length g.wires }) = sym e ∙ there_is in
+          let y : Some r ≡ Some (record { signal = at.number; lsb = 0; width = length g.wires }) = sym e ∙ there_is in
           let z : r ≡ record { signal = at.number; lsb = 0; width = length g.wires } = cc in
           ap (λ (q : Ref). q.width) z
 
       group_suits : {S : ℕ → Type 0} (bits : List Bit) → ((k : ℕ) → depends x (g.pin + k) ≡ bits) → ((y : ℕ) → S y → From m bits y ⊎ (words ≤ y)) → Suits D words m (get_or g.wires 0 0) (length g.wires) S
       group_suits {S} bits f h = record { width = group_wide; may = λ r e y q. go r e y (h y q) }
         where
-          go : (r : Ref) → m (get_or g.wires 0 0) ≡ some r → (y : ℕ) → From m bits y ⊎ (words ≤ y) → D r.signal y
+          go : (r : Ref) → m (get_or g.wires 0 0) ≡ Some r → (y : ℕ) → From m bits y ⊎ (words ≤ y) → D r.signal y
           go r e y (inr l) = a_word l
           go r e y (inl q) =
-              let u : some r ≡ some (record { signal = at.number; lsb = 0; width = length g.wires }) = sym e ∙ there_is in
+              let u : Some r ≡ Some (record { signal = at.number; lsb = 0; width = length g.wires }) = sym e ∙ there_is in
               let z : r ≡ record { signal = at.number; lsb = 0; width = length g.wires } = cc in
               may c g bits r.signal (ap (λ (w : Ref). get_or (slots n) w.signal no_slot) z ∙ at.is) f y q
 
   -- A PLL
 
   module _ (c : ℕ) (inside : c < length n.cells) (p : Pll) (is : get_or n.cells c absent ≡ pll p) where
-    own_slot : (w : ℕ) → Mem w (pll_wires p) → (r : Ref) → m w ≡ some r → OwnSlot n c p r.signal
+    own_slot : (w : ℕ) → Mem w (pll_wires p) → (r : Ref) → m w ≡ Some r → OwnSlot n c p r.signal
     own_slot w h r e = pll_own a c p inside is w h r e
 
     pll_wide : (w : ℕ) → Mem w (pll_wires p) → WideAs m w 1
@@ -106,7 +106,7 @@ module _ {shared : ℕ} {limits : Limits} {n : Netlist} (a : Lowered shared limi
         let q = apiece_wire (pll_wires p) 0 o.group o.one_of in
         (at_wire w r e).width ∙ ap (λ (s : Slot). length s.bits) o.slot ∙ ap (λ (l : List ℕ). length (map Wire l)) q.2
 
-    nothing_suits : (w : ℕ) → Mem w (pll_wires p) → Suits D words m w 1 None
+    nothing_suits : (w : ℕ) → Mem w (pll_wires p) → Suits D words m w 1 NoSignal
     nothing_suits w h = record { width = pll_wide w h; may = λ r e y q. absurd q }
 
     -- the group of pin 2 is the locked wire
@@ -138,7 +138,7 @@ module _ {shared : ℕ} {limits : Limits} {n : Netlist} (a : Lowered shared limi
     wire_inside v w h = let q : Wire v ≡ Wire w = h in cc
 
     -- a clock's slot is not that of pin 2
-    clock_pin : (w : ℕ) (h : Mem w (p.feedback ∷ p.output ∷ p.more)) (r : Ref) (e : m w ≡ some r) → eqb (own_slot w (is_clock w h) r e).group.pin 2 ≡ false
+    clock_pin : (w : ℕ) (h : Mem w (p.feedback ∷ p.output ∷ p.more)) (r : Ref) (e : m w ≡ Some r) → eqb (own_slot w (is_clock w h) r e).group.pin 2 ≡ false
     clock_pin w h r e = ne_eqb _ 2 (λ two. pll_apart a c p inside is w (is_clock w h) r e h (same two))
       where
         o : OwnSlot n c p r.signal
@@ -165,10 +165,10 @@ module _ {shared : ℕ} {limits : Limits} {n : Netlist} (a : Lowered shared limi
           (subst (λ (b : Bool). Mem q.wire (wires_of (pick b [] (p.reference ∷ [])))) (sym (first_bit r e o.group.pin r₂.lsb (low r₂ v e₂ (ap (λ (i : ℕ). get_or (slots n) i no_slot) z ∙ o.slot ∙ ap (λ (ws : List ℕ). record { source = pins c o.group.pin; bits = map Wire ws }) pw.1)) (clock_pin w h r e))) q.one_of)));
     }
       where
-        low : (r₂ : Ref) (v : ℕ) → m v ≡ some r₂ → {k u : ℕ} → get_or (slots n) r₂.signal no_slot ≡ record { source = pins c k; bits = Wire u ∷ [] } → r₂.lsb ≡ 0
+        low : (r₂ : Ref) (v : ℕ) → m v ≡ Some r₂ → {k u : ℕ} → get_or (slots n) r₂.signal no_slot ≡ record { source = pins c k; bits = Wire u ∷ [] } → r₂.lsb ≡ 0
         low r₂ v e₂ s = omega (arith, (at_wire v r₂ e₂).within, ap (λ (y : Slot). length y.bits) s)
 
-        first_bit : (r : Ref) → m w ≡ some r → (k i : ℕ) → i ≡ 0 → eqb k 2 ≡ false → eqb (k + i) 2 ≡ false
+        first_bit : (r : Ref) → m w ≡ Some r → (k i : ℕ) → i ≡ 0 → eqb k 2 ≡ false → eqb (k + i) 2 ≡ false
         first_bit r e k i z f = ap (λ (j : ℕ). eqb j 2) (let q : k + i ≡ k = omega (arith, z) in q) ∙ f
 
     clocks_suit : (ws : List ℕ) → ((w : ℕ) → Mem w ws → Mem w (p.feedback ∷ p.output ∷ p.more)) → AllSuit D words m ws (From m (p.reference ∷ []))
@@ -207,9 +207,9 @@ module _ {shared : ℕ} {limits : Limits} {n : Netlist} (a : Lowered shared limi
         let r = apiece_at ws 0 w h in
         as_wires r.0.wires (w ∷ []) r.2 (one_group y e p r.0 (subst (λ (l : List Group). Mem r.0 l) (sym q) r.1) bits (λ k. f (r.0.pin + k)) s)
 
-    second_suits : (o : Option SecondPort) (width : ℕ) → FitsOption (FitsSecond limits width) o → ((p : SecondPort) → o ≡ some p → WideAs m (get_or p.output 0 0) (length p.output)) → SecondSuits D words m width o
-    second_suits none width f h = tt
-    second_suits (some p) width f h = λ r q. h p refl r q ∙ f.output.0
+    second_suits : (o : Option SecondPort) (width : ℕ) → FitsOption (FitsSecond limits width) o → ((p : SecondPort) → o ≡ Some p → WideAs m (get_or p.output 0 0) (length p.output)) → SecondSuits D words m width o
+    second_suits None width f h = tt
+    second_suits (Some p) width f h = λ r q. h p refl r q ∙ f.output.0
 
     cell_suits : (y : Cell) → is_cell y → FitsCell limits y → CellSuits D words m y
     cell_suits (lut4 i o t) e f = apiece_suits (lut4 i o t) e refl (o ∷ []) refl i (λ k. refl) (λ y q. inl q) o (here refl)
@@ -255,7 +255,7 @@ module _ {shared : ℕ} {limits : Limits} {n : Netlist} (a : Lowered shared limi
       let f = (bank_is a b h).first in
       let p = bank_slot_lem n b h in
       let w = wire_at a _ (outputs_of b.members) p 0 (leader_there a b f) in
-      let y : some r ≡ some (record { signal = p.number; lsb = 0; width = length (outputs_of b.members) }) = sym e ∙ ap m (sym (leader_first a b f)) ∙ w in
+      let y : Some r ≡ Some (record { signal = p.number; lsb = 0; width = length (outputs_of b.members) }) = sym e ∙ ap m (sym (leader_first a b f)) ∙ w in
       let z : r ≡ record { signal = p.number; lsb = 0; width = length (outputs_of b.members) } = cc in
       ap (λ (q : Ref). q.width) z ∙ outputs_long b.members
 

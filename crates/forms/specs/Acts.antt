@@ -1,6 +1,6 @@
 -- Which signals and which statements' targets a netlist's emission writes, in order.
 use Rattle.std.specs.Prelude.{◌≡◌, ◌||◌, List, [], ◌∷◌, ◌++◌, map, ℕ, zero, suc, ◌+◌, eqb, get_or, take, drop, replicate}
-use Rattle.std.proofs.Math.Option.{Option, none, some}
+use Rattle.std.specs.Prelude.{Option, None, Some}
 use Rattle.bits.specs.Bits.{pick}
 use Rattle.netlist.specs.Netlist.{Port, SecondPort, Netlist, Cell, lut4, pfumx, l6mux21, ccu2c, multiplier, flip_flop, block_ram, distributed_ram, io, jtagg, pll}
 use Rattle.recorder.specs.Record.{Signal, Stmt, target}
@@ -31,16 +31,16 @@ Acts n w R ss ts = Writes n w (λ a es. R a × Done ss ts es)
 
 -- the signal of a wire (none where the wire is missing)
 abbrev pub aim : Option WireRef → ℕ
-aim none = 0
-aim (some r) = r.signal
+aim None = 0
+aim (Some r) = r.signal
 
 abbrev pub range : ℕ → ℕ → List ℕ
 range s zero = []
 range s (suc k) = s ∷ range (suc s) k
 
 abbrev pub second_aim : Wires → Option SecondPort → List ℕ
-second_aim m none = []
-second_aim m (some p) = aim (m (get_or p.output 0 0)) ∷ []
+second_aim m None = []
+second_aim m (Some p) = aim (m (get_or p.output 0 0)) ∷ []
 
 abbrev pub aims : Wires → List ℕ → List ℕ
 aims m ws = map (λ (w : ℕ). aim (m w)) ws

@@ -1,6 +1,6 @@
 -- The outputs of a cell, in groups: each group's wires share a signal.
 use Rattle.std.specs.Prelude.{Bool, true, false, List, [], ◌∷◌, map, ℕ, suc}
-use Rattle.std.proofs.Math.Option.{Option, none, some}
+use Rattle.std.specs.Prelude.{Option, None, Some}
 use Rattle.netlist.specs.declared.Bit.TheVariants.{Wire}
 use Rattle.netlist.specs.Netlist.{SecondPort, Cell, lut4, pfumx, l6mux21, ccu2c, multiplier, flip_flop, block_ram, distributed_ram, io, jtagg, pll}
 use Rattle.behaviour.specs.WireMap.{Slot, pins, pll_wires}
@@ -15,8 +15,8 @@ apiece [] k = []
 apiece (w ∷ ws) k = record { pin = k; wires = w ∷ [] } ∷ apiece ws (suc k)
 
 abbrev pub second_group : ℕ → Option SecondPort → List Group
-second_group k none = []
-second_group k (some p) = record { pin = k; wires = p.output } ∷ []
+second_group k None = []
+second_group k (Some p) = record { pin = k; wires = p.output } ∷ []
 
 abbrev pub groups : Cell → List Group
 groups (lut4 i o t) = apiece (o ∷ []) 0

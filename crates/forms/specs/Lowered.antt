@@ -1,6 +1,6 @@
 -- A netlist that lowering accepts, and its model.
 use Rattle.std.specs.Prelude.{◌≡◌, ℕ, ◌≤◌}
-use Rattle.std.proofs.Math.Option.{none}
+use Rattle.std.specs.Prelude.{None}
 use Rattle.netlist.specs.declared.Limits.{Limits}
 use Rattle.netlist.specs.Netlist.{Netlist}
 use Rattle.netlist.specs.Shape.{Fits}
@@ -22,7 +22,7 @@ pub record Lowered (shared : ℕ) (limits : Limits) (n : Netlist) : Type 0 where
   pub wires : Wires
   pub reserved : (reserve_netlist n none_yet).end ≡ ok wires
   pub ended : (lower_netlist shared n none_yet).end ≡ ok tt
-  pub single : overdriven_from 0 (lowered_model shared n).signals (lowered_model shared n).stmts ≡ none
+  pub single : overdriven_from 0 (lowered_model shared n).signals (lowered_model shared n).stmts ≡ None
 
 -- the widths of ports, banks and products stay within the largest width of a model
 pub record Roomy (limits : Limits) (widest : ℕ) : Type 0 where

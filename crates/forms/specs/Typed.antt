@@ -2,7 +2,7 @@
 -- its target may depend on.
 use Rattle.std.specs.Prelude.{◌≡◌, ℕ, ◌+◌, ◌^◌, ◌<◌, ◌≤◌, length, get_or}
 use mathlib.Core.List.{List, [], ◌∷◌, ◌++◌, Memᴰ as Mem}
-use Rattle.std.proofs.Math.Option.{Option, none, some}
+use Rattle.std.specs.Prelude.{Option, None, Some}
 use Rattle.recorder.specs.Record.{Expr, Expr.const, Expr.read, Expr.concat, Expr.not, Expr.and, Expr.or, Expr.xor, Expr.mux, Expr.eq, Expr.mul, RegReset, RegEnable, Stmt, Stmt.assign, Stmt.reg}
 use Rattle.recorder.specs.Writer.{Event, Event.signal, Event.expr, Event.stmt, Count, Writer}
 use Rattle.recorder.specs.Meaning.{Ends}
@@ -65,12 +65,12 @@ abbrev pub Wide : ℕ → ℕ → Type 0
 Wide widest w = (1 ≤ w) × (w ≤ widest)
 
 abbrev pub GoodReset : Context → ℕ → Option RegReset → Type 0
-GoodReset c w none = Unit {0}
-GoodReset c w (some r) = Sig c r.signal 1 × (r.active ≤ 1) × At c.exprs r.value w
+GoodReset c w None = Unit {0}
+GoodReset c w (Some r) = Sig c r.signal 1 × (r.active ≤ 1) × At c.exprs r.value w
 
 abbrev pub GoodEnable : Context → Option RegEnable → Type 0
-GoodEnable c none = Unit {0}
-GoodEnable c (some e) = Sig c e.signal 1 × (e.active ≤ 1)
+GoodEnable c None = Unit {0}
+GoodEnable c (Some e) = Sig c e.signal 1 × (e.active ≤ 1)
 
 -- a model's largest width, the number of the first signal on which no assignment stands, and what a signal may depend on
 module _ (widest words : ℕ) (D : ℕ → ℕ → Type 0) where
@@ -103,17 +103,17 @@ module _ (widest words : ℕ) (D : ℕ → ℕ → Type 0) where
   pub record Fit {A : Type 0} (c : Context) (w : Writer A) (P : A → Context → Type 0) : Type 0 where
     pub fit : (n : Count) → Numbered c n → GoodAll c (w n).events × Ends (w n).end (λ a. P a (grow_all c (w n).events))
 
-abbrev pub None : ℕ → Type 0
-None y = ⊥
+abbrev pub NoSignal : ℕ → Type 0
+NoSignal y = ⊥
 
 abbrev pub Any : ℕ → Type 0
 Any y = Unit {0}
 
 -- every wire's bit is there
 abbrev pub Wired : Context → Wires → Type 0
-Wired c m = (w : ℕ) (r : WireRef) → m w ≡ some r → Sig c r.signal r.width × (r.lsb < r.width)
+Wired c m = (w : ℕ) (r : WireRef) → m w ≡ Some r → Sig c r.signal r.width × (r.lsb < r.width)
 
 -- the constants are expressions 0 and 1, and read nothing
 pub record Based (c : Context) : Type 0 where
-  pub zero_is : Exp c 0 1 None
-  pub one_is : Exp c 1 1 None
+  pub zero_is : Exp c 0 1 NoSignal
+  pub one_is : Exp c 1 1 NoSignal

@@ -4,7 +4,7 @@ use mathlib.Core.Path.{◌≡◌, refl, sym, ◌∙◌, ap, ap₂, subst}
 use mathlib.Core.Logic.{◌⊎◌, inl, inr}
 use mathlib.Core.Bool.{Bool, true, false}
 use mathlib.Core.List.{List, [], ◌∷◌}
-use mathlib.Core.Option.{Option, none, some}
+use Rattle.std.specs.Prelude.{Option, None, Some}
 use native.Mathlib.Omega.{arith}
 use native.Mathlib.Nat.{add-zero}
 use lib.Dec.{eqb}
@@ -17,7 +17,7 @@ use Rattle.recorder.specs.Record.{Model, expr_words}
 use Rattle.recorder.specs.Read.{model_of}
 use Rattle.recorder.specs.Evaluate.{Signals, value_of, eval_expr}
 use Rattle.simulation.specs.declared.Driver.{Driver}
-use Rattle.simulation.specs.declared.Driver.TheVariants.{None, By}
+use Rattle.simulation.specs.declared.Driver.TheVariants.{None as Undriven, By}
 use Rattle.simulation.specs.Run.{flat}
 use Rattle.simulation.specs.Tick.{given, assigns, become}
 use Rattle.simulation.specs.Index.{records_in, widths_in, offset, start_of, clipped, stmts_in, driver_of, driver_by, Indexed, Starts}
@@ -58,7 +58,7 @@ module _ (stmts expr_table signal_table driver_table : List ℕ) (base s l : ℕ
     pub spot_by : (d : ℕ) → by ≡ By d → (w n : ℕ) → w ≡ d → Entry expr_table w n → (r : ℕ) → r ≡ clipped (n + l) → Spotted stmts expr_table signal_table driver_table base s l r
     spot_by d e w n hw t r hr = record {
       spotted = λ ew sw i j v b k g z.
-          let o : given assigns (stmts_in stmts) s ≡ some d = sym (driver_right _ _ _ choice v) ∙ ap driver_of e in
+          let o : given assigns (stmts_in stmts) s ≡ Some d = sym (driver_right _ _ _ choice v) ∙ ap driver_of e in
           let q : w ≤ length ew = (let m = g d o in omega arith) in
           let p : n ≡ offset ew w = entry_offset t i q (omega arith) in
           let p' : n ≡ offset ew d = p ∙ ap (offset ew) hw in
@@ -66,10 +66,10 @@ module _ (stmts expr_table signal_table driver_table : List ℕ) (base s l : ℕ
           y ∙ ap (spot_of ew sw s l) (sym o);
     }
 
-    pub spot_kept : by ≡ None → (n : ℕ) → Entry signal_table s n → (m r : ℕ) → m ≡ clipped (base + n) → r ≡ clipped (m + l) → Spotted stmts expr_table signal_table driver_table base s l r
+    pub spot_kept : by ≡ Undriven → (n : ℕ) → Entry signal_table s n → (m r : ℕ) → m ≡ clipped (base + n) → r ≡ clipped (m + l) → Spotted stmts expr_table signal_table driver_table base s l r
     spot_kept e n t m r hm hr = record {
       spotted = λ ew sw i j v b k g z.
-          let o : given assigns (stmts_in stmts) s ≡ none = sym (driver_right _ _ _ choice v) ∙ ap driver_of e in
+          let o : given assigns (stmts_in stmts) s ≡ None = sym (driver_right _ _ _ choice v) ∙ ap driver_of e in
           let p : n ≡ offset sw s = entry_offset t j k (omega arith) in
           let y : r ≡ offset ew (length ew) + offset sw s + l = omega arith in
           y ∙ ap (spot_of ew sw s l) (sym o);
@@ -335,8 +335,8 @@ module _ {signals exprs stmts starts expr_table signal_table driver_table : List
 
       module _ (one : get_or exprs (at + 2) 0 ≡ 1) (old vs : List Bits) (wo : Wide (widths_in signals) old) (wv : Wide (widths_in exprs) vs) where
         spot_bit : (o : Option ℕ) → given assigns (stmts_in stmts) (get_or exprs (at + 3) 0) ≡ o → get_or (become vs o (get_or old (get_or exprs (at + 3) 0) [])) (get_or exprs (at + 4) 0) false ≡ bit_at vs old (spot_of (widths_in exprs) (widths_in signals) (get_or exprs (at + 3) 0) (get_or exprs (at + 4) 0) o)
-        spot_bit none h = sym (at_signal ew vs old wv sw wo s l reading.there (omega (arith, reading.inside)))
-        spot_bit (some d) h = sym (at_value ew vs old wv d l (driver_there k.prepared s h) (omega (arith, reading.inside, driver_wide k.prepared s h)))
+        spot_bit None h = sym (at_signal ew vs old wv sw wo s l reading.there (omega (arith, reading.inside)))
+        spot_bit (Some d) h = sym (at_value ew vs old wv d l (driver_there k.prepared s h) (omega (arith, reading.inside, driver_wide k.prepared s h)))
 
       pub finds_read : (z.table < 65536 → OneSpot exprs stmts expr_table signal_table driver_table base at z) → Finds signals exprs stmts forms e z
       unfolding model_of

@@ -1,6 +1,6 @@
 -- How the forms are found, from the words of a model and the tables that say where its records and values stand.
 use Rattle.std.specs.Prelude.{ℕ, ◌+◌, ◌*◌, ◌%◌, ◌≤◌, ◌<◌, ◌≡◌, ◌⊎◌, Bool, List, ◌∷◌, [], eqb, length, get_or, take, drop}
-use Rattle.std.proofs.Math.Option.{Option, none, some}
+use Rattle.std.specs.Prelude.{Option, None, Some}
 use Rattle.std.proofs.lemmas.List.Edits.{sets}
 use Rattle.simulation.specs.Tick.{given, assigns}
 use Rattle.simulation.specs.Index.{records_in, offset, clipped, stmts_in, Indexed, Starts, Driven}
@@ -34,11 +34,11 @@ pub record Entry (table : List ℕ) (k r : ℕ) : Type 0 where
 
 -- bit l of signal s, to which an expression or nothing is assigned
 abbrev pub spot_of : List ℕ → List ℕ → ℕ → ℕ → Option ℕ → ℕ
-spot_of ew sw s l none = offset ew (length ew) + offset sw s + l
-spot_of ew sw s l (some d) = offset ew d + l
+spot_of ew sw s l None = offset ew (length ew) + offset sw s + l
+spot_of ew sw s l (Some d) = offset ew d + l
 
 pub record Spotted (stmts expr_table signal_table driver_table : List ℕ) (base s l r : ℕ) : Type 0 where
-  pub spotted : (ew sw : List ℕ) → Indexed ew expr_table → Indexed sw signal_table → Driven stmts driver_table → base ≡ clipped (offset ew (length ew)) → s ≤ length sw → ((d : ℕ) → given assigns (stmts_in stmts) s ≡ some d → d ≤ length ew) → r < 4294967295 → r ≡ spot_of ew sw s l (given assigns (stmts_in stmts) s)
+  pub spotted : (ew sw : List ℕ) → Indexed ew expr_table → Indexed sw signal_table → Driven stmts driver_table → base ≡ clipped (offset ew (length ew)) → s ≤ length sw → ((d : ℕ) → given assigns (stmts_in stmts) s ≡ Some d → d ≤ length ew) → r < 4294967295 → r ≡ spot_of ew sw s l (given assigns (stmts_in stmts) s)
 
 -- BY KIND
 

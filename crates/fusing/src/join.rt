@@ -5,7 +5,6 @@ ghost use Rattle.fusing.specs.Form.{form_bit};
 ghost use Rattle.fusing.specs.Join.{form_of, gate_bit, look_in, row_bit, among, flat_table, Tabled, Covers, Joins, Alone};
 
 // A table of 16 bits and the positions of its four inputs. A table from 65,536 on is none.
-#[derive(Drop)]
 #[derive(Clone, Copy)]
 pub struct Lut {
     pub table: u32,
@@ -16,7 +15,6 @@ pub struct Lut {
 }
 
 // Up to four different positions; those behind the first `count` repeat one of them.
-#[derive(Drop)]
 #[derive(Clone, Copy)]
 pub struct Spots {
     pub count: u32,

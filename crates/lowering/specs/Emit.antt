@@ -1,6 +1,6 @@
 -- What cells, banks and output ports emit: a definition for each function of lib.rs, in its order of events.
 use Rattle.std.specs.Prelude.{List, [], ◌∷◌, ℕ, suc, eqb}
-use Rattle.std.proofs.Math.Option.{Option, none, some}
+use Rattle.std.specs.Prelude.{Option, None, Some}
 use Rattle.bits.specs.Bits.{pick}
 use Rattle.netlist.specs.declared.Control.{Control}
 use Rattle.netlist.specs.declared.Reset.{Reset}
@@ -18,8 +18,8 @@ use Rattle.memories.specs.Memories.{emit_block_ram, emit_distributed_ram}
 -- FLIP-FLOPS
 
 abbrev pub with_enable : Wires → ℕ → Option Control → ℕ → Writer ℕ
-with_enable m output none next = pure next
-with_enable m output (some c) next = do
+with_enable m output None next = pure next
+with_enable m output (Some c) next = do
   r ← wire_ref m output
   q ← read_ref r
   y ← asserted_expression m c
@@ -27,14 +27,14 @@ with_enable m output (some c) next = do
 
 -- the expression of a reset's value
 abbrev pub reset_bit : Option Reset → ℕ
-reset_bit none = 0
-reset_bit (some r) = pick (eqb r.value 1) 1 0
+reset_bit None = 0
+reset_bit (Some r) = pick (eqb r.value 1) 1 0
 
 abbrev pub with_reset : Wires → Option Reset → ℕ → Writer ℕ
-with_reset m none next = pure next
-with_reset m (some r) next =
+with_reset m None next = pure next
+with_reset m (Some r) next =
     pick (eqb r.asynchronous 1) (pure next)
-    (asserted_expression m (record { signal = r.signal; active = r.active }) >>= λ y. emit (mux 1 y (reset_bit (some r)) next))
+    (asserted_expression m (record { signal = r.signal; active = r.active }) >>= λ y. emit (mux 1 y (reset_bit (Some r)) next))
 
 unfoldable pub next_bit : Wires → FlipFlop → Writer ℕ
 next_bit m f = do
@@ -54,11 +54,11 @@ reset_bits [] parts = parts
 reset_bits (f ∷ fs) parts = reset_bits fs (reset_bit f.flop.reset ∷ parts)
 
 abbrev pub bank_reset : Wires → Constants → Option Reset → List Member → Writer (Option RegReset)
-bank_reset m z none fs = pure none
-bank_reset m z (some r) fs = do
+bank_reset m z None fs = pure None
+bank_reset m z (Some r) fs = do
   v ← concat_parts (reset_bits fs [])
   s ← bit_signal m z r.signal
-  pure (some (record { signal = s; active = r.active; value = v }))
+  pure (Some (record { signal = s; active = r.active; value = v }))
 
 unfoldable pub emit_flip_flop_bank : Wires → Constants → Bank → Writer (Unit {0})
 emit_flip_flop_bank m z b = do
@@ -67,7 +67,7 @@ emit_flip_flop_bank m z b = do
   next ← concat_parts parts
   reset ← bank_reset m z (async_reset b.leader.flop) b.members
   clock ← bit_signal m z b.leader.flop.clock
-  state (reg target.signal next clock b.leader.flop.edge reset none)
+  state (reg target.signal next clock b.leader.flop.edge reset None)
 
 unfoldable pub emit_banks : Wires → Constants → List Bank → Writer (Unit {0})
 emit_banks m z [] = pure tt

@@ -1,6 +1,6 @@
 -- The lowering: what a netlist gives in lists of so many words, or its refusal.
 use Rattle.std.specs.Prelude.{List, [], ◌∷◌, ℕ, suc, ◌+◌, eqb, leb}
-use Rattle.std.proofs.Math.Option.{Option, none, some}
+use Rattle.std.specs.Prelude.{Option, None, Some}
 use Rattle.bits.specs.Bits.{pick}
 use Rattle.netlist.specs.declared.Limits.{Limits}
 use Rattle.netlist.specs.Netlist.{Netlist}
@@ -29,8 +29,8 @@ allowed s = pick (eqb s.label 0) 0 1
 
 -- the lowest such signal, from number s on
 unfoldable pub overdriven_from : ℕ → List Signal → List Stmt → Option ℕ
-overdriven_from s [] ts = none
-overdriven_from s (x ∷ xs) ts = pick (leb (statements_on s ts) (allowed x)) (overdriven_from (suc s) xs ts) (some s)
+overdriven_from s [] ts = None
+overdriven_from s (x ∷ xs) ts = pick (leb (statements_on s ts) (allowed x)) (overdriven_from (suc s) xs ts) (Some s)
 
 -- THE STEPS
 
@@ -82,8 +82,8 @@ pub record Lowering : Type 0 where
 
 -- 11 comes last, and is judged on the model
 abbrev pub judged : Option ℕ → Tapes → Lists → Lists → Lowering
-judged none t l zeroed = record { answer = Accepted t; lists = l }
-judged (some s) t l zeroed = record { answer = Refused 11 s; lists = zeroed }
+judged None t l zeroed = record { answer = Accepted t; lists = l }
+judged (Some s) t l zeroed = record { answer = Refused 11 s; lists = zeroed }
 
 abbrev pub ended : {A : Type 0} → Answer A → Option ℕ → Lists → Lists → Lowering
 ended (Done a t) conflict l zeroed = judged conflict t l zeroed

@@ -1,6 +1,6 @@
 -- The signals that ports, cells and banks reserve, and the wires that they hold: a definition for each function of lib.rs.
 use Rattle.std.specs.Prelude.{List, [], ◌∷◌, ℕ, suc, eqb, length}
-use Rattle.std.proofs.Math.Option.{Option, none, some}
+use Rattle.std.specs.Prelude.{Option, None, Some}
 use Rattle.bits.specs.Bits.{pick}
 use Rattle.netlist.specs.declared.Bit.{Bit}
 use Rattle.netlist.specs.declared.Bit.TheVariants.{Zero, One, Wire}
@@ -11,8 +11,8 @@ use Rattle.recorder.specs.Writer.{Writer, pure, refuse, declare, ◌>>=◌}
 use Rattle.wires.specs.Wires.{WireRef, Wires, put}
 
 abbrev pub insert_at : Option WireRef → Wires → ℕ → WireRef → Writer Wires
-insert_at none m w r = pure (put m w r)
-insert_at (some q) m w r = refuse 7 w
+insert_at None m w r = pure (put m w r)
+insert_at (Some q) m w r = refuse 7 w
 
 -- a wire that is there already is refused; a constant is no wire
 unfoldable pub insert_wire : Wires → Bit → WireRef → Writer Wires
@@ -58,8 +58,8 @@ reserve_scalars m label owner (w ∷ ws) = do
 
 -- a signal for a wire that is not there yet
 abbrev pub reserve_unless : Option WireRef → Wires → ℕ → ℕ → ℕ → Writer Wires
-reserve_unless none m label owner w = reserve_scalar m label owner w
-reserve_unless (some q) m label owner w = pure m
+reserve_unless None m label owner w = reserve_scalar m label owner w
+reserve_unless (Some q) m label owner w = pure m
 
 unfoldable pub reserve_absent : Wires → ℕ → ℕ → List ℕ → Writer Wires
 reserve_absent m label owner [] = pure m
@@ -68,8 +68,8 @@ reserve_absent m label owner (w ∷ ws) = do
   reserve_absent m₁ label owner ws
 
 abbrev pub reserve_second : Wires → ℕ → Option SecondPort → Writer Wires
-reserve_second m owner none = pure m
-reserve_second m owner (some p) = reserve_vector m 8 owner p.output
+reserve_second m owner None = pure m
+reserve_second m owner (Some p) = reserve_vector m 8 owner p.output
 
 -- cell number `owner`
 unfoldable pub reserve_cell_output : Wires → ℕ → Cell → Writer Wires

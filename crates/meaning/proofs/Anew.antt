@@ -3,7 +3,7 @@
 use mathlib.Core.Path.{◌≡◌, refl, ap, ◌∙◌, subst}
 use mathlib.Core.Bool.{Bool, true, false}
 use mathlib.Core.List.{List, [], ◌∷◌, ◌++◌}
-use mathlib.Core.Option.{Option, none, some}
+use Rattle.std.specs.Prelude.{Option, None, Some}
 use Prim.Native.Nat.{ℕ, zero, suc, ◌+◌}
 use native.Mathlib.Omega.{arith}
 use lib.Dec.{eqb}
@@ -68,8 +68,8 @@ module _ (m : Wires) where
   ref_anew w = go (m w)
     where
       go : (o : Option WireRef) → Anew (ref_of o w) (λ r. Unit {0}) 0
-      go none = anew_refuse
-      go (some r) = anew_pure tt
+      go None = anew_refuse
+      go (Some r) = anew_pure tt
 
   bit_anew : (b : Bit) → Anew (bit_expression m b) (λ e. Unit {0}) (bit_reads b)
   unfolding bit_expression
@@ -88,16 +88,16 @@ module _ (m : Wires) where
   -- BANKS
 
   enable_anew : (output : ℕ) (o : Option Control) (next : ℕ) → Anew (with_enable m output o next) (λ e. Unit {0}) (enable_reads o)
-  enable_anew output none next = anew_pure tt
-  enable_anew output (some c) next =
+  enable_anew output None next = anew_pure tt
+  enable_anew output (Some c) next =
       anew_as (let z : 0 + (1 + (bit_reads c.signal + 0)) ≡ 1 + bit_reads c.signal = omega arith in z)
       (anew_bind (ref_anew output) (λ r u. anew_bind {P = λ q. Unit {0}} (anew_emit refl (λ e. tt)) (λ q u. anew_bind (asserted_anew c) (λ y u. anew_emit refl (λ e. tt)))))
 
   reset_anew : (o : Option Reset) (next : ℕ) → Anew (with_reset m o next) (λ e. Unit {0}) (reset_reads o)
-  reset_anew none next = anew_pure tt
-  reset_anew (some r) next = go (eqb r.asynchronous 1)
+  reset_anew None next = anew_pure tt
+  reset_anew (Some r) next = go (eqb r.asynchronous 1)
     where
-      go : (b : Bool) → Anew (pick b (pure next) (asserted_expression m (record { signal = r.signal; active = r.active }) >>= λ y. emit (mux 1 y (reset_bit (some r)) next))) (λ e. Unit {0}) (pick b 0 (bit_reads r.signal))
+      go : (b : Bool) → Anew (pick b (pure next) (asserted_expression m (record { signal = r.signal; active = r.active }) >>= λ y. emit (mux 1 y (reset_bit (Some r)) next))) (λ e. Unit {0}) (pick b 0 (bit_reads r.signal))
       go true = anew_pure tt
       go false = anew_as (let z : bit_reads r.signal + 0 ≡ bit_reads r.signal = omega arith in z) (anew_bind (asserted_anew (record { signal = r.signal; active = r.active })) (λ y u. anew_emit refl (λ e. tt)))
 

@@ -3,7 +3,7 @@
 use mathlib.Core.Path.{◌≡◌, refl, ap, ap₂, sym, ◌∙◌, subst}
 use mathlib.Core.Bool.{Bool, true, false, not, ◌&&◌}
 use mathlib.Core.List.{List, [], ◌∷◌, ◌++◌, append-nil, append_assoc}
-use mathlib.Core.Option.{Option, none, some}
+use Rattle.std.specs.Prelude.{Option, None, Some}
 use Prim.Native.Nat.{ℕ, zero, suc, ◌+◌, ◌<◌}
 use lib.Dec.{eqb}
 use lib.ListN.{length, get_or}
@@ -48,8 +48,8 @@ module _ {σ : Signals} (m : Wires) where
   bit_means {env} base (Wire w) = go (m w)
     where
       go : (o : Option WireRef) → Means σ env (ref_of o w >>= read_ref) (ref_bit σ o ∷ [])
-      go none = makes_bind (makes_refuse {P = λ a e. ⊥}) (λ a env₁ k h. absurd h)
-      go (some r) = makes_bind (makes_pure {P = λ a e. a ≡ r} refl) (λ a env₁ k h. means_emit (ap (λ (q : WireRef). get_or (σ q.signal) q.lsb false ∷ []) h))
+      go None = makes_bind (makes_refuse {P = λ a e. ⊥}) (λ a env₁ k h. absurd h)
+      go (Some r) = makes_bind (makes_pure {P = λ a e. a ≡ r} refl) (λ a env₁ k h. means_emit (ap (λ (q : WireRef). get_or (σ q.signal) q.lsb false ∷ []) h))
 
   levelled_means : (active : ℕ) {e : ℕ} {v : Bool} {env : Values} → Is env e (v ∷ []) → Means σ env (levelled active e) (same v (eqb active 1) ∷ [])
   levelled_means active {e} {v} {env} h = go (eqb active 1)
@@ -96,8 +96,8 @@ module _ {σ : Signals} (m : Wires) {env : Values} {seen : Seen} (base : Base en
   bit_once_lem (Wire w) = go (standing seen w) refl
     where
       go : (o : Option ℕ) → standing seen w ≡ o → MeansOnce σ m env (read_once o m seen w) (ref_bit σ (m w) ∷ [])
-      go none q = makes_bind (bit_means m base (Wire w)) (λ e env₁ k i. makes_pure (i, known_noted w (known_keeps k known) i))
-      go (some e) q = makes_pure (known.known w e q, known)
+      go None q = makes_bind (bit_means m base (Wire w)) (λ e env₁ k i. makes_pure (i, known_noted w (known_keeps k known) i))
+      go (Some e) q = makes_pure (known.known w e q, known)
 
   pub asserted_once_lem : (c : Control) → MeansOnce σ m env (asserted_once m seen c) (asserted (held σ m) c.signal c.active ∷ [])
   unfolding asserted_once
@@ -105,17 +105,17 @@ module _ {σ : Signals} (m : Wires) {env : Values} {seen : Seen} (base : Base en
 
 -- SIGNALS OF CONTROLS
 
-pub ref_gets : (m : Wires) (w : ℕ) → Gets (wire_ref m w) (λ r. m w ≡ some r)
+pub ref_gets : (m : Wires) (w : ℕ) → Gets (wire_ref m w) (λ r. m w ≡ Some r)
 unfolding wire_ref
 ref_gets m w = go (m w) refl
   where
-    go : (o : Option WireRef) → m w ≡ o → Gets (ref_of o w) (λ r. m w ≡ some r)
-    go none q = gets_refuse
-    go (some r) q = gets_pure q
+    go : (o : Option WireRef) → m w ≡ o → Gets (ref_of o w) (λ r. m w ≡ Some r)
+    go None q = gets_refuse
+    go (Some r) q = gets_pure q
 
 -- a whole signal of one bit
 pub record Alone (m : Wires) (w s : ℕ) : Type 0 where
-  pub alone : m w ≡ some (record { signal = s; lsb = 0; width = 1 })
+  pub alone : m w ≡ Some (record { signal = s; lsb = 0; width = 1 })
 
 -- the signal of a control
 abbrev pub IsSignal : Wires → Constants → Bit → ℕ → Type 0
@@ -135,7 +135,7 @@ signal_gets m z (Wire w) =
     gets_bind (ref_gets m w) (λ r q.
     by_test (λ (x : Writer ℕ). Gets x (Alone m w)) (whole r)
     (λ t. let p = both (eqb r.lsb 0) (eqb r.width 1) t in
-    gets_pure (record { alone = q ∙ ap₂ (λ (x y : ℕ). some (record { signal = r.signal; lsb = x; width = y })) (eqb-true r.lsb 0 p.0) (eqb-true r.width 1 p.1) })) (λ t. gets_refuse))
+    gets_pure (record { alone = q ∙ ap₂ (λ (x y : ℕ). Some (record { signal = r.signal; lsb = x; width = y })) (eqb-true r.lsb 0 p.0) (eqb-true r.width 1 p.1) })) (λ t. gets_refuse))
 
 -- PARTS OF A CONCAT, the highest first
 

@@ -3,7 +3,7 @@
 use mathlib.Core.Path.{◌≡◌, refl, ap, ap₂, sym, ◌∙◌, subst}
 use mathlib.Core.Bool.{Bool, true, false, ◌||◌}
 use mathlib.Core.List.{List, [], ◌∷◌, ◌++◌}
-use mathlib.Core.Option.{Option, none, some}
+use Rattle.std.specs.Prelude.{Option, None, Some}
 use Prim.Native.Nat.{ℕ, zero, suc, ◌*◌, ◌^◌, ◌<◌}
 use native.Mathlib.Omega.{arith}
 use lib.Dec.{eqb}
@@ -34,12 +34,12 @@ use Rattle.meaning.specs.Settles.{Tick, Settles}
 use Rattle.meaning.proofs.Settling.{settles_makes, settles_gets, settles_assign, settles_pure, settles_bind, settles_so, settles_keeping}
 use Rattle.meaning.proofs.BitReads.{bit_means, ref_gets, Known, known_keeps, bit_once_lem, vector_once_lem, bits_means, reads_make}
 
-pub some_is : {A : Type 0} (x y : A) → some x ≡ some y → x ≡ y
+pub some_is : {A : Type 0} (x y : A) → Some x ≡ Some y → x ≡ y
 some_is {A} x y q = ap from q
   where
     from : Option A → A
-    from none = x
-    from (some z) = z
+    from None = x
+    from (Some z) = z
 
 -- what the wires hold before the commit
 abbrev pub now : Tick → Wires → Valuation

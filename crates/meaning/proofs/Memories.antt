@@ -3,7 +3,7 @@
 use mathlib.Core.Path.{◌≡◌, refl, ap, ap₂, sym, ◌∙◌, subst}
 use mathlib.Core.Bool.{Bool, true, false, ◌&&◌}
 use mathlib.Core.List.{List, [], ◌∷◌, ◌++◌, append-nil, append_assoc, map}
-use mathlib.Core.Option.{Option, none, some}
+use Rattle.std.specs.Prelude.{Option, None, Some}
 use Prim.Native.Nat.{ℕ, zero, suc, ◌+◌}
 use native.Mathlib.Omega.{arith}
 use lib.ListN.{length, get_or, length-append, length-map}
@@ -42,8 +42,8 @@ pub record PortValue : Type 0 where
 
 -- a clock enable that is not there is always asserted
 data EnabledIs (env : Values) : Option ℕ → Bool → Type 0 where
-  always : EnabledIs env none true
-  given : {c : ℕ} {b : Bool} → Is env c (b ∷ []) → EnabledIs env (some c) b
+  always : EnabledIs env None true
+  given : {c : ℕ} {b : Bool} → Is env c (b ∷ []) → EnabledIs env (Some c) b
 
 keep_enabled : {env env' : Values} {o : Option ℕ} {b : Bool} → Keeps env env' → EnabledIs env o b → EnabledIs env' o b
 keep_enabled k always = always
@@ -60,16 +60,16 @@ keep_port : {env env' : Values} {p : PortExprs} {v : PortValue} → Keeps env en
 keep_port k h = record { address_is = k _ _ h.address_is; word_is = k _ _ h.word_is; asserted_is = k _ _ h.asserted_is; read_is = k _ _ h.read_is; enabled_is = keep_enabled k h.enabled_is }
 
 abbrev SecondIs : Values → Option PortExprs → Option PortValue → Type 0
-SecondIs env none none = Unit {0}
-SecondIs env none (some v) = ⊥
-SecondIs env (some p) none = ⊥
-SecondIs env (some p) (some v) = PortIs env p v
+SecondIs env None None = Unit {0}
+SecondIs env None (Some v) = ⊥
+SecondIs env (Some p) None = ⊥
+SecondIs env (Some p) (Some v) = PortIs env p v
 
 keep_second : {env env' : Values} → Keeps env env' → (p : Option PortExprs) (v : Option PortValue) → SecondIs env p v → SecondIs env' p v
-keep_second k none none h = tt
-keep_second k none (some v) h = absurd h
-keep_second k (some p) none h = absurd h
-keep_second k (some p) (some v) h = keep_port k h
+keep_second k None None h = tt
+keep_second k None (Some v) h = absurd h
+keep_second k (Some p) None h = absurd h
+keep_second k (Some p) (Some v) h = keep_port k h
 
 -- WORDS
 
@@ -78,8 +78,8 @@ abbrev pub wrote : PortValue → ℕ → ℕ → Bits → Bits
 wrote v aw index now = pick (v.asserted && same_bits v.address (binary aw index)) v.word now
 
 abbrev pub wrote_second : Option PortValue → ℕ → ℕ → Bits → Bits
-wrote_second none aw index now = now
-wrote_second (some v) aw index now = wrote v aw index now
+wrote_second None aw index now = now
+wrote_second (Some v) aw index now = wrote v aw index now
 
 module _ (σ : Signals) (width aw : ℕ) where
   write_means : (p : PortExprs) (v : PortValue) (index : ℕ) {now : ℕ} {x : Bits} {env : Values} → PortIs env p v → Is env now x → Means σ env (write_word p width aw index now) (wrote v aw index x)
@@ -91,10 +91,10 @@ module _ (σ : Signals) (width aw : ℕ) where
       mux_value σ hy (k₃ _ _ (k₂ _ _ (k₁ _ _ h.word_is))) (k₃ _ _ (k₂ _ _ (k₁ _ _ i))))))
 
   second_means : (p : Option PortExprs) (v : Option PortValue) (index : ℕ) {now : ℕ} {x : Bits} {env : Values} → SecondIs env p v → Is env now x → Means σ env (write_second p width aw index now) (wrote_second v aw index x)
-  second_means none none index h i = makes_pure i
-  second_means none (some v) index h i = absurd h
-  second_means (some p) none index h i = absurd h
-  second_means (some p) (some v) index h i = write_means p v index h i
+  second_means None None index h i = makes_pure i
+  second_means None (Some v) index h i = absurd h
+  second_means (Some p) None index h i = absurd h
+  second_means (Some p) (Some v) index h i = write_means p v index h i
 
 -- the bits of a word's signal before the commit
 abbrev pub word_of : Signals → ℕ → ℕ → Bits
@@ -168,17 +168,17 @@ words_get pa pb owner width aw (suc left) index ws =
 -- A READ PORT
 
 abbrev pub EnableIs : Wires → Constants → Option Control → Option RegEnable → Type 0
-EnableIs m z none e = e ≡ none
-EnableIs m z (some c) e = (s : ℕ) × IsSignal m z c.signal s × (e ≡ some (record { signal = s; active = c.active }))
+EnableIs m z None e = e ≡ None
+EnableIs m z (Some c) e = (s : ℕ) × IsSignal m z c.signal s × (e ≡ Some (record { signal = s; active = c.active }))
 
 enable_gets : (m : Wires) (z : Constants) (o : Option Control) → Gets (enable_of m z o) (EnableIs m z o)
-enable_gets m z none = gets_pure refl
-enable_gets m z (some c) = gets_bind (signal_gets m z c.signal) (λ s h. gets_pure (s, h, refl))
+enable_gets m z None = gets_pure refl
+enable_gets m z (Some c) = gets_bind (signal_gets m z c.signal) (λ s h. gets_pure (s, h, refl))
 
 -- the read of a read register's own signal, where it stands; w is its first wire
 data OwnIs (σ : Signals) (m : Wires) (width w : ℕ) (env : Values) : Option ℕ → Type 0 where
-  unread : OwnIs σ m width w env none
-  stands : {e : ℕ} → ((r : WireRef) → m w ≡ some r → Is env e (word_of σ width r.signal)) → OwnIs σ m width w env (some e)
+  unread : OwnIs σ m width w env None
+  stands : {e : ℕ} → ((r : WireRef) → m w ≡ Some r → Is env e (word_of σ width r.signal)) → OwnIs σ m width w env (Some e)
 
 keep_own : {σ : Signals} {m : Wires} {width w : ℕ} {env env' : Values} {o : Option ℕ} → Keeps env env' → OwnIs σ m width w env o → OwnIs σ m width w env' o
 keep_own k unread = unread
@@ -189,16 +189,16 @@ own_is : {σ : Signals} {m : Wires} {env : Values} {seen : Seen} {width : ℕ} (
 own_is [] h f = unread
 own_is {σ} {m} {env} {seen} {width} (w ∷ []) h f = go (standing seen w) refl
   where
-    bit : (e : ℕ) → Is env e (ref_bit σ (m w) ∷ []) → (r : WireRef) → m w ≡ some r → Is env e (word_of σ width r.signal)
+    bit : (e : ℕ) → Is env e (ref_bit σ (m w) ∷ []) → (r : WireRef) → m w ≡ Some r → Is env e (word_of σ width r.signal)
     bit e i r q = subst (λ (k : ℕ). Is env e (word_of σ k r.signal)) f.wide
         (subst (λ (k : ℕ). Is env e (get_or (σ r.signal) k false ∷ [])) (f.lowest r q) (subst (λ (o : Option WireRef). Is env e (ref_bit σ o ∷ [])) q i))
 
     go : (o : Option ℕ) → standing seen w ≡ o → OwnIs σ m width w env o
-    go none q = unread
-    go (some e) q = stands (bit e (h.known w e q))
+    go None q = unread
+    go (Some e) q = stands (bit e (h.known w e q))
 own_is (w ∷ v ∷ ws) h f = unread
 
-next_read_means : (σ : Signals) (m : Wires) (width w : ℕ) {target : WireRef} {o own : Option ℕ} {word : ℕ} {b : Bool} {x : Bits} {env : Values} → m w ≡ some target → EnabledIs env o b → OwnIs σ m width w env own → Is env word x
+next_read_means : (σ : Signals) (m : Wires) (width w : ℕ) {target : WireRef} {o own : Option ℕ} {word : ℕ} {b : Bool} {x : Bits} {env : Values} → m w ≡ Some target → EnabledIs env o b → OwnIs σ m width w env own → Is env word x
     → Means σ env (next_read o own width target.signal word) (pick b x (word_of σ width target.signal))
 next_read_means σ m width w q always own i = makes_pure i
 next_read_means σ m width w {target} q (given h) unread i = makes_bind (means_emit {x = read width target.signal 0} refl) (λ o env₁ k₁ ho. mux_value σ (k₁ _ _ h) (k₁ _ _ i) ho)
@@ -207,7 +207,7 @@ next_read_means σ m width w {target} q (given h) (stands {e = e} f) i = makes_b
 -- the read register takes the word that its address names, before the commit, or 0; its own while the clock enable is not asserted
 pub record ReadPort (κ : Tick) (m : Wires) (z : Constants) (width aw : ℕ) (a : PortValue) (b : Option PortValue) (outputs : List ℕ) (read_enable clock_enable : Option Control) (at : Bits) (words : List ℕ) (clock edge : ℕ) : Type 0 where
   pub target : WireRef
-  pub target_is : m (get_or outputs 0 0) ≡ some target
+  pub target_is : m (get_or outputs 0 0) ≡ Some target
   pub enable : Option RegEnable
   pub enable_is : EnableIs m z read_enable enable
   pub registered : RegOn κ target.signal
@@ -263,7 +263,7 @@ abbrev pub first_value : Valuation → BlockRam → PortValue
 first_value v r = record {
   address = values_at v r.write_address (shift_for r) (address_width r.depth);
   word = values_at v r.input 0 (length r.input);
-  asserted = enabled v (some r.write) && enabled v r.clock_enable;
+  asserted = enabled v (Some r.write) && enabled v r.clock_enable;
   read_at = values_at v r.read_address (shift_for r) (address_width r.depth);
   enabled = enabled v r.clock_enable;
 }
@@ -272,34 +272,34 @@ abbrev pub port_value : Valuation → ℕ → ℕ → SecondPort → PortValue
 port_value v shift aw p = record {
   address = values_at v p.address shift aw;
   word = values_at v p.input 0 (length p.input);
-  asserted = enabled v (some p.write) && enabled v p.clock_enable;
+  asserted = enabled v (Some p.write) && enabled v p.clock_enable;
   read_at = values_at v p.address shift aw;
   enabled = enabled v p.clock_enable;
 }
 
 abbrev pub second_value : Valuation → ℕ → ℕ → Option SecondPort → Option PortValue
-second_value v shift aw none = none
-second_value v shift aw (some p) = some (port_value v shift aw p)
+second_value v shift aw None = None
+second_value v shift aw (Some p) = Some (port_value v shift aw p)
 
 -- the second port's expressions, and its wires and read enable
 abbrev pub IsSecond : Option SecondPort → Option PortExprs → Type 0
-IsSecond none p = p ≡ none
-IsSecond (some q) p = (x : PortExprs) × (p ≡ some x) × (x.read_data ≡ q.output) × (x.read_enable ≡ q.read_enable)
+IsSecond None p = p ≡ None
+IsSecond (Some q) p = (x : PortExprs) × (p ≡ Some x) × (x.read_data ≡ q.output) × (x.read_enable ≡ q.read_enable)
 
 pub second_gets : (m : Wires) (seen : Seen) (shift aw : ℕ) (o : Option SecondPort) → Gets (second_exprs m seen shift aw o) (λ b. IsSecond o b.value)
-second_gets m seen shift aw none = gets_pure refl
-second_gets m seen shift aw (some q) = gets_bind (gets_any _) (λ a u. gets_bind (gets_any _) (λ d v. gets_bind (gets_any _) (λ g w. gets_pure (_, refl, refl, refl))))
+second_gets m seen shift aw None = gets_pure refl
+second_gets m seen shift aw (Some q) = gets_bind (gets_any _) (λ a u. gets_bind (gets_any _) (λ d v. gets_bind (gets_any _) (λ g w. gets_pure (_, refl, refl, refl))))
 
 -- what the second port reads
 abbrev pub SecondRead : Tick → Wires → Constants → ℕ → ℕ → ℕ → PortValue → Option PortValue → Option SecondPort → List ℕ → ℕ → ℕ → Type 0
-SecondRead κ m z width aw shift a b none ws clock edge = Unit {0}
-SecondRead κ m z width aw shift a b (some q) ws clock edge = ReadPort κ m z width aw a b q.output q.read_enable q.clock_enable (values_at (now κ m) q.address shift aw) ws clock edge
+SecondRead κ m z width aw shift a b None ws clock edge = Unit {0}
+SecondRead κ m z width aw shift a b (Some q) ws clock edge = ReadPort κ m z width aw a b q.output q.read_enable q.clock_enable (values_at (now κ m) q.address shift aw) ws clock edge
 
 gate_makes : (σ : Signals) (m : Wires) {env : Values} {seen : Seen} → Base env → Known σ m env seen → (write : Control) (o : Option Control)
-    → Makes σ env (gate m seen write o) (λ g env'. Is env' g.value.write_asserted ((enabled (held σ m) (some write) && enabled (held σ m) o) ∷ []) × EnabledIs env' g.value.clock_enabled (enabled (held σ m) o) × Known σ m env' g.seen)
+    → Makes σ env (gate m seen write o) (λ g env'. Is env' g.value.write_asserted ((enabled (held σ m) (Some write) && enabled (held σ m) o) ∷ []) × EnabledIs env' g.value.clock_enabled (enabled (held σ m) o) × Known σ m env' g.seen)
 unfolding gate
-gate_makes σ m base known write none = makes_bind (asserted_once_lem m base known write) (λ y env₁ k₁ hy. makes_pure (subst (λ (b : Bool). Is env₁ y.value (b ∷ [])) (sym (and_yes (enabled (held σ m) (some write)))) hy.0, always, hy.1))
-gate_makes σ m base known write (some enable) =
+gate_makes σ m base known write None = makes_bind (asserted_once_lem m base known write) (λ y env₁ k₁ hy. makes_pure (subst (λ (b : Bool). Is env₁ y.value (b ∷ [])) (sym (and_yes (enabled (held σ m) (Some write)))) hy.0, always, hy.1))
+gate_makes σ m base known write (Some enable) =
     makes_bind (asserted_once_lem m base known write) (λ y env₁ k₁ hy.
     makes_bind (asserted_once_lem m (base_keeps k₁ base) hy.1 enable) (λ c env₂ k₂ hc.
     makes_bind (and_value σ (k₂ _ _ hy.0) hc.0) (λ g env₃ k₃ hg. makes_pure (hg, given (k₃ _ _ hc.0), known_keeps k₃ hc.1))))
@@ -310,8 +310,8 @@ module _ {K : Type 0} (κ : K → Tick) (Ω : K → Values) (m : Wires) (z : Con
 
   second_exprs_lem : (o : Option SecondPort) {env : K → Values} {seen : Seen} → Bases env → Knowns κ m env seen
       → Settles κ Ω env (second_exprs m seen shift aw o) (λ p env'. ((k : K) → SecondIs (env' k) p.value (second o k)) × Knowns κ m env' p.seen)
-  second_exprs_lem none base known = settles_pure (λ k. tt, known)
-  second_exprs_lem (some q) base known =
+  second_exprs_lem None base known = settles_pure (λ k. tt, known)
+  second_exprs_lem (Some q) base known =
       settles_bind (settles_makes (λ k. vector_once_lem m q.address shift aw (base k) (known k))) (λ a env₁ k₁ ha.
       let b₁ = bases_keep k₁ base in
       settles_bind (settles_makes (λ k. vector_once_lem m q.input 0 (length q.input) (b₁ k) (ha k).1)) (λ d env₂ k₂ hd.
@@ -324,16 +324,16 @@ module _ {K : Type 0} (κ : K → Tick) (Ω : K → Values) (m : Wires) (z : Con
   second_read : (r : BlockRam) (a : K → PortValue) (o : Option SecondPort) (p : Option PortExprs) (seen : Seen) (ws : List Word) (clock edge : ℕ) {env : K → Values} → IsSecond o p → ((k : K) → SecondIs (env k) p (second o k))
       → Knowns κ m env seen → FitsOption (SecondOwned m r) o → ((k : K) → WordsAre (κ k).before r.width aw (a k) (second o k) (env k) 0 ws)
       → Settles κ Ω env (emit_second_read_port m z p (own_read seen (second_output o)) ws r.width aw clock edge) (λ u env'. (k : K) → SecondRead (κ k) m z r.width aw shift (a k) (second o k) o (signals_in ws) clock edge)
-  second_read r a none none seen ws clock edge q h known f w = settles_pure (λ k. tt)
-  second_read r a none (some p) seen ws clock edge q h known f w = absurd (let e : ◌≡◌ {A = ℕ} 0 1 = cc in omega arith)
-  second_read r a (some q) none seen ws clock edge e h known f w = absurd (let y : none ≡ some e.0 = e.1 in let x : ◌≡◌ {A = ℕ} 0 1 = cc in omega arith)
-  second_read r a (some q) (some p) seen ws clock edge {env} e h known f w =
+  second_read r a None None seen ws clock edge q h known f w = settles_pure (λ k. tt)
+  second_read r a None (Some p) seen ws clock edge q h known f w = absurd (let e : ◌≡◌ {A = ℕ} 0 1 = cc in omega arith)
+  second_read r a (Some q) None seen ws clock edge e h known f w = absurd (let y : None ≡ Some e.0 = e.1 in let x : ◌≡◌ {A = ℕ} 0 1 = cc in omega arith)
+  second_read r a (Some q) (Some p) seen ws clock edge {env} e h known f w =
       let same : p ≡ e.0 = some_is p e.0 e.1 in
       let outputs : p.read_data ≡ q.output = ap (λ (x : PortExprs). x.read_data) same ∙ e.2 in
       let own : (k : K) → OwnIs (κ k).before m r.width (get_or p.read_data 0 0) (env k) (own_read seen q.output) = λ k. subst (λ (o : List ℕ). OwnIs (κ k).before m r.width (get_or o 0 0) (env k) (own_read seen q.output)) (sym outputs) (own_is q.output (known k) f.owned) in
-      settles_so (read_port_equation κ Ω m z r.width aw a (second (some q)) p (own_read seen q.output) q.clock_enable (λ k. values_at (now (κ k) m) q.address shift aw) ws clock edge (λ k. (h k).enabled_is) own (λ k. (h k).read_is) w) (λ u env₁ k₁ x k.
-      subst (λ (o : List ℕ). ReadPort (κ k) m z r.width aw (a k) (second (some q) k) o q.read_enable q.clock_enable (values_at (now (κ k) m) q.address shift aw) (signals_in ws) clock edge) outputs
-      (subst (λ (o : Option Control). ReadPort (κ k) m z r.width aw (a k) (second (some q) k) p.read_data o q.clock_enable (values_at (now (κ k) m) q.address shift aw) (signals_in ws) clock edge) (ap (λ (x : PortExprs). x.read_enable) same ∙ e.3) (x k)))
+      settles_so (read_port_equation κ Ω m z r.width aw a (second (Some q)) p (own_read seen q.output) q.clock_enable (λ k. values_at (now (κ k) m) q.address shift aw) ws clock edge (λ k. (h k).enabled_is) own (λ k. (h k).read_is) w) (λ u env₁ k₁ x k.
+      subst (λ (o : List ℕ). ReadPort (κ k) m z r.width aw (a k) (second (Some q) k) o q.read_enable q.clock_enable (values_at (now (κ k) m) q.address shift aw) (signals_in ws) clock edge) outputs
+      (subst (λ (o : Option Control). ReadPort (κ k) m z r.width aw (a k) (second (Some q) k) p.read_data o q.clock_enable (values_at (now (κ k) m) q.address shift aw) (signals_in ws) clock edge) (ap (λ (x : PortExprs). x.read_enable) same ∙ e.3) (x k)))
 
 -- a block RAM in a tick, whose words have these signals
 pub record Remembered (κ : Tick) (m : Wires) (z : Constants) (r : BlockRam) (words : List ℕ) : Type 0 where
@@ -393,36 +393,36 @@ updated_snoc κ width aw a b clock edge index i [] w p h t =
 updated_snoc κ width aw a b clock edge index i (x ∷ ws) w p h t = (h.0, updated_snoc κ width aw a b clock edge (suc index) i ws w (omega (arith, p)) h.1 t)
 
 record DramWords {K : Type 0} (κ : K → Tick) (a : K → PortValue) (clock edge left : ℕ) (before : List Word) (env : K → Values) (ws : List Word) : Type 0 where
-  words_are : (k : K) → WordsAre (κ k).before 4 4 (a k) none (env k) 0 ws
-  updated : (k : K) → Updated (κ k) 4 4 (a k) none clock edge 0 (signals_in ws)
+  words_are : (k : K) → WordsAre (κ k).before 4 4 (a k) None (env k) 0 ws
+  updated : (k : K) → Updated (κ k) 4 4 (a k) None clock edge 0 (signals_in ws)
   count : length ws ≡ length before + left
 
 module _ {K : Type 0} (κ : K → Tick) (Ω : K → Values) (p : PortExprs) (a : K → PortValue) (owner clock edge : ℕ) where
-  dram_words_lem : (left index : ℕ) (ws : List Word) {env : K → Values} → index ≡ length ws → ((k : K) → PortIs (env k) p (a k)) → ((k : K) → WordsAre (κ k).before 4 4 (a k) none (env k) 0 ws) → ((k : K) → Updated (κ k) 4 4 (a k) none clock edge 0 (signals_in ws))
+  dram_words_lem : (left index : ℕ) (ws : List Word) {env : K → Values} → index ≡ length ws → ((k : K) → PortIs (env k) p (a k)) → ((k : K) → WordsAre (κ k).before 4 4 (a k) None (env k) 0 ws) → ((k : K) → Updated (κ k) 4 4 (a k) None clock edge 0 (signals_in ws))
       → Settles κ Ω env (dram_words p owner clock edge left index ws) (λ vs env'. DramWords κ a clock edge left ws env' vs)
   unfolding dram_words
   dram_words_lem zero index ws q hp h u = settles_pure (record { words_are = h; updated = u; count = omega arith })
   dram_words_lem (suc left) index ws q hp h u =
-      settles_bind (settles_makes (λ k. word_makes (κ k).before 4 4 (a k) none p none owner index (hp k) tt)) (λ w env₁ k₁ hw.
+      settles_bind (settles_makes (λ k. word_makes (κ k).before 4 4 (a k) None p None owner index (hp k) tt)) (λ w env₁ k₁ hw.
       settles_bind
-      (settles_state {env = env₁} {P = λ x env'. (k : K) → NewWord (κ k) 4 4 (a k) none clock edge index w.signal}
+      (settles_state {env = env₁} {P = λ x env'. (k : K) → NewWord (κ k) 4 4 (a k) None clock edge index w.signal}
       (λ kp s k. record { registered = (s k).1; taken = (s k).0 ∙ ap₂ (λ (x : Bool) (y : Bits). pick x y ((κ k).before w.signal)) (and_yes ((κ k).fires clock edge)) (kp k _ _ (hw k).next_is).value }))
       (λ x env₂ k₂ t.
       settles_so
       (dram_words_lem left (suc index) (ws ++ (w ∷ [])) (omega (arith, q, length-append ws (w ∷ []))) (λ k. keep_port (k₂ k) (keep_port (k₁ k) (hp k)))
-      (λ k. words_snoc (κ k).before 4 4 (a k) none (env₂ k) 0 index ws w (omega (arith, q)) (keep_words (κ k).before 4 4 (a k) none (k₂ k) 0 ws (keep_words (κ k).before 4 4 (a k) none (k₁ k) 0 ws (h k))) (record { current_is = k₂ k _ _ (hw k).current_is; next_is = k₂ k _ _ (hw k).next_is }))
-      (λ k. updated_snoc (κ k) 4 4 (a k) none clock edge 0 index ws w (omega (arith, q)) (u k) (t k)))
+      (λ k. words_snoc (κ k).before 4 4 (a k) None (env₂ k) 0 index ws w (omega (arith, q)) (keep_words (κ k).before 4 4 (a k) None (k₂ k) 0 ws (keep_words (κ k).before 4 4 (a k) None (k₁ k) 0 ws (h k))) (record { current_is = k₂ k _ _ (hw k).current_is; next_is = k₂ k _ _ (hw k).next_is }))
+      (λ k. updated_snoc (κ k) 4 4 (a k) None clock edge 0 index ws w (omega (arith, q)) (u k) (t k)))
       (λ vs env₃ k₃ r. record { words_are = r.words_are; updated = r.updated; count = omega (arith, r.count, length-append ws (w ∷ [])) })))
 
-dram_select_lem : (σ : Signals) (a : PortValue) (address : ℕ) (at : Bits) (index : ℕ) (ws : List Word) (now : ℕ) (v : Bits) {env : Values} → Is env address at → WordsAre σ 4 4 a none env index ws → Is env now v
-    → Means σ env (dram_select address index ws now) (last_choice (choices σ 4 4 a none at index (signals_in ws)) v)
+dram_select_lem : (σ : Signals) (a : PortValue) (address : ℕ) (at : Bits) (index : ℕ) (ws : List Word) (now : ℕ) (v : Bits) {env : Values} → Is env address at → WordsAre σ 4 4 a None env index ws → Is env now v
+    → Means σ env (dram_select address index ws now) (last_choice (choices σ 4 4 a None at index (signals_in ws)) v)
 unfolding dram_select
 dram_select_lem σ a address at index [] now v i h n = makes_pure n
 dram_select_lem σ a address at index (w ∷ ws) now v i h n =
     makes_bind (means_emit {x = const 4 index} refl) (λ k env₁ k₁ hk.
     makes_bind (means_emit (ap₂ (λ (x y : Bits). same_bits x y ∷ []) (k₁ _ _ i).value hk.value)) (λ e env₂ k₂ he.
     makes_bind (mux_value σ he (k₂ _ _ (k₁ _ _ h.0.current_is)) (k₂ _ _ (k₁ _ _ n))) (λ x env₃ k₃ hx.
-    dram_select_lem σ a address at (suc index) ws x _ (k₃ _ _ (k₂ _ _ (k₁ _ _ i))) (keep_words σ 4 4 a none k₃ (suc index) ws (keep_words σ 4 4 a none k₂ (suc index) ws (keep_words σ 4 4 a none k₁ (suc index) ws h.1))) hx)))
+    dram_select_lem σ a address at (suc index) ws x _ (k₃ _ _ (k₂ _ _ (k₁ _ _ i))) (keep_words σ 4 4 a None k₃ (suc index) ws (keep_words σ 4 4 a None k₂ (suc index) ws (keep_words σ 4 4 a None k₁ (suc index) ws h.1))) hx)))
 
 abbrev pub dram_value : Valuation → DistributedRam → PortValue
 dram_value v r = record { address = values_at v r.write_address 0 4; word = values_at v r.input 0 4; asserted = asserted v r.write.signal r.write.active; read_at = values_at v r.read_address 0 4; enabled = true }
@@ -431,8 +431,8 @@ dram_value v r = record { address = values_at v r.write_address 0 4; word = valu
 pub record Distributed (κ : Tick) (m : Wires) (z : Constants) (r : DistributedRam) (words : List ℕ) : Type 0 where
   pub clock : ℕ
   pub clock_is : IsSignal m z r.clock clock
-  pub updated : Updated κ 4 4 (dram_value (now κ m) r) none clock r.edge 0 words
-  pub shown : Driven κ.before m (get_or r.output 0 0) (last_choice (choices κ.before 4 4 (dram_value (now κ m) r) none (values_at (now κ m) r.read_address 0 4) 0 words) (binary 4 0))
+  pub updated : Updated κ 4 4 (dram_value (now κ m) r) None clock r.edge 0 words
+  pub shown : Driven κ.before m (get_or r.output 0 0) (last_choice (choices κ.before 4 4 (dram_value (now κ m) r) None (values_at (now κ m) r.read_address 0 4) 0 words) (binary 4 0))
 
 module _ {K : Type 0} (κ : K → Tick) (Ω : K → Values) (m : Wires) (z : Constants) where
   pub distributed_ram_equation : (owner : ℕ) (r : DistributedRam) {env : K → Values} {seen : Seen} → Bases env → Knowns κ m env seen → Settles κ Ω env (emit_distributed_ram m z seen owner r) (λ u env'. Stored (λ k. Distributed (κ k) m z r) 16)
@@ -447,10 +447,10 @@ module _ {K : Type 0} (κ : K → Tick) (Ω : K → Values) (m : Wires) (z : Con
       let b₃ = bases_keep k₃ b₂ in
       settles_bind (settles_makes (λ k. asserted_once_lem m (b₃ k) (hd k).1 r.write)) (λ y env₄ k₄ hy.
       settles_bind (settles_gets (signal_gets m z r.clock)) (λ clock env₅ k₅ hc.
-      let p : PortExprs = record { write_address = wa.value; write_data = d.value; write_asserted = y.value; read_address = ra.value; read_data = r.output; read_enable = none; clock_enabled = none } in
+      let p : PortExprs = record { write_address = wa.value; write_data = d.value; write_asserted = y.value; read_address = ra.value; read_data = r.output; read_enable = None; clock_enabled = None } in
       let hp : (k : K) → PortIs (env₅ k) p (va k) = λ k. record { address_is = k₅ k _ _ (k₄ k _ _ (k₃ k _ _ (k₂ k _ _ (hwa k).0))); word_is = k₅ k _ _ (k₄ k _ _ (hd k).0); asserted_is = k₅ k _ _ (hy k).0; read_is = k₅ k _ _ (k₄ k _ _ (k₃ k _ _ (hra k).0)); enabled_is = always } in
       settles_bind (dram_words_lem κ Ω p va owner clock r.edge 16 0 [] refl hp (λ k. tt) (λ k. tt)) (λ ws env₆ k₆ hw.
       settles_bind (settles_makes (λ k. means_emit {x = const 4 0} refl)) (λ e env₇ k₇ he.
-      settles_bind (settles_makes (λ k. dram_select_lem (κ k).before (va k) ra.value (values_at (now (κ k) m) r.read_address 0 4) 0 ws e (binary 4 0) (k₇ k _ _ (k₆ k _ _ (hp k).read_is)) (keep_words (κ k).before 4 4 (va k) none (k₇ k) 0 ws (hw.words_are k)) (he k))) (λ v env₈ k₈ hv.
+      settles_bind (settles_makes (λ k. dram_select_lem (κ k).before (va k) ra.value (values_at (now (κ k) m) r.read_address 0 4) 0 ws e (binary 4 0) (k₇ k _ _ (k₆ k _ _ (hp k).read_is)) (keep_words (κ k).before 4 4 (va k) None (k₇ k) 0 ws (hw.words_are k)) (he k))) (λ v env₈ k₈ hv.
       settles_keeping y.seen (settles_so (assign_settles κ Ω m (get_or r.output 0 0) hv) (λ u env₉ k₉ dr.
       record { words = signals_in ws; count = length-map ws _ ∙ hw.count ∙ omega arith; stored = λ k. record { clock = clock; clock_is = hc; updated = hw.updated k; shown = dr k } }))))))))))

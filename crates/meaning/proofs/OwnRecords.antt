@@ -4,7 +4,7 @@ use mathlib.Core.Path.{◌≡◌, refl, sym, subst}
 use mathlib.Core.Logic.{inl, inr}
 use mathlib.Core.Bool.{Bool, true, false, ◌||◌, ◌&&◌}
 use mathlib.Core.List.{List, [], ◌∷◌, ◌++◌}
-use mathlib.Core.Option.{Option, none, some}
+use Rattle.std.specs.Prelude.{Option, None, Some}
 use Prim.Native.Nat.{ℕ, zero, suc, ◌+◌, ◌≤◌}
 use native.Mathlib.Omega.{arith}
 use lib.Dec.{eqb}
@@ -135,8 +135,8 @@ module _ {f : ℕ} (m : Wires) where
   local_ref w = go (m w)
     where
       go : (o : Option WireRef) → Local f (ref_of o w) (λ r. Unit {0})
-      go none = local_refuse
-      go (some r) = local_pure tt
+      go None = local_refuse
+      go (Some r) = local_pure tt
 
   local_bit : (b : Bit) → Local f (bit_expression m b) (OfTheCell f)
   unfolding bit_expression
@@ -157,8 +157,8 @@ module _ {f : ℕ} (m : Wires) where
   local_once {seen} stood (Wire w) = go (standing seen w) refl
     where
       go : (o : Option ℕ) → standing seen w ≡ o → Local f (read_once o m seen w) (Once f)
-      go none q = local_bind (local_bit (Wire w)) (λ e h. local_pure (h, record { all = noted_stand (λ (v d : ℕ). OfTheCell f d) seen w e stood.all h }))
-      go (some e) q = local_pure (stood.all w e q, stood)
+      go None q = local_bind (local_bit (Wire w)) (λ e h. local_pure (h, record { all = noted_stand (λ (v d : ℕ). OfTheCell f d) seen w e stood.all h }))
+      go (Some e) q = local_pure (stood.all w e q, stood)
 
   local_asserted : {seen : Seen} → Stood f seen → (c : Control) → Local f (asserted_once m seen c) (Once f)
   unfolding asserted_once
@@ -300,8 +300,8 @@ OfWords f [] = Unit {0}
 OfWords f (w ∷ ws) = (OfTheCell f w.current × OfTheCell f w.next) × OfWords f ws
 
 unfoldable OfOption : ℕ → Option ℕ → Type 0
-OfOption f none = Unit {0}
-OfOption f (some e) = OfTheCell f e
+OfOption f None = Unit {0}
+OfOption f (Some e) = OfTheCell f e
 
 record OfPort (f : ℕ) (p : PortExprs) : Type 0 where
   write_address : OfTheCell f p.write_address
@@ -311,8 +311,8 @@ record OfPort (f : ℕ) (p : PortExprs) : Type 0 where
   clock_enabled : OfOption f p.clock_enabled
 
 unfoldable OfSecond : ℕ → Option PortExprs → Type 0
-OfSecond f none = Unit {0}
-OfSecond f (some p) = OfPort f p
+OfSecond f None = Unit {0}
+OfSecond f (Some p) = OfPort f p
 
 module _ {f : ℕ} where
   nodes_snoc : (ns : List Node) (n : Node) → OfNodes f ns → OfTheCell f n.matched → OfTheCell f n.value → OfNodes f (ns ++ (n ∷ []))
@@ -349,8 +349,8 @@ module _ {f : ℕ} where
 
   local_second : (o : Option PortExprs) (width aw index now : ℕ) → OfSecond f o → OfTheCell f now → Local f (write_second o width aw index now) (OfTheCell f)
   unfolding OfSecond
-  local_second none width aw index now h k = local_pure k
-  local_second (some p) width aw index now h k = local_write p width aw index now h k
+  local_second None width aw index now h k = local_pure k
+  local_second (Some p) width aw index now h k = local_write p width aw index now h k
 
   local_word : (a : PortExprs) (b : Option PortExprs) (owner width aw index : ℕ) → OfPort f a → OfSecond f b → Local f (ram_word a b owner width aw index) (λ w. OfTheCell f w.current × OfTheCell f w.next)
   unfolding ram_word
@@ -371,13 +371,13 @@ module _ {f : ℕ} where
 
   local_own : (o : Option ℕ) (width target : ℕ) → OfOption f o → Local f (own_expression o width target) (OfTheCell f)
   unfolding OfOption
-  local_own none width target h = local_emit tt
-  local_own (some e) width target h = local_pure h
+  local_own None width target h = local_emit tt
+  local_own (Some e) width target h = local_pure h
 
   local_next : (o own : Option ℕ) (width target word : ℕ) → OfOption f o → OfOption f own → OfTheCell f word → Local f (next_read o own width target word) (OfTheCell f)
   unfolding OfOption
-  local_next none own width target word h g k = local_pure k
-  local_next (some c) own width target word h g k = local_bind (local_own own width target g) (λ o ho. local_emit (h, (k, (ho, tt))))
+  local_next None own width target word h g k = local_pure k
+  local_next (Some c) own width target word h g k = local_bind (local_own own width target g) (λ o ho. local_emit (h, (k, (ho, tt))))
 
   own_stands : {seen : Seen} → Stood f seen → (ws : List ℕ) → OfOption f (own_read seen ws)
   unfolding OfOption
@@ -385,14 +385,14 @@ module _ {f : ℕ} where
   own_stands {seen} stood (w ∷ []) = go (standing seen w) refl
     where
       go : (o : Option ℕ) → standing seen w ≡ o → OfOption f o
-      go none q = tt
-      go (some e) q = stood.all w e q
+      go None q = tt
+      go (Some e) q = stood.all w e q
   own_stands stood (w ∷ v ∷ ws) = tt
 
 module _ {f : ℕ} (m : Wires) (z : Constants) where
   local_enable : (o : Option Control) → Local f (enable_of m z o) (λ e. Unit {0})
-  local_enable none = local_pure tt
-  local_enable (some c) = local_bind (local_signal m z c.signal) (λ s u. local_pure tt)
+  local_enable None = local_pure tt
+  local_enable (Some c) = local_bind (local_signal m z c.signal) (λ s u. local_pure tt)
 
   local_port : (p : PortExprs) (own : Option ℕ) (ws : List Word) (width aw clock edge : ℕ) → OfPort f p → OfOption f own → OfWords f ws → Local f (emit_block_ram_read_port m z p own ws width aw clock edge) (λ u. Unit {0})
   unfolding emit_block_ram_read_port
@@ -402,8 +402,8 @@ module _ {f : ℕ} (m : Wires) (z : Constants) where
 
   local_second_port : (o : Option PortExprs) (own : Option ℕ) (ws : List Word) (width aw clock edge : ℕ) → OfSecond f o → OfOption f own → OfWords f ws → Local f (emit_second_read_port m z o own ws width aw clock edge) (λ u. Unit {0})
   unfolding OfSecond
-  local_second_port none own ws width aw clock edge hp ho hw = local_pure tt
-  local_second_port (some p) own ws width aw clock edge hp ho hw = local_port p own ws width aw clock edge hp ho hw
+  local_second_port None own ws width aw clock edge hp ho hw = local_pure tt
+  local_second_port (Some p) own ws width aw clock edge hp ho hw = local_port p own ws width aw clock edge hp ho hw
 
   local_updates : (ws : List Word) (clock edge : ℕ) → OfWords f ws → Local f (update_words ws clock edge) (λ u. Unit {0})
   unfolding update_words OfWords
@@ -412,13 +412,13 @@ module _ {f : ℕ} (m : Wires) (z : Constants) where
 
   local_gate : {seen : Seen} → Stood f seen → (write : Control) (o : Option Control) → Local f (gate m seen write o) (λ r. (OfTheCell f r.value.write_asserted × OfOption f r.value.clock_enabled) × Stood f r.seen)
   unfolding gate OfOption
-  local_gate stood write none = local_bind (local_asserted m stood write) (λ y h. local_pure ((h.0, tt), h.1))
-  local_gate stood write (some c) = local_bind (local_asserted m stood write) (λ y h. local_bind (local_asserted m h.1 c) (λ e he. local_bind (local_emit (h.0, (he.0, tt))) (λ g hg. local_pure ((hg, he.0), he.1))))
+  local_gate stood write None = local_bind (local_asserted m stood write) (λ y h. local_pure ((h.0, tt), h.1))
+  local_gate stood write (Some c) = local_bind (local_asserted m stood write) (λ y h. local_bind (local_asserted m h.1 c) (λ e he. local_bind (local_emit (h.0, (he.0, tt))) (λ g hg. local_pure ((hg, he.0), he.1))))
 
   local_exprs : {seen : Seen} → Stood f seen → (shift aw : ℕ) (o : Option SecondPort) → Local f (second_exprs m seen shift aw o) (λ r. OfSecond f r.value × Stood f r.seen)
   unfolding OfSecond
-  local_exprs stood shift aw none = local_pure (tt, stood)
-  local_exprs stood shift aw (some p) =
+  local_exprs stood shift aw None = local_pure (tt, stood)
+  local_exprs stood shift aw (Some p) =
       local_bind (local_vector m stood p.address shift aw) (λ a ha. local_bind (local_vector m ha.1 p.input 0 (length p.input)) (λ d hd. local_bind (local_gate hd.1 p.write p.clock_enable) (λ g hg.
       local_pure (record { write_address = ha.0; write_data = hd.0; write_asserted = hg.0.0; read_address = ha.0; clock_enabled = hg.0.1 }, hg.1))))
 
@@ -439,7 +439,7 @@ module _ {f : ℕ} (m : Wires) (z : Constants) where
   unfolding dram_words
   local_dram_words p owner clock edge zero index ws hp h = local_pure h
   local_dram_words p owner clock edge (suc left) index ws hp h =
-      local_bind (local_word p none owner 4 4 index hp (unfold OfSecond in tt)) (λ w q. local_bind (local_state (q.1, tt)) (λ u v. local_dram_words p owner clock edge left (suc index) (ws ++ (w ∷ [])) hp (words_snoc ws w h q)))
+      local_bind (local_word p None owner 4 4 index hp (unfold OfSecond in tt)) (λ w q. local_bind (local_state (q.1, tt)) (λ u v. local_dram_words p owner clock edge left (suc index) (ws ++ (w ∷ [])) hp (words_snoc ws w h q)))
 
   local_select : (address index : ℕ) (ws : List Word) (now : ℕ) → OfTheCell f address → OfWords f ws → OfTheCell f now → Local f (dram_select address index ws now) (OfTheCell f)
   unfolding dram_select OfWords
@@ -452,7 +452,7 @@ module _ {f : ℕ} (m : Wires) (z : Constants) where
   local_dram stood owner r =
       local_bind (local_vector m stood r.write_address 0 4) (λ wa hwa. local_bind (local_vector m hwa.1 r.read_address 0 4) (λ ra hra. local_bind (local_vector m hra.1 r.input 0 4) (λ d hd. local_bind (local_asserted m hd.1 r.write) (λ y hy.
       local_bind (local_signal m z r.clock) (λ clock u.
-      let p : PortExprs = record { write_address = wa.value; write_data = d.value; write_asserted = y.value; read_address = ra.value; read_data = r.output; read_enable = none; clock_enabled = none } in
+      let p : PortExprs = record { write_address = wa.value; write_data = d.value; write_asserted = y.value; read_address = ra.value; read_data = r.output; read_enable = None; clock_enabled = None } in
       let hp : OfPort f p = record { write_address = hwa.0; write_data = hd.0; write_asserted = hy.0; read_address = hra.0; clock_enabled = unfold OfOption in tt } in
       local_bind (local_dram_words p owner clock r.edge 16 0 [] hp (unfold OfWords in tt)) (λ ws hw.
       local_bind (local_emit tt) (λ e he. local_bind (local_select ra.value 0 ws e hra.0 hw he) (λ v hv. last_local _ (local_assign m (get_or r.output 0 0) v hv)))))))))

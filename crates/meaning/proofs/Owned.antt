@@ -9,7 +9,7 @@ use mathlib.Core.List.Memᴰ.{head as here}
 use mathlib.Core.List.Memᴰ.{tail as there}
 use mathlib.Core.List.Memᴰ.{not-nil}
 use mathlib.Core.List.{List, [], ◌∷◌, ◌++◌, map, Memᴰ as Mem}
-use mathlib.Core.Option.{Option, none, some}
+use Rattle.std.specs.Prelude.{Option, None, Some}
 use Prim.Native.Nat.{ℕ, suc, ◌≤◌, ◌<◌}
 use native.Mathlib.Omega.{arith}
 use lib.ListN.{length, get_or}
@@ -27,12 +27,12 @@ use Rattle.meaning.proofs.Placing.{placed, each_mem, all_keeps}
 -- the wires of a read register
 pub record Owned (m : Wires) (width : ℕ) (output : List ℕ) : Type 0 where
   pub wide : length output ≡ width
-  pub lowest : (r : WireRef) → m (get_or output 0 0) ≡ some r → r.lsb ≡ 0
+  pub lowest : (r : WireRef) → m (get_or output 0 0) ≡ Some r → r.lsb ≡ 0
 
 -- the second port's
 pub record SecondOwned (m : Wires) (r : BlockRam) (p : SecondPort) : Type 0 where
   pub owned : Owned m r.width p.output
-  pub apart : (q s : WireRef) → m (get_or r.output 0 0) ≡ some q → m (get_or p.output 0 0) ≡ some s → q.signal ≡ s.signal → ⊥
+  pub apart : (q s : WireRef) → m (get_or r.output 0 0) ≡ Some q → m (get_or p.output 0 0) ≡ Some s → q.signal ≡ s.signal → ⊥
 
 abbrev pub ReadsOwned : Wires → Cell → Type 0
 ReadsOwned m (lut4 i o t) = Unit {0}
@@ -63,24 +63,24 @@ ram_slots (y ∷ cells) c held r e = go (cases_cons e) (ram_slots cells (suc c) 
 record Pinned (held : List Slot) (m : Wires) (c k : ℕ) (ws : List ℕ) : Type 0 where
   number : ℕ
   source : (get_or held number no_slot).source ≡ pins c k
-  first : (r : WireRef) → m (get_or ws 0 0) ≡ some r → (r.signal ≡ number) × (r.lsb ≡ 0)
+  first : (r : WireRef) → m (get_or ws 0 0) ≡ Some r → (r.signal ≡ number) × (r.lsb ≡ 0)
 
 pinned : {held : List Slot} {ss : List Signal} {m : Wires} (c k : ℕ) (ws : List ℕ) → Mapping held ss m → 1 ≤ length ws → Mem (record { source = pins c k; bits = map Wire ws }) held → Pinned held m c k ws
 pinned c k [] h l e = absurd (omega (arith, l))
 pinned {held} {ss} {m} c k (w ∷ ws) h l e =
     let x : Slot = record { source = pins c k; bits = map Wire (w ∷ ws) } in
     let p = placed held x e in
-    let at : find w held 0 ≡ some (entry_of held p.number 0) = h.apart p.number 0 w p.inside (subst (λ (y : Slot). 0 < length y.bits) (sym p.is) (omega arith)) (ap (λ (y : Slot). get_or y.bits 0 Zero) p.is) in
+    let at : find w held 0 ≡ Some (entry_of held p.number 0) = h.apart p.number 0 w p.inside (subst (λ (y : Slot). 0 < length y.bits) (sym p.is) (omega arith)) (ap (λ (y : Slot). get_or y.bits 0 Zero) p.is) in
     record {
       number = p.number;
       source = ap (λ (y : Slot). y.source) p.is;
       first = λ r q. let z = some_is (sym (ap ref_of at) ∙ sym (h.finds w) ∙ q) in (sym (ap (λ (y : WireRef). y.signal) z), sym (ap (λ (y : WireRef). y.lsb) z));
     }
   where
-    some_is : {a b : WireRef} → some a ≡ some b → a ≡ b
+    some_is : {a b : WireRef} → Some a ≡ Some b → a ≡ b
     some_is q = cc
 
-pins_apart : {held : List Slot} {m : Wires} {c k j : ℕ} {ws vs : List ℕ} → Pinned held m c k ws → Pinned held m c j vs → k < j → (q s : WireRef) → m (get_or ws 0 0) ≡ some q → m (get_or vs 0 0) ≡ some s → q.signal ≡ s.signal → ⊥
+pins_apart : {held : List Slot} {m : Wires} {c k j : ℕ} {ws vs : List ℕ} → Pinned held m c k ws → Pinned held m c j vs → k < j → (q s : WireRef) → m (get_or ws 0 0) ≡ Some q → m (get_or vs 0 0) ≡ Some s → q.signal ≡ s.signal → ⊥
 pins_apart {held} {c = c} {k} {j} a b l q s e f g =
     let n : a.number ≡ b.number = sym (a.first q e).0 ∙ g ∙ (b.first s f).0 in
     let z : pins c k ≡ pins c j = sym a.source ∙ ap (λ (i : ℕ). (get_or held i no_slot).source) n ∙ b.source in
@@ -107,8 +107,8 @@ module _ (limits : Limits) (n : Netlist) (fits : Each (FitsCell limits) n.cells)
       first = pinned at.0 0 r.output mapped (omega (arith, f.output.0, f.width.0)) (there_of _ (here refl))
 
       second : (o : Option SecondPort) → FitsOption (FitsSecond limits r.width) o → r.second ≡ o → FitsOption (SecondOwned m r) o
-      second none g q = tt
-      second (some p) g q =
+      second None g q = tt
+      second (Some p) g q =
           let own : Pinned (slots n) m at.0 r.width p.output = pinned at.0 r.width p.output mapped (omega (arith, g.output.0, f.width.0)) (there_of _ (there (subst (λ (o : Option SecondPort). Mem (record { source = pins at.0 r.width; bits = map Wire p.output }) (second_slot at.0 r.width o)) (sym q) (here refl)))) in
           record { owned = record { wide = g.output.0; lowest = λ s i. (own.first s i).1 }; apart = pins_apart first own (omega (arith, f.width.0)) }
   one_owned (distributed_ram r) e f = tt

@@ -7,7 +7,8 @@ use mathlib.Core.List.Memᴰ.{append_left as mem-left}
 use mathlib.Core.List.Memᴰ.{cases_cons}
 use mathlib.Core.List.Memᴰ.{not-nil}
 use mathlib.Core.List.{List, [], ◌∷◌, ◌++◌, Memᴰ as Mem}
-use mathlib.Core.Option.{Option, none, some, some-ne-none}
+use Rattle.std.specs.Prelude.{Option, None, Some}
+use Rattle.bits.proofs.Options.{some_ne_none}
 use Prim.Native.Nat.{ℕ, suc, ◌<◌}
 use native.Mathlib.Omega.{arith}
 use lib.ListN.{length, get_or}
@@ -79,9 +80,9 @@ pub record Located (n : Netlist) (w : ℕ) (r : Ref) : Type 0 where
   pub width : r.width ≡ length (get_or (slots n) r.signal no_slot).bits
   pub within : r.lsb < length (get_or (slots n) r.signal no_slot).bits
   pub is : get_or (get_or (slots n) r.signal no_slot).bits r.lsb Zero ≡ Wire w
-  pub found : find w (slots n) 0 ≡ some (record { signal = r.signal; lowest = r.lsb; width = r.width; source = (get_or (slots n) r.signal no_slot).source })
+  pub found : find w (slots n) 0 ≡ Some (record { signal = r.signal; lowest = r.lsb; width = r.width; source = (get_or (slots n) r.signal no_slot).source })
 
-located_as : (n : Netlist) (w : ℕ) (q : WireRef) → find w (slots n) 0 ≡ some q → Located n w (record { signal = q.signal; lsb = q.lowest; width = q.width })
+located_as : (n : Netlist) (w : ℕ) (q : WireRef) → find w (slots n) 0 ≡ Some q → Located n w (record { signal = q.signal; lsb = q.lowest; width = q.width })
 located_as n w q e =
     let f : FoundAt w (slots n) 0 no_slot q = subst (FoundIs w (slots n) 0 no_slot) e (found_is w (slots n) 0 no_slot) in
     let z : f.at ≡ q.signal = omega (arith, f.signal) in
@@ -90,15 +91,15 @@ located_as n w q e =
       width = f.holds.width ∙ ap (λ (s : ℕ). length (get_or (slots n) s no_slot).bits) z;
       within = subst (λ (s : ℕ). q.lowest < length (get_or (slots n) s no_slot).bits) z f.holds.inside;
       is = ap (λ (s : ℕ). get_or (get_or (slots n) s no_slot).bits q.lowest Zero) (sym z) ∙ f.holds.is;
-      found = e ∙ ap (λ (x : Source). some (record { signal = q.signal; lowest = q.lowest; width = q.width; source = x })) (f.holds.source ∙ ap (λ (s : ℕ). (get_or (slots n) s no_slot).source) z);
+      found = e ∙ ap (λ (x : Source). Some (record { signal = q.signal; lowest = q.lowest; width = q.width; source = x })) (f.holds.source ∙ ap (λ (s : ℕ). (get_or (slots n) s no_slot).source) z);
     }
 
-pub located : (n : Netlist) (m : Wires) (ss : List Signal) → Mapping (slots n) ss m → (w : ℕ) (r : Ref) → m w ≡ some r → Located n w r
+pub located : (n : Netlist) (m : Wires) (ss : List Signal) → Mapping (slots n) ss m → (w : ℕ) (r : Ref) → m w ≡ Some r → Located n w r
 located n m ss h w r e = go (find w (slots n) 0) refl
   where
     go : (o : Option WireRef) → find w (slots n) 0 ≡ o → Located n w r
-    go none q = absurd (some-ne-none r (sym e ∙ h.finds w ∙ ap ref_of q))
-    go (some x) q =
-        let y : some r ≡ some (record { signal = x.signal; lsb = x.lowest; width = x.width }) = sym e ∙ h.finds w ∙ ap ref_of q in
+    go None q = absurd (some_ne_none r (sym e ∙ h.finds w ∙ ap ref_of q))
+    go (Some x) q =
+        let y : Some r ≡ Some (record { signal = x.signal; lsb = x.lowest; width = x.width }) = sym e ∙ h.finds w ∙ ap ref_of q in
         let z : r ≡ record { signal = x.signal; lsb = x.lowest; width = x.width } = cc in
         subst (Located n w) (sym z) (located_as n w x q)

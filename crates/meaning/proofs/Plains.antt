@@ -2,7 +2,7 @@
 -- Assumes nothing.
 use mathlib.Core.Path.{◌≡◌, refl}
 use mathlib.Core.List.{List, [], ◌∷◌, ◌++◌}
-use mathlib.Core.Option.{Option, none, some}
+use Rattle.std.specs.Prelude.{Option, None, Some}
 use Prim.Native.Nat.{ℕ, zero, suc}
 use lib.Dec.{eqb}
 use lib.Bits.{bit_xor}
@@ -67,8 +67,8 @@ module _ (m : Wires) where
   plain_ref w = go (m w)
     where
       go : (o : Option WireRef) → Plain (ref_of o w)
-      go none = plain_refuse
-      go (some r) = plain_pure
+      go None = plain_refuse
+      go (Some r) = plain_pure
 
   pub plain_signal : (z : Constants) (b : Bit) → Plain (bit_signal m z b)
   unfolding bit_signal
@@ -141,8 +141,8 @@ unfolding write_word
 plain_write p width aw index now = plain_bind (plain_emit refl) (λ k. plain_bind (plain_emit refl) (λ e. plain_bind (plain_emit refl) (λ y. plain_emit refl)))
 
 pub plain_second : (o : Option PortExprs) (width aw index now : ℕ) → Plain (write_second o width aw index now)
-plain_second none width aw index now = plain_pure
-plain_second (some p) width aw index now = plain_write p width aw index now
+plain_second None width aw index now = plain_pure
+plain_second (Some p) width aw index now = plain_write p width aw index now
 
 pub plain_candidates : (address aw index : ℕ) (ws : List Word) (ns : List Node) → Plain (candidates_from address aw index ws ns)
 unfolding candidates_from
@@ -150,8 +150,8 @@ plain_candidates address aw index [] ns = plain_pure
 plain_candidates address aw index (w ∷ ws) ns = plain_bind (plain_emit refl) (λ k. plain_bind (plain_emit refl) (λ e. plain_candidates address aw (suc index) ws (ns ++ (record { matched = e; value = w.current } ∷ []))))
 
 pub plain_enable : (m : Wires) (z : Constants) (o : Option Control) → Plain (enable_of m z o)
-plain_enable m z none = plain_pure
-plain_enable m z (some c) = plain_bind (plain_signal m z c.signal) (λ s. plain_pure)
+plain_enable m z None = plain_pure
+plain_enable m z (Some c) = plain_bind (plain_signal m z c.signal) (λ s. plain_pure)
 
 pub plain_select : (address index : ℕ) (ws : List Word) (now : ℕ) → Plain (dram_select address index ws now)
 unfolding dram_select

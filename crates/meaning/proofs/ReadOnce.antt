@@ -9,7 +9,8 @@ use mathlib.Core.List.Memᴰ.{head as here}
 use mathlib.Core.List.Memᴰ.{not-nil}
 use mathlib.Core.List.Memᴰ.{tail as there}
 use mathlib.Core.List.{List, [], ◌∷◌, ◌++◌, append_assoc, Memᴰ as Mem}
-use mathlib.Core.Option.{Option, none, some, some-ne-none}
+use Rattle.std.specs.Prelude.{Option, None, Some}
+use Rattle.bits.proofs.Options.{some_ne_none}
 use Prim.Native.Nat.{ℕ, zero, suc, ◌+◌, ◌≤◌, ◌<◌}
 use native.Mathlib.Omega.{arith}
 use lib.Dec.{eqb}
@@ -302,7 +303,7 @@ clean_last seen p s = clean_skip (skip_bind (skip_plain p) (λ a. skip_bind (s a
 -- a read of the signal of wire w
 record ReadOf (m : Wires) (f : WireRef → Read) (w : ℕ) (r : Read) : Type 0 where
   ref : WireRef
-  found : m w ≡ some ref
+  found : m w ≡ Some ref
   is : r ≡ f ref
 
 -- of its bit, and of the whole of a signal of this width
@@ -316,16 +317,16 @@ whole_of width q = record { width = width; signal = q.signal; lowest = 0 }
 record Taken (m : Wires) (seen : Seen) (r : Read) : Type 0 where
   wire : ℕ
   expr : ℕ
-  stands : standing seen wire ≡ some expr
+  stands : standing seen wire ≡ Some expr
   read : ReadOf m bit_of wire r
 
 module _ (m : Wires) {T : ℕ → Read → Type 0} {n : Count} where
-  wire_once : (w : ℕ) → ((q : WireRef) → m w ≡ some q → T n.signals (bit_of q) → ⊥) → Once T n (bit_expression m (Wire w)) (λ e k. k ≡ n.signals) (λ e k r. T k r ⊎ ReadOf m bit_of w r)
+  wire_once : (w : ℕ) → ((q : WireRef) → m w ≡ Some q → T n.signals (bit_of q) → ⊥) → Once T n (bit_expression m (Wire w)) (λ e k. k ≡ n.signals) (λ e k r. T k r ⊎ ReadOf m bit_of w r)
   unfolding bit_expression
   wire_once w f = once_bind (once_skip (skip_plain (plain_ref m w)) (ref_gets m w)) (λ q n₁ p.
       once_so (λ e k z. z ∙ p.1) (λ e k r t. of q p.0 k r t) (once_read (λ t. f q p.0 (subst (λ (k : ℕ). T k (bit_of q)) p.1 t))))
     where
-      of : (q : WireRef) → m w ≡ some q → (k : ℕ) (r : Read) → T k r ⊎ (r ≡ bit_of q) → T k r ⊎ ReadOf m bit_of w r
+      of : (q : WireRef) → m w ≡ Some q → (k : ℕ) (r : Read) → T k r ⊎ (r ≡ bit_of q) → T k r ⊎ ReadOf m bit_of w r
       of q i k r (inl t) = inl t
       of q i k r (inr e) = inr (record { ref = q; found = i; is = e })
 
@@ -351,13 +352,13 @@ module _ (limits : Limits) (m : Wires) where
     reads_after : Skips w → ((a : A) (n₁ : Count) → ReadsOnce seen n₁ (k a)) → ReadsOnce seen n (w >>= k)
     reads_after s g = once_bind (once_skip s (gets_any w)) (λ a n₁ p. once_so (λ b k q. (q.0, q.1 ∙ p.1)) (λ b k r t. t) (g a n₁))
 
-module _ (limits : Limits) (m : Wires) (apart : (v w : ℕ) (q r : WireRef) → m v ≡ some q → m w ≡ some r → q.signal ≡ r.signal → q.lsb ≡ r.lsb → v ≡ w) where
+module _ (limits : Limits) (m : Wires) (apart : (v w : ℕ) (q r : WireRef) → m v ≡ Some q → m w ≡ Some r → q.signal ≡ r.signal → q.lsb ≡ r.lsb → v ≡ w) where
   -- a wire that does not stand has not been read
-  not_taken : {seen : Seen} (w : ℕ) → standing seen w ≡ none → (q : WireRef) → m w ≡ some q → Taken m seen (bit_of q) → ⊥
+  not_taken : {seen : Seen} (w : ℕ) → standing seen w ≡ None → (q : WireRef) → m w ≡ Some q → Taken m seen (bit_of q) → ⊥
   not_taken {seen} w s q i t =
       let e = t.read.is in
       let z : w ≡ t.wire = apart w t.wire q t.read.ref i t.read.found (ap (λ (r : Read). r.signal) e) (ap (λ (r : Read). r.lowest) e) in
-      some-ne-none t.expr (sym t.stands ∙ ap (standing seen) (sym z) ∙ s)
+      some_ne_none t.expr (sym t.stands ∙ ap (standing seen) (sym z) ∙ s)
 
   once_bit : (b : Bit) {seen : Seen} {n : Count} → limits.wires ≤ length seen → FitsBit limits b → ReadsOnce limits m seen n (bit_once m seen b)
   unfolding bit_once
@@ -366,8 +367,8 @@ module _ (limits : Limits) (m : Wires) (apart : (v w : ℕ) (q r : WireRef) → 
   once_bit (Wire w) {seen} {n} long f = go (standing seen w) refl
     where
       go : (o : Option ℕ) → standing seen w ≡ o → ReadsOnce limits m seen n (read_once o m seen w)
-      go (some e) q = reads_pure limits m long
-      go none q =
+      go (Some e) q = reads_pure limits m long
+      go None q =
           once_bind (wire_once m w (not_taken w q)) (λ e n₁ p. once_pure (omega (arith, noted_long seen w e, long), p) (λ r t. then e r t))
         where
           then : (e : ℕ) (r : Read) → Taken m seen r ⊎ ReadOf m bit_of w r → Taken m (noted seen w e) r
@@ -420,15 +421,15 @@ module _ (limits : Limits) (m : Wires) (apart : (v w : ℕ) (q r : WireRef) → 
 
   once_gate : (write : Control) (o : Option Control) {seen : Seen} {n : Count} → limits.wires ≤ length seen → FitsControl limits write → FitsOption (FitsControl limits) o → ReadsOnce limits m seen n (gate m seen write o)
   unfolding gate
-  once_gate write none long f g = reads_bind limits m (once_asserted write long f) (λ y n₁ l. reads_pure limits m l)
-  once_gate write (some enable) long f g =
+  once_gate write None long f g = reads_bind limits m (once_asserted write long f) (λ y n₁ l. reads_pure limits m l)
+  once_gate write (Some enable) long f g =
       reads_bind limits m (once_asserted write long f) (λ y n₁ l.
       reads_bind limits m (once_asserted enable l g) (λ c n₂ l₂.
-      reads_skip limits m l₂ (λ g. record { write_asserted = g; clock_enabled = some c.value }) (skip_plain (plain_emit refl))))
+      reads_skip limits m l₂ (λ g. record { write_asserted = g; clock_enabled = Some c.value }) (skip_plain (plain_emit refl))))
 
   once_second : (shift aw width : ℕ) (o : Option SecondPort) {seen : Seen} {n : Count} → limits.wires ≤ length seen → FitsOption (FitsSecond limits width) o → ReadsOnce limits m seen n (second_exprs m seen shift aw o)
-  once_second shift aw width none long f = reads_pure limits m long
-  once_second shift aw width (some p) long f =
+  once_second shift aw width None long f = reads_pure limits m long
+  once_second shift aw width (Some p) long f =
       reads_bind limits m (once_vector p.address shift f.address.1 aw long) (λ a n₁ l.
       reads_bind limits m (once_vector p.input 0 f.input.1 (length p.input) l) (λ d n₂ l₂.
       reads_bind limits m (once_gate p.write p.clock_enable l₂ f.write f.clock_enable) (λ g n₃ l₃. reads_pure limits m l₃)))
@@ -464,7 +465,7 @@ module _ (base : ℕ) (S : Read → Type 0) (below : (r : Read) → S r → r.si
   unfolding dram_words
   once_dram p owner clock edge zero index ws h = once_pure h (λ r t. t)
   once_dram p owner clock edge (suc left) index ws h =
-      once_bind (once_word p none owner 4 4 index h) (λ w n₁ l.
+      once_bind (once_word p None owner 4 4 index h) (λ w n₁ l.
       once_bind (once_skip skip_state (gets_any _)) (λ u n₂ e. once_dram p owner clock edge left (suc index) (ws ++ (w ∷ [])) (omega (arith, e.1, l))))
 
 updates_skip : (ws : List Word) (clock edge : ℕ) → Skips (update_words ws clock edge)
@@ -474,17 +475,17 @@ updates_skip (w ∷ ws) clock edge = skip_bind skip_state (λ u. updates_skip ws
 
 -- a read port reads nothing, or its own signal
 module _ (m : Wires) (z : Constants) (S : Read → Type 0) where
-  once_next : (o own : Option ℕ) (width w word : ℕ) (q : WireRef) {n : Count} → m w ≡ some q → (own ≡ none → S (whole_of width q) → ⊥) → Once (λ k. S) n (next_read o own width q.signal word) (λ e k. Unit {0}) (λ e k r. S r ⊎ ReadOf m (whole_of width) w r)
-  once_next none own width w word q i f = once_pure tt (λ r t. inl t)
-  once_next (some c) (some e) width w word q i f = once_so (λ a k p. tt) (λ a k r t. inl t) (once_skip (skip_plain (plain_bind plain_pure (λ o. plain_emit refl))) (gets_any _))
-  once_next (some c) none width w word q i f =
+  once_next : (o own : Option ℕ) (width w word : ℕ) (q : WireRef) {n : Count} → m w ≡ Some q → (own ≡ None → S (whole_of width q) → ⊥) → Once (λ k. S) n (next_read o own width q.signal word) (λ e k. Unit {0}) (λ e k r. S r ⊎ ReadOf m (whole_of width) w r)
+  once_next None own width w word q i f = once_pure tt (λ r t. inl t)
+  once_next (Some c) (Some e) width w word q i f = once_so (λ a k p. tt) (λ a k r t. inl t) (once_skip (skip_plain (plain_bind plain_pure (λ o. plain_emit refl))) (gets_any _))
+  once_next (Some c) None width w word q i f =
       once_bind (once_read (f refl)) (λ o n₁ p. once_so (λ a k p. tt) (λ a k r t. of r t) (once_skip (skip_plain (plain_emit refl)) (gets_any _)))
     where
       of : (r : Read) → S r ⊎ (r ≡ whole_of width q) → S r ⊎ ReadOf m (whole_of width) w r
       of r (inl t) = inl t
       of r (inr e) = inr (record { ref = q; found = i; is = e })
 
-  once_port : (p : PortExprs) (own : Option ℕ) (ws : List Word) (width aw clock edge : ℕ) {n : Count} → (own ≡ none → (q : WireRef) → m (get_or p.read_data 0 0) ≡ some q → S (whole_of width q) → ⊥)
+  once_port : (p : PortExprs) (own : Option ℕ) (ws : List Word) (width aw clock edge : ℕ) {n : Count} → (own ≡ None → (q : WireRef) → m (get_or p.read_data 0 0) ≡ Some q → S (whole_of width q) → ⊥)
       → Once (λ k. S) n (emit_block_ram_read_port m z p own ws width aw clock edge) (λ u k. Unit {0}) (λ u k r. S r ⊎ ReadOf m (whole_of width) (get_or p.read_data 0 0) r)
   unfolding emit_block_ram_read_port
   once_port p own ws width aw clock edge f =
@@ -496,43 +497,43 @@ module _ (m : Wires) (z : Constants) (S : Read → Type 0) where
       once_bind (once_next p.clock_enabled own width (get_or p.read_data 0 0) v q p₄.0 (λ e. f e q p₄.0)) (λ x n₆ p₆.
       once_so (λ a k p. tt) (λ a k r t. t) (once_skip skip_state (gets_any _))))))))
 
-module _ (m : Wires) (apart : (v w : ℕ) (q r : WireRef) → m v ≡ some q → m w ≡ some r → q.signal ≡ r.signal → q.lsb ≡ r.lsb → v ≡ w) where
+module _ (m : Wires) (apart : (v w : ℕ) (q r : WireRef) → m v ≡ Some q → m w ≡ Some r → q.signal ≡ r.signal → q.lsb ≡ r.lsb → v ≡ w) where
   -- a read register's own signal has been read only if its one wire stands
-  own_new : {seen : Seen} {width : ℕ} (output : List ℕ) → Owned m width output → 1 ≤ width → own_read seen output ≡ none → (q : WireRef) → m (get_or output 0 0) ≡ some q → Taken m seen (whole_of width q) → ⊥
+  own_new : {seen : Seen} {width : ℕ} (output : List ℕ) → Owned m width output → 1 ≤ width → own_read seen output ≡ None → (q : WireRef) → m (get_or output 0 0) ≡ Some q → Taken m seen (whole_of width q) → ⊥
   own_new [] f h o q i t = omega (arith, f.wide, h)
   own_new {seen} (w ∷ []) f h o q i t =
       let e = t.read.is in
       let z : w ≡ t.wire = apart w t.wire q t.read.ref i t.read.found (ap (λ (r : Read). r.signal) e) (f.lowest q i ∙ ap (λ (r : Read). r.lowest) e) in
-      some-ne-none t.expr (sym t.stands ∙ ap (standing seen) (sym z) ∙ o)
+      some_ne_none t.expr (sym t.stands ∙ ap (standing seen) (sym z) ∙ o)
   own_new (w ∷ v ∷ ws) f h o q i t = let e : length (w ∷ v ∷ ws) ≡ 1 = f.wide ∙ ap (λ (r : Read). r.width) t.read.is in omega (arith, e)
 
-abbrev None : ℕ → Read → Type 0
-None k r = ⊥
+abbrev NoRead : ℕ → Read → Type 0
+NoRead k r = ⊥
 
 -- EVERY CELL: no two wires have the same place, and those of wires are the signals below `base`
-module _ (limits : Limits) (m : Wires) (apart : (v w : ℕ) (q r : WireRef) → m v ≡ some q → m w ≡ some r → q.signal ≡ r.signal → q.lsb ≡ r.lsb → v ≡ w) (base : ℕ) (below : (w : ℕ) (q : WireRef) → m w ≡ some q → q.signal < base) (z : Constants) where
+module _ (limits : Limits) (m : Wires) (apart : (v w : ℕ) (q r : WireRef) → m v ≡ Some q → m w ≡ Some r → q.signal ≡ r.signal → q.lsb ≡ r.lsb → v ≡ w) (base : ℕ) (below : (w : ℕ) (q : WireRef) → m w ≡ Some q → q.signal < base) (z : Constants) where
   taken_below : {seen : Seen} (r : Read) → Taken m seen r → r.signal < base
   taken_below r t = let e : r.signal ≡ t.read.ref.signal = ap (λ (x : Read). x.signal) t.read.is in omega (arith, below t.wire t.read.ref t.read.found)
 
   second_clean : (S : Read → Type 0) (r : BlockRam) (o : Option SecondPort) (b : Option PortExprs) (own : Option ℕ) (ws : List Word) (aw clock edge : ℕ) {n : Count} → IsSecond o b
-      → ((p : SecondPort) → o ≡ some p → own ≡ none → (q : WireRef) → m (get_or p.output 0 0) ≡ some q → S (whole_of r.width q) → ⊥)
+      → ((p : SecondPort) → o ≡ Some p → own ≡ None → (q : WireRef) → m (get_or p.output 0 0) ≡ Some q → S (whole_of r.width q) → ⊥)
       → Clean (λ k. S) n (emit_second_read_port m z b own ws r.width aw clock edge)
-  second_clean S r none none own ws aw clock edge h f = clean_skip (skip_plain plain_pure)
-  second_clean S r none (some p) own ws aw clock edge h f = absurd (let e : ◌≡◌ {A = ℕ} 0 1 = cc in omega arith)
-  second_clean S r (some q) none own ws aw clock edge h f = absurd (let y : none ≡ some h.0 = h.1 in let e : ◌≡◌ {A = ℕ} 0 1 = cc in omega arith)
-  second_clean S r (some q) (some p) own ws aw clock edge h f =
+  second_clean S r None None own ws aw clock edge h f = clean_skip (skip_plain plain_pure)
+  second_clean S r None (Some p) own ws aw clock edge h f = absurd (let e : ◌≡◌ {A = ℕ} 0 1 = cc in omega arith)
+  second_clean S r (Some q) None own ws aw clock edge h f = absurd (let y : None ≡ Some h.0 = h.1 in let e : ◌≡◌ {A = ℕ} 0 1 = cc in omega arith)
+  second_clean S r (Some q) (Some p) own ws aw clock edge h f =
       let outputs : q.output ≡ p.read_data = sym (ap (λ (x : PortExprs). x.read_data) (some_is p h.0 h.1) ∙ h.2) in
-      once_so (λ a k p. tt) (λ a k r t. tt) (once_port m z S p own ws r.width aw clock edge (λ e s i. f q refl e s (subst (λ (l : List ℕ). m (get_or l 0 0) ≡ some s) (sym outputs) i)))
+      once_so (λ a k p. tt) (λ a k r t. tt) (once_port m z S p own ws r.width aw clock edge (λ e s i. f q refl e s (subst (λ (l : List ℕ). m (get_or l 0 0) ≡ Some s) (sym outputs) i)))
 
   -- what has been read before the second port's own read: bits of wires, words, and the first port's own
   abbrev BeforeSecond : Seen → BlockRam → ℕ → Read → Type 0
   BeforeSecond seen r k x = Words base (Taken m seen) k x ⊎ ReadOf m (whole_of r.width) (get_or r.output 0 0) x
 
-  own_unread : {seen : Seen} (width k : ℕ) (output : List ℕ) → Owned m width output → 1 ≤ width → own_read seen output ≡ none → (q : WireRef) → m (get_or output 0 0) ≡ some q → Words base (Taken m seen) k (whole_of width q) → ⊥
+  own_unread : {seen : Seen} (width k : ℕ) (output : List ℕ) → Owned m width output → 1 ≤ width → own_read seen output ≡ None → (q : WireRef) → m (get_or output 0 0) ≡ Some q → Words base (Taken m seen) k (whole_of width q) → ⊥
   own_unread width k output f h o q i (inl t) = own_new m apart output f h o q i t
   own_unread width k output f h o q i (inr p) = omega (arith, p.0, below (get_or output 0 0) q i)
 
-  second_unread : {seen : Seen} (r : BlockRam) (p : SecondPort) (k : ℕ) → SecondOwned m r p → 1 ≤ r.width → own_read seen p.output ≡ none → (q : WireRef) → m (get_or p.output 0 0) ≡ some q
+  second_unread : {seen : Seen} (r : BlockRam) (p : SecondPort) (k : ℕ) → SecondOwned m r p → 1 ≤ r.width → own_read seen p.output ≡ None → (q : WireRef) → m (get_or p.output 0 0) ≡ Some q
       → BeforeSecond seen r k (whole_of r.width q) → ⊥
   second_unread r p k f h o q i (inl t) = own_unread r.width k p.output f.owned h o q i t
   second_unread r p k f h o q i (inr t) = f.apart t.ref q t.found i (ap (λ (x : Read). x.signal) (sym t.is))
@@ -553,7 +554,7 @@ module _ (limits : Limits) (m : Wires) (apart : (v w : ℕ) (q r : WireRef) → 
       once_from _ (λ x t. inl t) (once_bind (once_words base (Taken m b.seen) taken_below a b.value owner r.width aw r.depth 0 [] many₆) (λ ws n₇ p₇.
       once_from _ (λ x t. t) (once_bind (once_port m z (Words base (Taken m b.seen) n₇.signals) a (own_read b.seen r.output) ws r.width aw clock r.edge (own_unread r.width n₇.signals r.output own.0 f.width.0)) (λ u n₈ p₈.
       once_bind (second_clean (BeforeSecond b.seen r n₇.signals) r r.second b.value (own_read b.seen (second_output r.second)) ws aw clock r.edge p₅.0
-      (λ p e o q i. second_unread r p n₇.signals (subst (FitsOption (SecondOwned m r)) e own.1) f.width.0 (subst (λ (x : Option SecondPort). own_read b.seen (second_output x) ≡ none) e o) q i)) (λ u n₉ p₉.
+      (λ p e o q i. second_unread r p n₇.signals (subst (FitsOption (SecondOwned m r)) e own.1) f.width.0 (subst (λ (x : Option SecondPort). own_read b.seen (second_output x) ≡ None) e o) q i)) (λ u n₉ p₉.
       clean_skip (skip_bind (updates_skip ws clock r.edge) (λ u. skip_plain plain_pure)))))))))))))
 
   dram_clean : (owner : ℕ) (r : DistributedRam) {seen : Seen} {n : Count} → limits.wires ≤ length seen → base ≤ n.signals → FitsDistributedRam limits r → Clean (λ k. Taken m seen) n (emit_distributed_ram m z seen owner r)
@@ -584,7 +585,7 @@ module _ (limits : Limits) (m : Wires) (apart : (v w : ℕ) (q r : WireRef) → 
   clocks_skip f o [] e = skip_plain plain_pure
   clocks_skip f o (w ∷ ws) e = skip_bind (unless_skip (eqb w f || eqb w o) w e) (λ u. clocks_skip f o ws e)
 
-  bit_clean : {A : Type 0} (b : Bit) {k : ℕ → Writer A} {n : Count} → ((e : ℕ) → Skips (k e)) → Clean None n (bit_expression m b >>= k)
+  bit_clean : {A : Type 0} (b : Bit) {k : ℕ → Writer A} {n : Count} → ((e : ℕ) → Skips (k e)) → Clean NoRead n (bit_expression m b >>= k)
   unfolding bit_expression
   bit_clean Zero s = clean_skip (skip_bind (skip_plain plain_pure) s)
   bit_clean One s = clean_skip (skip_bind (skip_plain plain_pure) s)
@@ -595,10 +596,10 @@ module _ (limits : Limits) (m : Wires) (apart : (v w : ℕ) (q r : WireRef) → 
     long : limits.wires ≤ length (nothing_seen shared)
     long = omega (arith, room, nothing_long shared)
 
-    forgets : {n : Count} {w : Writer (Reading (Unit {0}))} → Clean (λ k. Taken m (nothing_seen shared)) n w → Clean None n (forgetting w)
-    forgets f = once_from None (λ r t. absurd t) (once_bind f (λ r n₁ p. clean_skip (skip_plain plain_pure)))
+    forgets : {n : Count} {w : Writer (Reading (Unit {0}))} → Clean (λ k. Taken m (nothing_seen shared)) n w → Clean NoRead n (forgetting w)
+    forgets f = once_from NoRead (λ r t. absurd t) (once_bind f (λ r n₁ p. clean_skip (skip_plain plain_pure)))
 
-    cell_clean : (owner : ℕ) (x : Cell) {n : Count} → base ≤ n.signals → FitsCell limits x → ReadsOwned m x → Clean None n (emit_cell shared m z owner x)
+    cell_clean : (owner : ℕ) (x : Cell) {n : Count} → base ≤ n.signals → FitsCell limits x → ReadsOwned m x → Clean NoRead n (emit_cell shared m z owner x)
     unfolding emit_cell emit_lut4 emit_pfumx emit_l6mux21 emit_ccu2c emit_multiplier emit_io emit_idle_jtagg emit_cycle_pll
     cell_clean owner (lut4 i o t) many f own = forgets (once_bind (once_reads limits m apart i [] long f.0.1) (λ es n₁ p. clean_last es.seen (plain_lut es.value t) (λ v. assign_skips m o v)))
     cell_clean owner (pfumx t f s o) many h own = forgets (three_clean limits m apart s t f o (λ a b c. a) (λ a b c. b) (λ a b c. c) long h.2 h.0 h.1)
@@ -616,7 +617,7 @@ module _ (limits : Limits) (m : Wires) (apart : (v w : ℕ) (q r : WireRef) → 
         clean_last b.seen (plain_emit refl) (λ v. assign_skips m (get_or p 0 0) v))))
     cell_clean owner (flip_flop f) many h own = clean_skip (skip_plain plain_pure)
     cell_clean owner (block_ram r) many f own = forgets (ram_clean owner r long many f own)
-    cell_clean owner (distributed_ram r) {n} many f own = by_test (λ (w : Writer (Unit {0})). Clean None n w) (eqb r.second 1) (λ q. once_refuse) (λ q. forgets (dram_clean owner r long many f))
+    cell_clean owner (distributed_ram r) {n} many f own = by_test (λ (w : Writer (Unit {0})). Clean NoRead n w) (eqb r.second 1) (λ q. once_refuse) (λ q. forgets (dram_clean owner r long many f))
     cell_clean owner (io p d i t) many h own = forgets (three_clean limits m apart (Wire p) d t i (λ a b c. c) (λ a b c. a) (λ a b c. b) long h.0 h.1 h.3)
     cell_clean owner (jtagg ws) many f own = clean_skip (skip_bind (all_skip (take 6 ws ++ drop 7 ws) 0) (λ u. assign_skips m (get_or ws 6 0) 1))
     cell_clean owner (pll p) many f own =

@@ -3,7 +3,7 @@
 use mathlib.Core.Path.{◌≡◌, refl, ap, ap₂, sym, ◌∙◌, subst}
 use mathlib.Core.Bool.{Bool, true, false, ◌&&◌}
 use mathlib.Core.List.{List, [], ◌∷◌, ◌++◌, append-nil, append_assoc}
-use mathlib.Core.Option.{Option, none, some}
+use Rattle.std.specs.Prelude.{Option, None, Some}
 use Prim.Native.Nat.{ℕ, ◌<◌}
 use native.Mathlib.Omega.{arith}
 use lib.Dec.{eqb}
@@ -34,57 +34,57 @@ use Rattle.meaning.proofs.Equations.{Bases, bases_keep}
 
 -- a reset is synchronous or not
 abbrev pub PlainReset : Option Reset → Type 0
-PlainReset none = Unit {0}
-PlainReset (some r) = r.asynchronous < 2
+PlainReset None = Unit {0}
+PlainReset (Some r) = r.asynchronous < 2
 
 pick_bit : (b x y : Bool) → pick b (x ∷ []) (y ∷ []) ≡ pick b x y ∷ []
 pick_bit true x y = refl
 pick_bit false x y = refl
 
 reset_is : {env : Values} → Base env → (o : Option Reset) → Is env (reset_bit o) (reset_value o ∷ [])
-reset_is base none = base.zero_is
-reset_is {env} base (some r) = go (eqb r.value 1)
+reset_is base None = base.zero_is
+reset_is {env} base (Some r) = go (eqb r.value 1)
   where
     go : (b : Bool) → Is env (pick b 1 0) (b ∷ [])
     go true = base.one_is
     go false = base.zero_is
 
 module _ (σ : Signals) (m : Wires) where
-  ref_makes : (w : ℕ) {env : Values} → Makes σ env (wire_ref m w) (λ r env'. m w ≡ some r)
+  ref_makes : (w : ℕ) {env : Values} → Makes σ env (wire_ref m w) (λ r env'. m w ≡ Some r)
   unfolding wire_ref
   ref_makes w {env} = go (m w) refl
     where
-      go : (o : Option WireRef) → m w ≡ o → Makes σ env (ref_of o w) (λ r env'. m w ≡ some r)
-      go none q = makes_refuse
-      go (some r) q = makes_pure q
+      go : (o : Option WireRef) → m w ≡ o → Makes σ env (ref_of o w) (λ r env'. m w ≡ Some r)
+      go None q = makes_refuse
+      go (Some r) q = makes_pure q
 
   enable_means : (output : ℕ) (o : Option Control) {next : ℕ} {d : Bool} {env : Values} → Base env → Is env next (d ∷ []) → Means σ env (with_enable m output o next) (pick (enabled (held σ m) o) d (held σ m output) ∷ [])
-  enable_means output none base i = makes_pure i
-  enable_means output (some c) {d = d} base i =
+  enable_means output None base i = makes_pure i
+  enable_means output (Some c) {d = d} base i =
       makes_bind (ref_makes output) (λ r env₁ k₁ q.
       makes_bind (means_emit {v = ref_bit σ (m output) ∷ []} (ap (λ (o : Option WireRef). ref_bit σ o ∷ []) (sym q))) (λ x env₂ k₂ hx.
       makes_bind (asserted_means m (base_keeps k₂ (base_keeps k₁ base)) c) (λ y env₃ k₃ hy.
-      means_as (pick_bit (enabled (held σ m) (some c)) d (ref_bit σ (m output))) (mux_value σ hy (k₃ _ _ (k₂ _ _ (k₁ _ _ i))) (k₃ _ _ hx)))))
+      means_as (pick_bit (enabled (held σ m) (Some c)) d (ref_bit σ (m output))) (mux_value σ hy (k₃ _ _ (k₂ _ _ (k₁ _ _ i))) (k₃ _ _ hx)))))
 
   reset_means : (o : Option Reset) {next : ℕ} {d : Bool} {env : Values} → PlainReset o → Base env → Is env next (d ∷ []) → Means σ env (with_reset m o next) (pick (resetting (held σ m) 0 o) (reset_value o) d ∷ [])
-  reset_means none p base i = makes_pure i
-  reset_means (some r) {next} {d} {env} p base i = go (eqb r.asynchronous 1) refl
+  reset_means None p base i = makes_pure i
+  reset_means (Some r) {next} {d} {env} p base i = go (eqb r.asynchronous 1) refl
     where
       c : Control
       c = record { signal = r.signal; active = r.active }
 
-      yes_async : eqb r.asynchronous 1 ≡ true → d ≡ pick (resetting (held σ m) 0 (some r)) (reset_value (some r)) d
-      yes_async e = ap (λ (b : Bool). pick (b && asserted (held σ m) r.signal r.active) (reset_value (some r)) d) (sym (ne_eqb r.asynchronous 0 (omega (arith, eqb-true r.asynchronous 1 e))))
+      yes_async : eqb r.asynchronous 1 ≡ true → d ≡ pick (resetting (held σ m) 0 (Some r)) (reset_value (Some r)) d
+      yes_async e = ap (λ (b : Bool). pick (b && asserted (held σ m) r.signal r.active) (reset_value (Some r)) d) (sym (ne_eqb r.asynchronous 0 (omega (arith, eqb-true r.asynchronous 1 e))))
 
-      no_async : eqb r.asynchronous 1 ≡ false → pick (asserted (held σ m) r.signal r.active) (reset_value (some r)) d ≡ pick (resetting (held σ m) 0 (some r)) (reset_value (some r)) d
+      no_async : eqb r.asynchronous 1 ≡ false → pick (asserted (held σ m) r.signal r.active) (reset_value (Some r)) d ≡ pick (resetting (held σ m) 0 (Some r)) (reset_value (Some r)) d
       no_async e =
           let z : r.asynchronous ≡ 0 = omega (arith, eqb-false r.asynchronous 1 e, p) in
-          ap (λ (b : Bool). pick (b && asserted (held σ m) r.signal r.active) (reset_value (some r)) d) (sym (eq-eqb r.asynchronous 0 z))
+          ap (λ (b : Bool). pick (b && asserted (held σ m) r.signal r.active) (reset_value (Some r)) d) (sym (eq-eqb r.asynchronous 0 z))
 
-      go : (b : Bool) → eqb r.asynchronous 1 ≡ b → Means σ env (pick b (pure next) (asserted_expression m c >>= λ y. emit (mux 1 y (reset_bit (some r)) next))) (pick (resetting (held σ m) 0 (some r)) (reset_value (some r)) d ∷ [])
+      go : (b : Bool) → eqb r.asynchronous 1 ≡ b → Means σ env (pick b (pure next) (asserted_expression m c >>= λ y. emit (mux 1 y (reset_bit (Some r)) next))) (pick (resetting (held σ m) 0 (Some r)) (reset_value (Some r)) d ∷ [])
       go true e = means_as (ap (λ (x : Bool). x ∷ []) (yes_async e)) (makes_pure i)
       go false e = makes_bind (asserted_means m base c) (λ y env₁ k hy.
-          means_as (pick_bit (asserted (held σ m) r.signal r.active) (reset_value (some r)) d ∙ ap (λ (x : Bool). x ∷ []) (no_async e)) (mux_value σ hy (reset_is (base_keeps k base) (some r)) (k _ _ i)))
+          means_as (pick_bit (asserted (held σ m) r.signal r.active) (reset_value (Some r)) d ∙ ap (λ (x : Bool). x ∷ []) (no_async e)) (mux_value σ hy (reset_is (base_keeps k base) (Some r)) (k _ _ i)))
 
   -- what the fired clock loads, by the tick rule
   pub next_means : (f : FlipFlop) {env : Values} → PlainReset f.reset → Base env → Means σ env (next_bit m f) (loaded_flop (held σ m) f (held σ m f.output) ∷ [])
@@ -126,26 +126,26 @@ reset_parts env base (f ∷ fs) ps v h =
 
 -- the asynchronous reset of a bank, as recorded
 abbrev RecordedReset : Wires → Constants → Option Reset → Option RegReset → Type 0
-RecordedReset m z none r = r ≡ none
-RecordedReset m z (some q) r = (s : ℕ) × (e : ℕ) × IsSignal m z q.signal s × (r ≡ some (record { signal = s; active = q.active; value = e }))
+RecordedReset m z None r = r ≡ None
+RecordedReset m z (Some q) r = (s : ℕ) × (e : ℕ) × IsSignal m z q.signal s × (r ≡ Some (record { signal = s; active = q.active; value = e }))
 
 abbrev LoadsValues : Values → Option RegReset → Bits → Type 0
-LoadsValues env none v = Unit {0}
-LoadsValues env (some r) v = Is env r.value v
+LoadsValues env None v = Unit {0}
+LoadsValues env (Some r) v = Is env r.value v
 
 keep_loads : {env env' : Values} → Keeps env env' → (r : Option RegReset) (v : Bits) → LoadsValues env r v → LoadsValues env' r v
-keep_loads k none v h = tt
-keep_loads k (some r) v h = k _ _ h
+keep_loads k None v h = tt
+keep_loads k (Some r) v h = k _ _ h
 
 -- whether the asynchronous reset is asserted
 abbrev pub ResetNow : Signals → Wires → Constants → Option Reset → Bool → Type 0
-ResetNow σ m z none b = b ≡ false
-ResetNow σ m z (some q) b = (s : ℕ) × IsSignal m z q.signal s × (b ≡ asserts σ s q.active)
+ResetNow σ m z None b = b ≡ false
+ResetNow σ m z (Some q) b = (s : ℕ) × IsSignal m z q.signal s × (b ≡ asserts σ s q.active)
 
 -- a bank in a tick
 pub record Banked (κ : Tick) (m : Wires) (z : Constants) (b : Bank) : Type 0 where
   pub target : WireRef
-  pub target_is : m b.leader.flop.output ≡ some target
+  pub target_is : m b.leader.flop.output ≡ Some target
   pub clock : ℕ
   pub clock_is : IsSignal m z b.leader.flop.clock clock
   pub resets : Bool
@@ -158,10 +158,10 @@ pub and_yes : (b : Bool) → b && true ≡ b
 and_yes true = refl
 and_yes false = refl
 
-module _ (κ : Tick) (Ω : Values) (m : Wires) (z : Constants) (b : Bank) (t : WireRef) (n clock : ℕ) (target : m b.leader.flop.output ≡ some t) (hn : Is Ω n (loaded_all κ.before m b.members))
+module _ (κ : Tick) (Ω : Values) (m : Wires) (z : Constants) (b : Bank) (t : WireRef) (n clock : ℕ) (target : m b.leader.flop.output ≡ Some t) (hn : Is Ω n (loaded_all κ.before m b.members))
     (hc : IsSignal m z b.leader.flop.clock clock) where
-  commit : (o : Option Reset) → async_reset b.leader.flop ≡ o → (r : Option RegReset) → RecordedReset m z o r → LoadsValues Ω r (reset_values b.members) → Holds κ Ω (reg t.signal n clock b.leader.flop.edge r none) → Banked κ m z b
-  commit none q r hr hv h = record {
+  commit : (o : Option Reset) → async_reset b.leader.flop ≡ o → (r : Option RegReset) → RecordedReset m z o r → LoadsValues Ω r (reset_values b.members) → Holds κ Ω (reg t.signal n clock b.leader.flop.edge r None) → Banked κ m z b
+  commit None q r hr hv h = record {
     target = t;
     target_is = target;
     clock = clock;
@@ -169,10 +169,10 @@ module _ (κ : Tick) (Ω : Values) (m : Wires) (z : Constants) (b : Bank) (t : W
     resets = false;
     resets_is = subst (λ (o : Option Reset). ResetNow κ.before m z o false) (sym q) refl;
     registered = h.1;
-    taken = (subst (λ (x : Option RegReset). Holds κ Ω (reg t.signal n clock b.leader.flop.edge x none)) hr h).0
+    taken = (subst (λ (x : Option RegReset). Holds κ Ω (reg t.signal n clock b.leader.flop.edge x None)) hr h).0
         ∙ ap₂ (λ (x : Bool) (y : Bits). pick x y (κ.before t.signal)) (and_yes (κ.fires clock b.leader.flop.edge)) hn.value;
   }
-  commit (some w) q r hr hv h = record {
+  commit (Some w) q r hr hv h = record {
     target = t;
     target_is = target;
     clock = clock;
@@ -180,15 +180,15 @@ module _ (κ : Tick) (Ω : Values) (m : Wires) (z : Constants) (b : Bank) (t : W
     resets = asserts κ.before hr.0 w.active;
     resets_is = subst (λ (o : Option Reset). ResetNow κ.before m z o (asserts κ.before hr.0 w.active)) (sym q) (hr.0, hr.2, refl);
     registered = h.1;
-    taken = (subst (λ (x : Option RegReset). Holds κ Ω (reg t.signal n clock b.leader.flop.edge x none)) hr.3 h).0
+    taken = (subst (λ (x : Option RegReset). Holds κ Ω (reg t.signal n clock b.leader.flop.edge x None)) hr.3 h).0
         ∙ ap₂ (λ (x : Bits) (y : Bits). pick (asserts κ.before hr.0 w.active) x y) (subst (λ (x : Option RegReset). LoadsValues Ω x (reset_values b.members)) hr.3 hv).value
         (ap₂ (λ (x : Bool) (y : Bits). pick x y (κ.before t.signal)) (and_yes (κ.fires clock b.leader.flop.edge)) hn.value);
   }
 
 module _ {K : Type 0} (κ : K → Tick) (Ω : K → Values) (m : Wires) (z : Constants) where
   bank_reset_lem : (o : Option Reset) (fs : List Member) {env : K → Values} → Bases env → Settles κ Ω env (bank_reset m z o fs) (λ r env'. RecordedReset m z o r × ((k : K) → LoadsValues (env' k) r (reset_values fs)))
-  bank_reset_lem none fs base = settles_pure (refl, λ k. tt)
-  bank_reset_lem (some q) fs {env} base =
+  bank_reset_lem None fs base = settles_pure (refl, λ k. tt)
+  bank_reset_lem (Some q) fs {env} base =
       settles_bind (settles_makes (λ k. concat_means (reset_bits fs []) (reset_parts (env k) (base k) fs [] [] (record { there = tt; value = refl })))) (λ v env₁ k₁ hv.
       settles_bind (settles_gets (signal_gets m z q.signal)) (λ s env₂ k₂ hs.
       settles_pure ((s, v, hs, refl), λ k. k₂ k _ _ (hv k))))

@@ -3,7 +3,8 @@
 use mathlib.Core.Path.{◌≡◌, refl, ap, ap₂, sym, ◌∙◌, subst}
 use mathlib.Core.Bool.{Bool, true, false}
 use mathlib.Core.List.{List, [], ◌∷◌, ◌++◌, append-nil, append_assoc, map}
-use mathlib.Core.Option.{Option, none, some, some-ne-none}
+use Rattle.std.specs.Prelude.{Option, None, Some}
+use Rattle.bits.proofs.Options.{some_ne_none}
 use Prim.Native.Nat.{ℕ, suc, ◌+◌, ◌≤◌, ◌<◌}
 use native.Mathlib.Nat.{not-suc-le-zero}
 use native.Mathlib.Omega.{arith}
@@ -33,36 +34,36 @@ use Rattle.meaning.proofs.Writing.{writes_pure, writes_refuse, writes_declare, w
 -- PLACES
 
 abbrev or_place : Option ℕ → Option ℕ → Option ℕ
-or_place none later = later
-or_place (some i) later = some i
+or_place None later = later
+or_place (Some i) later = Some i
 
 place_append : (w : ℕ) (a b : List Bit) (i : ℕ) → place_of w (a ++ b) i ≡ or_place (place_of w a i) (place_of w b (i + length a))
 place_append w [] b i = ap (place_of w b) (omega arith)
 place_append w (x ∷ a) b i = go (same_bit (Wire w) x) (place_append w a b (suc i) ∙ ap (λ (k : ℕ). or_place (place_of w a (suc i)) (place_of w b k)) (omega arith))
   where
-    go : (t : Bool) → place_of w (a ++ b) (suc i) ≡ or_place (place_of w a (suc i)) (place_of w b (i + suc (length a))) → pick t (some i) (place_of w (a ++ b) (suc i)) ≡ or_place (pick t (some i) (place_of w a (suc i))) (place_of w b (i + suc (length a)))
+    go : (t : Bool) → place_of w (a ++ b) (suc i) ≡ or_place (place_of w a (suc i)) (place_of w b (i + suc (length a))) → pick t (Some i) (place_of w (a ++ b) (suc i)) ≡ or_place (pick t (Some i) (place_of w a (suc i))) (place_of w b (i + suc (length a)))
     go true h = refl
     go false h = h
 
 abbrev placed_in : ℕ → ℕ → Option ℕ → Option Ref
-placed_in s width none = none
-placed_in s width (some i) = some (record { signal = s; lsb = i; width = width })
+placed_in s width None = None
+placed_in s width (Some i) = Some (record { signal = s; lsb = i; width = width })
 
 abbrev or_ref : Option Ref → Option Ref → Option Ref
-or_ref none later = later
-or_ref (some r) later = some r
+or_ref None later = later
+or_ref (Some r) later = Some r
 
 -- BITS OF ONE SIGNAL: those done stand in the map behind what was there, and none of them was there or stands twice
 record Inserted (m : Wires) (s width : ℕ) (done : List Bit) (m₁ : Wires) : Type 0 where
   finds : (w : ℕ) → m₁ w ≡ or_ref (m w) (placed_in s width (place_of w done 0))
-  fresh : (i w : ℕ) → i < length done → get_or done i Zero ≡ Wire w → (m w ≡ none) × (place_of w done 0 ≡ some i)
+  fresh : (i w : ℕ) → i < length done → get_or done i Zero ≡ Wire w → (m w ≡ None) × (place_of w done 0 ≡ Some i)
 
 inserted_none : (m : Wires) (s width : ℕ) → Inserted m s width [] m
 inserted_none m s width = record { finds = λ w. go (m w); fresh = λ i w h q. absurd (not-suc-le-zero h) }
   where
-    go : (o : Option Ref) → o ≡ or_ref o none
-    go none = refl
-    go (some r) = refl
+    go : (o : Option Ref) → o ≡ or_ref o None
+    go None = refl
+    go (Some r) = refl
 
 -- the last of a list with one more
 last_or : {A : Type 0} (l : List A) (a d : A) (i : ℕ) (P : ℕ → A → Type 0) → ((i : ℕ) → i < length l → P i (get_or l i d)) → P (length l) a → i < length (l ++ (a ∷ [])) → P i (get_or (l ++ (a ∷ [])) i d)
@@ -74,26 +75,26 @@ last_or l a d i P f g h = go (dec_lt i (length l))
         let z : i ≡ length l = omega (arith, length-append l (a ∷ [])) in
         subst (λ (k : ℕ). P k (get_or (l ++ (a ∷ [])) k d)) (sym z) (subst (P (length l)) (sym (get_or-append_seam l a [] d)) g)
 
-or_none : (a b : Option Ref) → or_ref a b ≡ none → (a ≡ none) × (b ≡ none)
-or_none none b h = (refl, h)
-or_none (some r) b h = absurd (some-ne-none r h)
+or_none : (a b : Option Ref) → or_ref a b ≡ None → (a ≡ None) × (b ≡ None)
+or_none None b h = (refl, h)
+or_none (Some r) b h = absurd (some_ne_none r h)
 
-placed_none : (s width : ℕ) (o : Option ℕ) → placed_in s width o ≡ none → o ≡ none
-placed_none s width none h = refl
-placed_none s width (some i) h = absurd (some-ne-none _ h)
+placed_none : (s width : ℕ) (o : Option ℕ) → placed_in s width o ≡ None → o ≡ None
+placed_none s width None h = refl
+placed_none s width (Some i) h = absurd (some_ne_none _ h)
 
 -- a bit that is no wire changes no place
 place_plain : (w : ℕ) (done : List Bit) (b : Bit) → same_bit (Wire w) b ≡ false → place_of w (done ++ (b ∷ [])) 0 ≡ place_of w done 0
-place_plain w done b e = place_append w done (b ∷ []) 0 ∙ ap (λ (t : Bool). or_place (place_of w done 0) (pick t (some (0 + length done)) none)) e ∙ go (place_of w done 0)
+place_plain w done b e = place_append w done (b ∷ []) 0 ∙ ap (λ (t : Bool). or_place (place_of w done 0) (pick t (Some (0 + length done)) None)) e ∙ go (place_of w done 0)
   where
-    go : (o : Option ℕ) → or_place o none ≡ o
-    go none = refl
-    go (some i) = refl
+    go : (o : Option ℕ) → or_place o None ≡ o
+    go None = refl
+    go (Some i) = refl
 
 inserted_plain : (m : Wires) (s width : ℕ) (done : List Bit) (b : Bit) (m₁ : Wires) → ((w : ℕ) → same_bit (Wire w) b ≡ false) → ((w : ℕ) → b ≡ Wire w → ⊥) → Inserted m s width done m₁ → Inserted m s width (done ++ (b ∷ [])) m₁
 inserted_plain m s width done b m₁ e ne h = record {
   finds = λ w. h.finds w ∙ ap (λ (o : Option ℕ). or_ref (m w) (placed_in s width o)) (sym (place_plain w done b (e w)));
-  fresh = λ i w g q. last_or done b Zero i (λ j x. x ≡ Wire w → (m w ≡ none) × (place_of w (done ++ (b ∷ [])) 0 ≡ some j))
+  fresh = λ i w g q. last_or done b Zero i (λ j x. x ≡ Wire w → (m w ≡ None) × (place_of w (done ++ (b ∷ [])) 0 ≡ Some j))
       (λ j l p. let r = h.fresh j w l p in (r.0, place_plain w done b (e w) ∙ r.1)) (λ p. absurd (ne w p)) g q;
 }
 
@@ -106,36 +107,36 @@ one_wire w h = let z : ◌≡◌ {A = ℕ} 0 1 = cc in omega arith
 wire_is : (v w : ℕ) → Wire v ≡ Wire w → v ≡ w
 wire_is v w h = cc
 
-module _ (m : Wires) (s width : ℕ) (done : List Bit) (x : ℕ) (m₁ : Wires) (h : Inserted m s width done m₁) (absent : m₁ x ≡ none) where
+module _ (m : Wires) (s width : ℕ) (done : List Bit) (x : ℕ) (m₁ : Wires) (h : Inserted m s width done m₁) (absent : m₁ x ≡ None) where
   abbrev r : Ref
   r = record { signal = s; lsb = length done; width = width }
 
-  not_there : (m x ≡ none) × (place_of x done 0 ≡ none)
+  not_there : (m x ≡ None) × (place_of x done 0 ≡ None)
   not_there = let q = or_none (m x) _ (sym (h.finds x) ∙ absent) in (q.0, placed_none s width (place_of x done 0) q.1)
 
-  place_more : (w : ℕ) → place_of w (done ++ (Wire x ∷ [])) 0 ≡ or_place (place_of w done 0) (pick (eqb w x) (some (length done)) none)
-  place_more w = place_append w done (Wire x ∷ []) 0 ∙ ap (λ (k : ℕ). or_place (place_of w done 0) (pick (eqb w x) (some k) none)) (omega arith)
+  place_more : (w : ℕ) → place_of w (done ++ (Wire x ∷ [])) 0 ≡ or_place (place_of w done 0) (pick (eqb w x) (Some (length done)) None)
+  place_more w = place_append w done (Wire x ∷ []) 0 ∙ ap (λ (k : ℕ). or_place (place_of w done 0) (pick (eqb w x) (Some k) None)) (omega arith)
 
-  place_at : place_of x (done ++ (Wire x ∷ [])) 0 ≡ some (length done)
-  place_at = place_more x ∙ ap₂ (λ (o : Option ℕ) (t : Bool). or_place o (pick t (some (length done)) none)) not_there.1 (eq-eqb x x refl)
+  place_at : place_of x (done ++ (Wire x ∷ [])) 0 ≡ Some (length done)
+  place_at = place_more x ∙ ap₂ (λ (o : Option ℕ) (t : Bool). or_place o (pick t (Some (length done)) None)) not_there.1 (eq-eqb x x refl)
 
   inserted_wire : Inserted m s width (done ++ (Wire x ∷ [])) (put m₁ x r)
   inserted_wire = record {
     finds = λ w. one w (eqb w x) refl ∙ ap (λ (o : Option ℕ). or_ref (m w) (placed_in s width o)) (sym (place_more w));
-    fresh = λ i w g q. last_or done (Wire x) Zero i (λ j y. y ≡ Wire w → (m w ≡ none) × (place_of w (done ++ (Wire x ∷ [])) 0 ≡ some j))
-        (λ j l p. let k = h.fresh j w l p in (k.0, place_more w ∙ ap (λ (o : Option ℕ). or_place o (pick (eqb w x) (some (length done)) none)) k.1))
-        (λ p. let e : x ≡ w = wire_is x w p in subst (λ (y : ℕ). (m y ≡ none) × (place_of y (done ++ (Wire x ∷ [])) 0 ≡ some (length done))) e (not_there.0, place_at)) g q;
+    fresh = λ i w g q. last_or done (Wire x) Zero i (λ j y. y ≡ Wire w → (m w ≡ None) × (place_of w (done ++ (Wire x ∷ [])) 0 ≡ Some j))
+        (λ j l p. let k = h.fresh j w l p in (k.0, place_more w ∙ ap (λ (o : Option ℕ). or_place o (pick (eqb w x) (Some (length done)) None)) k.1))
+        (λ p. let e : x ≡ w = wire_is x w p in subst (λ (y : ℕ). (m y ≡ None) × (place_of y (done ++ (Wire x ∷ [])) 0 ≡ Some (length done))) e (not_there.0, place_at)) g q;
   }
     where
-      one : (w : ℕ) (t : Bool) → eqb w x ≡ t → pick t (some (record { signal = s; lsb = length done; width = width })) (m₁ w) ≡ or_ref (m w) (placed_in s width (or_place (place_of w done 0) (pick t (some (length done)) none)))
+      one : (w : ℕ) (t : Bool) → eqb w x ≡ t → pick t (Some (record { signal = s; lsb = length done; width = width })) (m₁ w) ≡ or_ref (m w) (placed_in s width (or_place (place_of w done 0) (pick t (Some (length done)) None)))
       one w true e =
           let z : w ≡ x = eqb-true w x e in
-          sym (ap₂ (λ (a : Option Ref) (o : Option ℕ). or_ref a (placed_in s width (or_place o (some (length done))))) (ap m z ∙ not_there.0) (ap (λ (y : ℕ). place_of y done 0) z ∙ not_there.1))
+          sym (ap₂ (λ (a : Option Ref) (o : Option ℕ). or_ref a (placed_in s width (or_place o (Some (length done))))) (ap m z ∙ not_there.0) (ap (λ (y : ℕ). place_of y done 0) z ∙ not_there.1))
       one w false e = h.finds w ∙ ap (λ (o : Option ℕ). or_ref (m w) (placed_in s width o)) (go (place_of w done 0))
         where
-          go : (o : Option ℕ) → o ≡ or_place o none
-          go none = refl
-          go (some i) = refl
+          go : (o : Option ℕ) → o ≡ or_place o None
+          go None = refl
+          go (Some i) = refl
 
 -- nothing but signals, and those
 record Only (ss : List Signal) (es : List Event) : Type 0 where
@@ -164,8 +165,8 @@ insert_one m s width done One m₁ h = writes_pure (inserted_plain m s width don
 insert_one {n} m s width done (Wire x) m₁ h = go (m₁ x) refl
   where
     go : (o : Option Ref) → m₁ x ≡ o → Writes n (insert_at o m₁ x (record { signal = s; lsb = length done; width = width })) (λ m₂ es. Inserted m s width (done ++ (Wire x ∷ [])) m₂ × Only [] es)
-    go none e = writes_pure (inserted_wire m s width done x m₁ h e, only_none)
-    go (some q) e = writes_refuse
+    go None e = writes_pure (inserted_wire m s width done x m₁ h e, only_none)
+    go (Some q) e = writes_refuse
 
 insert_bits_lem : {n : Count} (m : Wires) (s width lsb : ℕ) (done bits : List Bit) (m₁ : Wires) → lsb ≡ length done → Inserted m s width done m₁
     → Writes n (insert_bits m₁ s width lsb bits) (λ m₂ es. Inserted m s width (done ++ bits) m₂ × Only [] es)
@@ -200,16 +201,16 @@ fit_more (y ∷ ys) [] x s h f = absurd h
 fit_more (y ∷ ys) (t ∷ ss) x s h f = (h.0, fit_more ys ss x s h.1 f)
 
 ref_or : (a b : Option WireRef) → ref_of (or_else a b) ≡ or_ref (ref_of a) (ref_of b)
-ref_or none b = refl
-ref_or (some r) b = refl
+ref_or None b = refl
+ref_or (Some r) b = refl
 
-ref_held : (o : Option ℕ) (x : Slot) (n : ℕ) → ref_of (held_at o x n none) ≡ placed_in n (length x.bits) o
-ref_held none x n = refl
-ref_held (some i) x n = refl
+ref_held : (o : Option ℕ) (x : Slot) (n : ℕ) → ref_of (held_at o x n None) ≡ placed_in n (length x.bits) o
+ref_held None x n = refl
+ref_held (Some i) x n = refl
 
-ref_none : (o : Option WireRef) → ref_of o ≡ none → o ≡ none
-ref_none none h = refl
-ref_none (some r) h = absurd (some-ne-none _ h)
+ref_none : (o : Option WireRef) → ref_of o ≡ None → o ≡ None
+ref_none None h = refl
+ref_none (Some r) h = absurd (some_ne_none _ h)
 
 module _ {held : List Slot} {ss : List Signal} {m : Wires} (h : Mapping held ss m) where
   pub mapping_count : length held ≡ length ss
@@ -219,11 +220,11 @@ module _ {held : List Slot} {ss : List Signal} {m : Wires} (h : Mapping held ss 
   mapping_more x s m' f i = record {
     finds = λ w. i.finds w
         ∙ ap₂ or_ref (h.finds w) (sym (ref_held (place_of w x.bits 0) x (length held)))
-        ∙ sym (ref_or (find w held 0) (held_at (place_of w x.bits 0) x (length held) none))
+        ∙ sym (ref_or (find w held 0) (held_at (place_of w x.bits 0) x (length held) None))
         ∙ ap ref_of (sym (find_one_more w held x));
-    apart = λ s j w l b q. last_or held x no_slot s (λ k y. j < length y.bits → get_or y.bits j Zero ≡ Wire w → find w (held ++ (x ∷ [])) 0 ≡ some (record { signal = k; lowest = j; width = length y.bits; source = y.source }))
-        (λ k u v p. find_one_more w held x ∙ ap (λ (o : Option WireRef). or_else o (held_at (place_of w x.bits 0) x (length held) none)) (h.apart k j w u v p))
-        (λ v p. let r = i.fresh j w v p in find_one_more w held x ∙ ap₂ (λ (o : Option WireRef) (u : Option ℕ). or_else o (held_at u x (length held) none)) (ref_none (find w held 0) (sym (h.finds w) ∙ r.0)) r.1)
+    apart = λ s j w l b q. last_or held x no_slot s (λ k y. j < length y.bits → get_or y.bits j Zero ≡ Wire w → find w (held ++ (x ∷ [])) 0 ≡ Some (record { signal = k; lowest = j; width = length y.bits; source = y.source }))
+        (λ k u v p. find_one_more w held x ∙ ap (λ (o : Option WireRef). or_else o (held_at (place_of w x.bits 0) x (length held) None)) (h.apart k j w u v p))
+        (λ v p. let r = i.fresh j w v p in find_one_more w held x ∙ ap₂ (λ (o : Option WireRef) (u : Option ℕ). or_else o (held_at u x (length held) None)) (ref_none (find w held 0) (sym (h.finds w) ∙ r.0)) r.1)
         l b q;
     fits = fit_more held ss x s h.fits f;
   }
@@ -297,12 +298,12 @@ reserve_scalars_lem label owner c l u (w ∷ ws) k {n} {held} {ss} at h =
     adds_then a.only (adds_as (append_assoc held (single c (w ∷ []) k) (single c ws (suc k))) b)))
 
 abbrev is_ref : {A : Type 0} → Option A → Bool
-is_ref none = false
-is_ref (some r) = true
+is_ref None = false
+is_ref (Some r) = true
 
 ref_there : (o : Option WireRef) → is_ref (ref_of o) ≡ is_some o
-ref_there none = refl
-ref_there (some r) = refl
+ref_there None = refl
+ref_there (Some r) = refl
 
 -- a PLL's pin whose wire is held adds nothing
 reserve_absent_lem : (owner c : ℕ) (ws : List ℕ) (k : ℕ) {n : Count} {held : List Slot} {ss : List Signal} {m : Wires} → At n ss → Mapping held ss m
@@ -314,8 +315,8 @@ reserve_absent_lem owner c (w ∷ ws) k {n} {held} {ss} {m} at h =
     writes_so (reserve_absent_lem owner c ws (suc k) (at_more n ss a.new es at a.only) a.mapping) (λ m₂ fs b. adds_then a.only b))
   where
     go : (o : Option Ref) → is_some (find w held 0) ≡ is_ref o → Writes n (reserve_unless o m 12 owner w) (λ m' es. Adds (pick (is_some (find w held 0)) held (held ++ single c (w ∷ []) k)) ss m' es)
-    go none e = writes_so (reserve_scalar_lem at h 12 owner w c k (omega arith) (omega arith)) (λ m₁ es a. adds_as (ap (λ (t : Bool). pick t held (held ++ single c (w ∷ []) k)) (sym e)) a)
-    go (some r) e = writes_pure (adds_as (ap (λ (t : Bool). pick t held (held ++ single c (w ∷ []) k)) (sym e)) (adds_none h))
+    go None e = writes_so (reserve_scalar_lem at h 12 owner w c k (omega arith) (omega arith)) (λ m₁ es a. adds_as (ap (λ (t : Bool). pick t held (held ++ single c (w ∷ []) k)) (sym e)) a)
+    go (Some r) e = writes_pure (adds_as (ap (λ (t : Bool). pick t held (held ++ single c (w ∷ []) k)) (sym e)) (adds_none h))
 
 -- CELLS
 
@@ -335,8 +336,8 @@ module _ {n : Count} {held : List Slot} {ss : List Signal} {m : Wires} (at : At 
       writes_bind (pinned 8 c c 0 r.output (omega arith) (omega arith)) (λ m₁ es a. second r.second m₁ es a)
     where
       second : (o : Option SecondPort) (m₁ : Wires) (es : List Event) (a : Adds (held ++ together c r.output 0) ss m₁ es) → Writes (further n es) (reserve_second m₁ c o) (λ m' fs. Adds (held ++ (together c r.output 0 ++ second_slot c r.width o)) ss m' (es ++ fs))
-      second none m₁ es a = writes_pure (adds_then a.only (adds_none a.mapping))
-      second (some p) m₁ es a =
+      second None m₁ es a = writes_pure (adds_then a.only (adds_none a.mapping))
+      second (Some p) m₁ es a =
           writes_so (reserve_vector_lem (at_more n ss a.new es at a.only) a.mapping 8 c p.output (record { source = pins c r.width; bits = map Wire p.output }) refl (omega arith, omega arith) (λ j. refl)) (λ m₂ fs b.
           adds_then a.only (adds_as (append_assoc held (together c r.output 0) (together c p.output r.width)) b))
   reserve_cell c (distributed_ram r) = pinned 9 c c 0 r.output (omega arith) (omega arith)

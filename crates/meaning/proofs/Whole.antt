@@ -5,7 +5,7 @@ use mathlib.Core.Bool.{true, false}
 use mathlib.Core.List.Memᴰ.{head as here}
 use mathlib.Core.List.Memᴰ.{tail as there}
 use mathlib.Core.List.{List, [], ◌∷◌, ◌++◌, Memᴰ as Mem}
-use mathlib.Core.Option.{Option, none, some}
+use Rattle.std.specs.Prelude.{Option, None, Some}
 use Prim.Native.Nat.{ℕ, suc, ◌+◌, ◌*◌}
 use native.Mathlib.Omega.{arith}
 use lib.Dec.{eqb}
@@ -124,8 +124,8 @@ flop_reset : (limits : Limits) (x : Cell) (f : FlipFlop) → x ≡ flip_flop f �
 flop_reset limits x f e h = go f.reset (subst (FitsCell limits) e h).reset
   where
     go : (o : Option Reset) → FitsOption (FitsReset limits) o → PlainReset o
-    go none g = tt
-    go (some r) g = g.asynchronous
+    go None g = tt
+    go (Some r) g = g.asynchronous
 
 plain_members : (limits : Limits) (cells : List Cell) → Each (FitsCell limits) cells → (ms : List Member) → ((m : Member) → Mem m ms → IsCell cells m) → PlainResets ms
 plain_members limits cells h [] f = tt
@@ -241,8 +241,8 @@ module _ (shared : ℕ) (limits : Limits) (n : Netlist) (fits : Each (FitsCell l
       let Ω : K → Values = λ k. eval_all (κ k).before [] (exprs_of rest.events) in
       let hs : (k : K) → AllHold (κ k) (Ω k) (stmts_of rest.events) = λ k. subst (λ (x : List Expr). AllHold (κ k) (eval_all (κ k).before [] x) (stmts_of rest.events)) exprs_are
       (subst (AllHold (κ k) (eval_all (κ k).before [] (exprs_of (lower_netlist shared n none_yet).events))) stmts_are (h k)) in
-      let none : length (exprs_of es) ≡ 0 = ap length (reserved_is n m reserved).exprs in
+      let None : length (exprs_of es) ≡ 0 = ap length (reserved_is n m reserved).exprs in
       subst (λ (y : End (Unit {0})). Ends y (λ u. Runs κ n m)) (ap (λ (o : Out (Unit {0})). o.end) (sym lowering_is) ∙ q)
       (settles_bind_at (λ z. emit_cells shared m z 0 n.cells >>= λ u. emit_banks m z (collect_flip_flop_banks n.cells) >>= λ v. emit_outputs m 0 n.ports) {Q = λ u env'. Runs κ n m} (further none_yet es) (constants_end (further none_yet es)) (constants_settle κ Ω (λ k. []) (λ k. refl))
       (λ env₁ kp c. after_constants κ Ω limits shared n m _ env₁ fits (reads_owned limits n fits m (reserved_is n m reserved).mapping) c counted (omega (arith, counted)))
-      (λ k. omega (arith, none)) (λ k e v i. i) hs)
+      (λ k. omega (arith, None)) (λ k e v i. i) hs)

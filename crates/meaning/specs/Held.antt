@@ -1,6 +1,6 @@
 -- What the wires hold when the signals hold σ: each wire the bit that the wire map finds for it.
 use Rattle.std.specs.Prelude.{◌≡◌, Bool, false, List, [], ◌∷◌, ◌++◌, ℕ, zero, suc, ◌+◌, get_or}
-use Rattle.std.proofs.Math.Option.{Option, none, some}
+use Rattle.std.specs.Prelude.{Option, None, Some}
 use Rattle.bits.specs.Bits.{pick, Bits}
 use Rattle.netlist.specs.declared.Bit.{Bit}
 use Rattle.netlist.specs.declared.Bit.TheVariants.{Zero}
@@ -9,8 +9,8 @@ use Rattle.behaviour.specs.Behaviour.{Valuation, value}
 use Rattle.wires.specs.Wires.{WireRef, Wires}
 
 abbrev pub ref_bit : Signals → Option WireRef → Bool
-ref_bit σ none = false
-ref_bit σ (some r) = get_or (σ r.signal) r.lsb false
+ref_bit σ None = false
+ref_bit σ (Some r) = get_or (σ r.signal) r.lsb false
 
 abbrev pub held : Signals → Wires → Valuation
 held σ m w = ref_bit σ (m w)
@@ -22,7 +22,7 @@ values_at v bits at (suc k) = values_at v bits at k ++ (value v (get_or bits (at
 
 -- the signal of a wire has these bits
 abbrev pub Driven : Signals → Wires → ℕ → Bits → Type 0
-Driven σ m w v = (r : WireRef) → m w ≡ some r → σ r.signal ≡ v
+Driven σ m w v = (r : WireRef) → m w ≡ Some r → σ r.signal ≡ v
 
 -- a candidate of an address: whether it is the one, and its word
 pub record Choice : Type 0 where

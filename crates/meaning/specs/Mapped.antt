@@ -1,6 +1,6 @@
 -- The wire map that lowering has reserved is the one of the tick rule, and each slot has its signal.
 use Rattle.std.specs.Prelude.{◌≡◌, List, [], ◌∷◌, ◌++◌, ℕ, suc, ◌<◌, ◌≤◌, eqb, length, get_or}
-use Rattle.std.proofs.Math.Option.{Option, none, some}
+use Rattle.std.specs.Prelude.{Option, None, Some}
 use Rattle.bits.specs.Bits.{pick}
 use Rattle.netlist.specs.declared.Bit.TheVariants.{Zero, Wire}
 use Rattle.netlist.specs.Netlist.{Port, Netlist}
@@ -12,8 +12,8 @@ use Rattle.lowering.specs.Reserve.{signal_of}
 
 -- an entry of the tick rule's map, as lowering keeps it
 abbrev pub ref_of : Option WireRef → Option Ref
-ref_of none = none
-ref_of (some r) = some (record { signal = r.signal; lsb = r.lowest; width = r.width })
+ref_of None = None
+ref_of (Some r) = Some (record { signal = r.signal; lsb = r.lowest; width = r.width })
 
 -- the labels of the signals that a source may have: only an input has 0, and only an output port 1
 abbrev pub LabelFits : Source → ℕ → Type 0
@@ -50,7 +50,7 @@ entry_of held s i = record { signal = s; lowest = i; width = length (get_or held
 pub record Mapping (held : List Slot) (ss : List Signal) (m : Wires) : Type 0 where
   pub finds : (w : ℕ) → m w ≡ ref_of (find w held 0)
   -- no wire stands twice: each is found where it stands
-  pub apart : (s i w : ℕ) → s < length held → i < length (get_or held s no_slot).bits → get_or (get_or held s no_slot).bits i Zero ≡ Wire w → find w held 0 ≡ some (entry_of held s i)
+  pub apart : (s i w : ℕ) → s < length held → i < length (get_or held s no_slot).bits → get_or (get_or held s no_slot).bits i Zero ≡ Wire w → find w held 0 ≡ Some (entry_of held s i)
   pub fits : SignalsFit held ss
 
 -- the signals of the ports, from number p on

@@ -1,7 +1,7 @@
 -- What it is for statements to hold in a tick, and what a writer settles where its statements hold.
 use Rattle.std.specs.Prelude.{◌≡◌, Bool, true, false, ◌&&◌, ℕ, eqb, length}
 use mathlib.Core.List.{List, [], ◌∷◌, Memᴰ as Mem}
-use Rattle.std.proofs.Math.Option.{Option, none, some}
+use Rattle.std.specs.Prelude.{Option, None, Some}
 use Rattle.bits.specs.Bits.{pick, Bits, lowest, same}
 use Rattle.recorder.specs.Record.{Stmt, Stmt.assign, Stmt.reg, RegReset, RegEnable}
 use Rattle.recorder.specs.Writer.{Event, exprs_of, stmts_of, Count, Writer}
@@ -20,16 +20,16 @@ abbrev pub asserts : Signals → ℕ → ℕ → Bool
 asserts σ signal active = same (lowest (σ signal)) (eqb active 1)
 
 abbrev pub reset_now : Signals → Option RegReset → Bool
-reset_now σ none = false
-reset_now σ (some r) = asserts σ r.signal r.active
+reset_now σ None = false
+reset_now σ (Some r) = asserts σ r.signal r.active
 
 abbrev pub reset_bits : Values → Option RegReset → Bits
-reset_bits Ω none = []
-reset_bits Ω (some r) = value_of Ω r.value
+reset_bits Ω None = []
+reset_bits Ω (Some r) = value_of Ω r.value
 
 abbrev pub enable_now : Signals → Option RegEnable → Bool
-enable_now σ none = true
-enable_now σ (some e) = asserts σ e.signal e.active
+enable_now σ None = true
+enable_now σ (Some e) = asserts σ e.signal e.active
 
 abbrev pub IsReg : Stmt → ℕ → Type 0
 IsReg (assign u e) t = ⊥

@@ -1,7 +1,7 @@
 -- A cell records no read twice. Sharing goes by wire; in a netlist's map that is the same as by signal, lowest bit and width.
 use Rattle.std.specs.Prelude.{◌≡◌, ◌⊎◌, List, [], ◌∷◌, ◌≤◌, ℕ, zero, suc, ◌+◌, eqb, length}
 use mathlib.Core.List.{Memᴰ as Mem}
-use Rattle.std.proofs.Math.Option.{Option, none, some}
+use Rattle.std.specs.Prelude.{Option, None, Some}
 use Rattle.bits.specs.Bits.{pick}
 use Rattle.netlist.specs.declared.Bit.{Bit}
 use Rattle.netlist.specs.declared.Bit.TheVariants.{Zero, One, Wire}
@@ -48,7 +48,7 @@ NoTwo (x ∷ xs) = (Mem x xs → ⊥) × NoTwo xs
 
 -- in the map of a netlist each wire has a place of its own
 abbrev pub WiresApart : Type 0
-WiresApart = (n : Netlist) (m : Wires) → (reserve_netlist n none_yet).end ≡ ok m → (v w : ℕ) (q r : WireRef) → m v ≡ some q → m w ≡ some r → q.signal ≡ r.signal → q.lsb ≡ r.lsb → v ≡ w
+WiresApart = (n : Netlist) (m : Wires) → (reserve_netlist n none_yet).end ≡ ok m → (v w : ℕ) (q r : WireRef) → m v ≡ Some q → m w ≡ Some r → q.signal ≡ r.signal → q.lsb ≡ r.lsb → v ≡ w
 
 -- a cell of a netlist, emitted once the signals of all slots are declared, records no read twice
 abbrev pub ReadOnceEach : Type 0
@@ -87,8 +87,8 @@ WorkOn first (x ∷ xs) = AllOf first (operands x) × WorkOn first xs
 -- and those that a statement takes
 abbrev pub values : Stmt → List ℕ
 values (assign s e) = e ∷ []
-values (reg s n c d none x) = n ∷ []
-values (reg s n c d (some r) x) = n ∷ r.value ∷ []
+values (reg s n c d None x) = n ∷ []
+values (reg s n c d (Some r) x) = n ∷ r.value ∷ []
 
 abbrev pub Take : ℕ → List Stmt → Type 0
 Take first [] = Unit {0}
@@ -107,13 +107,13 @@ bit_reads One = 0
 bit_reads (Wire w) = 1
 
 abbrev pub enable_reads : Option Control → ℕ
-enable_reads none = 0
+enable_reads None = 0
 -- the bit that is held, and the control's
-enable_reads (some c) = 1 + bit_reads c.signal
+enable_reads (Some c) = 1 + bit_reads c.signal
 
 abbrev pub reset_reads : Option Reset → ℕ
-reset_reads none = 0
-reset_reads (some r) = pick (eqb r.asynchronous 1) 0 (bit_reads r.signal)
+reset_reads None = 0
+reset_reads (Some r) = pick (eqb r.asynchronous 1) 0 (bit_reads r.signal)
 
 abbrev pub flop_reads : FlipFlop → ℕ
 flop_reads f = bit_reads f.input + (enable_reads f.enable + reset_reads f.reset)

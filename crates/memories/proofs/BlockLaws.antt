@@ -2,7 +2,7 @@
 use mathlib.Core.Path.{◌≡◌, refl, ap, ap₂, sym, ◌∙◌}
 use mathlib.Core.Bool.{Bool, true, false}
 use mathlib.Core.List.{List, [], ◌∷◌, ◌++◌}
-use mathlib.Core.Option.{Option, none, some}
+use Rattle.std.specs.Prelude.{Option, None, Some}
 use Prim.Native.Nat.{ℕ, zero, suc, ◌+◌, ◌^◌, ◌≤◌, max}
 use native.Mathlib.Omega.{arith}
 use lib.Dec.{leb}
@@ -121,8 +121,8 @@ addressed_split m z seen owner r written read second p q = block_split m z owner
 
 -- the address is none of what it reads
 pub output_addressed : (o : Option SecondPort) (a : List Bit) → second_output o ≡ second_output (second_addressed o a)
-output_addressed none a = refl
-output_addressed (some p) a = refl
+output_addressed None a = refl
+output_addressed (Some p) a = refl
 
 pub body_same : (m : Wires) (z : Constants) (owner : ℕ) (a : PortExprs) (b : Option PortExprs) (aw depth clock : ℕ) {own_a own_a' own_b own_b' : Option ℕ} {width width' edge edge' : ℕ} → own_a ≡ own_a' → own_b ≡ own_b' → width ≡ width' → edge ≡ edge'
     → ram_body m z owner a own_a' b own_b' width' aw depth clock edge' ≡ ram_body m z owner a own_a b own_b width aw depth clock edge

@@ -1,7 +1,7 @@
 -- Laws of a distributed RAM.
 use mathlib.Core.Path.{◌≡◌, refl, ap, ap₂, sym, ◌∙◌, subst}
 use mathlib.Core.List.{List, [], ◌∷◌, ◌++◌}
-use mathlib.Core.Option.{Option, none}
+use Rattle.std.specs.Prelude.{Option, None}
 use Prim.Native.Nat.{ℕ, zero, suc, ◌+◌, ◌-◌, ◌≤◌, ◌<◌}
 use native.Mathlib.Nat.{add-zero}
 use native.Mathlib.Numerals.{add-one}
@@ -67,8 +67,8 @@ module _ (p : PortExprs) (owner clock edge : ℕ) where
   dram_more left i ws h =
       let e : left ≡ suc (left - 1) = omega arith in
       ap (λ (k : ℕ). dram_words p owner clock edge k i ws) e
-      ∙ ap (λ (k : ℕ). ram_word p none owner 4 4 i >>= λ w. state (reg w.signal w.next clock edge none none) >>= λ x. dram_words p owner clock edge (left - 1) k (ws ++ (w ∷ []))) (sym (add-one i))
-      ∙ sym (bind_two (ram_word p none owner 4 4 i) (λ w. state (reg w.signal w.next clock edge none none)) (λ w x. w) (λ w. dram_words p owner clock edge (left - 1) (i + 1) (ws ++ (w ∷ []))))
+      ∙ ap (λ (k : ℕ). ram_word p None owner 4 4 i >>= λ w. state (reg w.signal w.next clock edge None None) >>= λ x. dram_words p owner clock edge (left - 1) k (ws ++ (w ∷ []))) (sym (add-one i))
+      ∙ sym (bind_two (ram_word p None owner 4 4 i) (λ w. state (reg w.signal w.next clock edge None None)) (λ w x. w) (λ w. dram_words p owner clock edge (left - 1) (i + 1) (ws ++ (w ∷ []))))
 
   dram_none : (left i : ℕ) (ws : List Word) → left ≡ 0 → dram_words p owner clock edge left i ws ≡ pure ws
   unfolding dram_words
@@ -128,7 +128,7 @@ module _ (out : List ℕ) (en : Option Control) (p : Port) (owner clock edge : �
   dram_words_writing : (left i : ℕ) (ws : List Word) → dram_words (port_of out en p) owner clock edge left i ws ≡ dram_words (writing p) owner clock edge left i ws
   unfolding dram_words ram_word write_word
   dram_words_writing zero i ws = refl
-  dram_words_writing (suc left) i ws = bind_cong (ram_word (writing p) none owner 4 4 i) (λ w. bind_cong (state (reg w.signal w.next clock edge none none)) (λ x. dram_words_writing left (suc i) (ws ++ (w ∷ []))))
+  dram_words_writing (suc left) i ws = bind_cong (ram_word (writing p) None owner 4 4 i) (λ w. bind_cong (state (reg w.signal w.next clock edge None None)) (λ x. dram_words_writing left (suc i) (ws ++ (w ∷ []))))
 
 -- THE WORD AT AN ADDRESS
 
@@ -205,7 +205,7 @@ module _ (m : Wires) (z : Constants) (seen : Seen) (owner : ℕ) (r : Distribute
       (λ wa. vector_once m wa.seen r.read_address 0 4)
       (λ wa ra. vector_once m ra.seen r.input 0 4)
       (λ wa ra d. asserted_once m d.seen r.write)
-      (λ wa ra d y. with_seen (record { write_address = wa.value; write_data = d.value; write_asserted = y.value; read_address = ra.value; read_data = r.output; read_enable = none; clock_enabled = none }) y.seen)
+      (λ wa ra d y. with_seen (record { write_address = wa.value; write_data = d.value; write_asserted = y.value; read_address = ra.value; read_data = r.output; read_enable = None; clock_enabled = None }) y.seen)
       after_port)
 
   pub dram_split : emit_distributed_ram m z seen owner r ≡ (dram_exprs m seen r >>= λ p. bit_signal m z r.clock >>= λ clock. keeping p.seen (dram_body m owner p.value clock r.edge (get_or r.output 0 0)))

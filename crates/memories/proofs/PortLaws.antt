@@ -1,7 +1,7 @@
 -- Laws of the ports' expressions.
 use mathlib.Core.Path.{◌≡◌, refl, ap, ap₂, sym, ◌∙◌, subst}
 use mathlib.Core.List.{List, ◌∷◌}
-use mathlib.Core.Option.{Option, none, some}
+use Rattle.std.specs.Prelude.{Option, None, Some}
 use Prim.Native.Nat.{ℕ, zero, suc, ◌+◌, ◌-◌, ◌≤◌, ◌<◌, min}
 use native.Mathlib.Nat.{add-zero}
 use native.Mathlib.Omega.{arith}
@@ -75,8 +75,8 @@ module _ {e : List ℕ} {t : Tapes} {f : ℕ} {table e' table' : List ℕ} (m : 
 
   pub gate_stop : {r : Answer ℕ} {number place : ℕ} (a : Control) (o : Option Control) → OnceAt e t f table (λ s. asserted_once m s a) r e' table' → r ≡ Failed number place → OnceAt e t f table (λ s. gate m s a o) (Failed number place) e' table'
   unfolding gate
-  gate_stop a none h d x y = once_stop (h x y) _ d refl
-  gate_stop a (some c) h d x y = once_stop (h x y) _ d refl
+  gate_stop a None h d x y = once_stop (h x y) _ d refl
+  gate_stop a (Some c) h d x y = once_stop (h x y) _ d refl
 
 -- a cell's first expression is the next one of its tapes
 pub once_here : {A : Type 0} (w : Seen → Writer (Reading A)) {l : Lists} {t : Tapes} {table : List ℕ} {r : Answer A} {l' : Lists} {table' : List ℕ}
@@ -91,15 +91,15 @@ second_offset at start size k e = omega arith
 
 -- whether there is a second port; its address comes by itself
 module _ (m : Wires) (seen : Seen) (shift aw n : ℕ) (p : SecondPort) (a : List Bit) where
-  pub second_none : n ≡ 0 → second_exprs m seen shift aw (second_addressed (when_set n p) a) ≡ pure (with_seen none seen)
+  pub second_none : n ≡ 0 → second_exprs m seen shift aw (second_addressed (when_set n p) a) ≡ pure (with_seen None seen)
   second_none h = ap (λ (o : Option SecondPort). second_exprs m seen shift aw (second_addressed o a)) (sym (set_absent n p h))
 
-  pub second_some : (n ≡ 0 → ⊥) → second_exprs m seen shift aw (second_addressed (when_set n p) a) ≡ second_exprs m seen shift aw (second_addressed (some p) a)
+  pub second_some : (n ≡ 0 → ⊥) → second_exprs m seen shift aw (second_addressed (when_set n p) a) ≡ second_exprs m seen shift aw (second_addressed (Some p) a)
   second_some h = ap (λ (o : Option SecondPort). second_exprs m seen shift aw (second_addressed o a)) (sym (set_present n p p h refl))
 
 -- THE OWN READ of a read register: its signal has one bit, and the cell has read it
 
-pub own_other : (seen : Seen) (words : List ℕ) (i n : ℕ) → (n ≡ 1 → ⊥) → none ≡ own_read seen (wires_at words i n)
+pub own_other : (seen : Seen) (words : List ℕ) (i n : ℕ) → (n ≡ 1 → ⊥) → None ≡ own_read seen (wires_at words i n)
 unfolding records_at
 own_other seen words i zero h = refl
 own_other seen words i (suc zero) h = absurd (h refl)
@@ -110,12 +110,12 @@ unfolding records_at
 own_one seen words i n h = ap (λ (k : ℕ). own_read seen (wires_at words i k)) (sym h)
 
 module _ (first : ℕ) (table words : List ℕ) (i n : ℕ) {known : ℕ} (is : known ≡ get_or table (word_at words i) 0) where
-  pub own_known : n ≡ 1 → first < known → some (known - 1) ≡ own_read (seen_of first table) (wires_at words i n)
+  pub own_known : n ≡ 1 → first < known → Some (known - 1) ≡ own_read (seen_of first table) (wires_at words i n)
   own_known h g =
       let k : first < get_or table (word_at words i) 0 = omega (arith, is) in
-      ap (λ (x : ℕ). some (x - 1)) is ∙ sym (seen_known first table (word_at words i) k) ∙ own_one (seen_of first table) words i n h
+      ap (λ (x : ℕ). Some (x - 1)) is ∙ sym (seen_known first table (word_at words i) k) ∙ own_one (seen_of first table) words i n h
 
-  pub own_unknown : n ≡ 1 → known ≤ first → none ≡ own_read (seen_of first table) (wires_at words i n)
+  pub own_unknown : n ≡ 1 → known ≤ first → None ≡ own_read (seen_of first table) (wires_at words i n)
   own_unknown h g =
       let k : get_or table (word_at words i) 0 ≤ first = omega (arith, is) in
       sym (seen_unknown first table (word_at words i) k) ∙ own_one (seen_of first table) words i n h
@@ -124,7 +124,7 @@ pub own_as : (seen : Seen) (words : List ℕ) {i i' n n' : ℕ} → i ≡ i' →
 own_as seen words p q = ap₂ (λ (i n : ℕ). own_read seen (wires_at words i n)) p q
 
 module _ (seen : Seen) (n : ℕ) (p : SecondPort) where
-  pub own_absent : n ≡ 0 → none ≡ own_read seen (second_output (when_set n p))
+  pub own_absent : n ≡ 0 → None ≡ own_read seen (second_output (when_set n p))
   own_absent h = ap (λ (o : Option SecondPort). own_read seen (second_output o)) (set_absent n p h)
 
   pub own_present : (n ≡ 0 → ⊥) → own_read seen p.output ≡ own_read seen (second_output (when_set n p))

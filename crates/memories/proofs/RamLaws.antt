@@ -1,7 +1,7 @@
 -- Laws of a RAM's words.
 use mathlib.Core.Path.{◌≡◌, refl, ap, ap₂, sym, ◌∙◌, subst}
 use mathlib.Core.List.{List, [], ◌∷◌, ◌++◌, map}
-use mathlib.Core.Option.{Option, none}
+use Rattle.std.specs.Prelude.{Option, None}
 use Prim.Native.Nat.{ℕ, zero, suc, ◌+◌, ◌-◌, ◌≤◌, ◌<◌}
 use native.Mathlib.Nat.{add-zero, not-suc-le-zero, le_of_suc-le-suc}
 use native.Mathlib.Numerals.{add-one}
@@ -272,7 +272,7 @@ module _ {address aw s last depth : ℕ} {whole : Writer (List Node)} {e₀ : Li
 
 module _ (clock edge : ℕ) where
   up_more : (s q last left : ℕ) → 1 ≤ left
-      → update_words (words_from s q last left) clock edge ≡ (state (reg s (q + last) clock edge none none) >>= λ x. update_words (words_from (s + 1) (q + (last + 1)) last (left - 1)) clock edge)
+      → update_words (words_from s q last left) clock edge ≡ (state (reg s (q + last) clock edge None None) >>= λ x. update_words (words_from (s + 1) (q + (last + 1)) last (left - 1)) clock edge)
   unfolding update_words
   up_more s q last left h = ap (λ (l : List Word). update_words l clock edge) (words_first s q last left h)
 
@@ -308,7 +308,7 @@ module _ {clock edge last depth : ℕ} {whole : Writer (Unit {0})} {m₀ : List 
         let g = reach_least (q + (last + 1)) last (depth - i - 1) in
         omega arith
 
-    module _ (more : i < depth) {r : Answer (Unit {0})} {m₁ : List ℕ} (h : WroteStmts m t (state (reg s (q + last) clock edge none none)) r m₁) where
+    module _ (more : i < depth) {r : Answer (Unit {0})} {m₁ : List ℕ} (h : WroteStmts m t (state (reg s (q + last) clock edge None None)) r m₁) where
       pub updating_step : {u : Tapes} → r ≡ Done tt u → Updating clock edge last depth whole m₀ t₀ m₁ u (s + 1) (q + (last + 1)) (i + 1)
       updating_step {u} d =
           let j : depth - i - 1 ≡ depth - (i + 1) = omega arith in

@@ -1,7 +1,7 @@
 -- Laws of a read port.
 use mathlib.Core.Path.{◌≡◌, refl, ap, ap₂, sym, ◌∙◌, fun_ext}
 use mathlib.Core.List.{List, [], map}
-use mathlib.Core.Option.{Option, none, some}
+use Rattle.std.specs.Prelude.{Option, None, Some}
 use Prim.Native.Nat.{ℕ, ◌≤◌}
 use native.Mathlib.Nat.{add-zero}
 use native.Mathlib.Omega.{arith}
@@ -84,20 +84,20 @@ module _ {B : Type 0} {w : Writer ℕ} {q : Controlled} (h : Reads w q) (k : ℕ
 
 module _ (m : Wires) (z : Constants) (output : ℕ) (clocked own : Option ℕ) (width v clock edge : ℕ) where
   abbrev loads : ℕ → Option RegEnable → Writer (Unit {0})
-  loads s en = next_read clocked own width s v >>= λ n. state (reg s n clock edge none en)
+  loads s en = next_read clocked own width s v >>= λ n. state (reg s n clock edge None en)
 
-  read_held : (enable : Option Control) {r : WireRef} → m output ≡ some r → read_register m z output enable clocked own width v clock edge ≡ (enable_of m z enable >>= loads r.signal)
+  read_held : (enable : Option Control) {r : WireRef} → m output ≡ Some r → read_register m z output enable clocked own width v clock edge ≡ (enable_of m z enable >>= loads r.signal)
   unfolding read_register
   read_held enable {r} h = ap (λ (x : Writer WireRef). x >>= λ r. enable_of m z enable >>= loads r.signal) (ref_held m h) ∙ bind_pure r (λ r. enable_of m z enable >>= loads r.signal)
 
-  pub read_missing : (enable : Option Control) → m output ≡ none → read_register m z output enable clocked own width v clock edge ≡ refuse 8 output
+  pub read_missing : (enable : Option Control) → m output ≡ None → read_register m z output enable clocked own width v clock edge ≡ refuse 8 output
   unfolding read_register
   read_missing enable h = ap (λ (x : Writer WireRef). x >>= λ r. enable_of m z enable >>= loads r.signal) (ref_missing m h) ∙ bind_refuse 8 output (λ r. enable_of m z enable >>= loads r.signal)
 
-  pub read_enabled_lem : (enable : Option Control) {en : Option RegEnable} {r : WireRef} → m output ≡ some r → enable_of m z enable ≡ pure en → read_register m z output enable clocked own width v clock edge ≡ loads r.signal en
+  pub read_enabled_lem : (enable : Option Control) {en : Option RegEnable} {r : WireRef} → m output ≡ Some r → enable_of m z enable ≡ pure en → read_register m z output enable clocked own width v clock edge ≡ loads r.signal en
   read_enabled_lem enable {en} {r} h e = read_held enable h ∙ ap (λ (x : Writer (Option RegEnable)). x >>= loads r.signal) e ∙ bind_pure en (loads r.signal)
 
-  pub read_refused : (enable : Option Control) {number place : ℕ} {r : WireRef} → m output ≡ some r → enable_of m z enable ≡ refuse number place → read_register m z output enable clocked own width v clock edge ≡ refuse number place
+  pub read_refused : (enable : Option Control) {number place : ℕ} {r : WireRef} → m output ≡ Some r → enable_of m z enable ≡ refuse number place → read_register m z output enable clocked own width v clock edge ≡ refuse number place
   read_refused enable {number} {place} {r} h e = read_held enable h ∙ ap (λ (x : Writer (Option RegEnable)). x >>= loads r.signal) e ∙ bind_refuse number place (loads r.signal)
 
 -- THE PORT

@@ -1,6 +1,6 @@
 -- What a block RAM and a distributed RAM emit: a definition for each function of lib.rs, in its order of events.
 use Rattle.std.specs.Prelude.{List, [], ◌∷◌, ◌++◌, ℕ, zero, suc, get_or}
-use Rattle.std.proofs.Math.Option.{Option, none, some}
+use Rattle.std.specs.Prelude.{Option, None, Some}
 use Rattle.netlist.specs.declared.Control.{Control}
 use Rattle.netlist.specs.Netlist.{SecondPort, BlockRam, DistributedRam}
 use Rattle.netlist.specs.Reader.{address_width, shift_of}
@@ -40,14 +40,14 @@ pub record Gate : Type 0 where
 
 -- with a clock enable (request W1) a port writes where both are asserted
 unfoldable pub gate : Wires → Seen → Control → Option Control → Writer (Reading Gate)
-gate m seen write none = do
+gate m seen write None = do
   y ← asserted_once m seen write
-  pure (with_seen (record { write_asserted = y.value; clock_enabled = none }) y.seen)
-gate m seen write (some enable) = do
+  pure (with_seen (record { write_asserted = y.value; clock_enabled = None }) y.seen)
+gate m seen write (Some enable) = do
   y ← asserted_once m seen write
   c ← asserted_once m y.seen enable
   g ← emit (and y.value c.value)
-  pure (with_seen (record { write_asserted = g; clock_enabled = some c.value }) c.seen)
+  pure (with_seen (record { write_asserted = g; clock_enabled = Some c.value }) c.seen)
 
 -- what a port makes of a word: its width, the address's width, the index, the expression so far
 unfoldable pub write_word : PortExprs → ℕ → ℕ → ℕ → ℕ → Writer ℕ
@@ -58,8 +58,8 @@ write_word p width aw index now = do
   emit (mux width y p.write_data now)
 
 abbrev pub write_second : Option PortExprs → ℕ → ℕ → ℕ → ℕ → Writer ℕ
-write_second none width aw index now = pure now
-write_second (some p) width aw index now = write_word p width aw index now
+write_second None width aw index now = pure now
+write_second (Some p) width aw index now = write_word p width aw index now
 
 unfoldable pub ram_word : PortExprs → Option PortExprs → ℕ → ℕ → ℕ → ℕ → Writer Word
 ram_word a b owner width aw index = do
@@ -85,25 +85,25 @@ candidates_from address aw index (w ∷ ws) nodes = do
   candidates_from address aw (suc index) ws (nodes ++ (record { matched = e; value = w.current } ∷ []))
 
 abbrev pub enable_of : Wires → Constants → Option Control → Writer (Option RegEnable)
-enable_of m z none = pure none
-enable_of m z (some c) = do
+enable_of m z None = pure None
+enable_of m z (Some c) = do
   s ← bit_signal m z c.signal
-  pure (some (record { signal = s; active = c.active }))
+  pure (Some (record { signal = s; active = c.active }))
 
 -- the read of a read register's own signal stands already where the cell has read its wire: then its words have one bit, and it holds one wire
 abbrev pub own_read : Seen → List ℕ → Option ℕ
-own_read seen [] = none
+own_read seen [] = None
 own_read seen (w ∷ []) = standing seen w
-own_read seen (w ∷ v ∷ ws) = none
+own_read seen (w ∷ v ∷ ws) = None
 
 abbrev pub own_expression : Option ℕ → ℕ → ℕ → Writer ℕ
-own_expression (some e) width target = pure e
-own_expression none width target = emit (read width target 0)
+own_expression (Some e) width target = pure e
+own_expression None width target = emit (read width target 0)
 
 -- what a read register takes: the selected word, and with a clock enable its own where that is not asserted
 abbrev pub next_read : Option ℕ → Option ℕ → ℕ → ℕ → ℕ → Writer ℕ
-next_read none own width target word = pure word
-next_read (some c) own width target word = do
+next_read None own width target word = pure word
+next_read (Some c) own width target word = do
   o ← own_expression own width target
   emit (mux width c word o)
 
@@ -116,30 +116,30 @@ emit_block_ram_read_port m z p own words width aw clock edge = do
   r ← wire_ref m (get_or p.read_data 0 0)
   en ← enable_of m z p.read_enable
   n ← next_read p.clock_enabled own width r.signal v
-  state (reg r.signal n clock edge none en)
+  state (reg r.signal n clock edge None en)
 
 abbrev pub emit_second_read_port : Wires → Constants → Option PortExprs → Option ℕ → List Word → ℕ → ℕ → ℕ → ℕ → Writer (Unit {0})
-emit_second_read_port m z none own words width aw clock edge = pure tt
-emit_second_read_port m z (some p) own words width aw clock edge = emit_block_ram_read_port m z p own words width aw clock edge
+emit_second_read_port m z None own words width aw clock edge = pure tt
+emit_second_read_port m z (Some p) own words width aw clock edge = emit_block_ram_read_port m z p own words width aw clock edge
 
 unfoldable pub update_words : List Word → ℕ → ℕ → Writer (Unit {0})
 update_words [] clock edge = pure tt
 update_words (w ∷ ws) clock edge = do
-  state (reg w.signal w.next clock edge none none)
+  state (reg w.signal w.next clock edge None None)
   update_words ws clock edge
 
 -- the second port, whose address serves both: the shift, the address's width
 abbrev pub second_exprs : Wires → Seen → ℕ → ℕ → Option SecondPort → Writer (Reading (Option PortExprs))
-second_exprs m seen shift aw none = pure (with_seen none seen)
-second_exprs m seen shift aw (some p) = do
+second_exprs m seen shift aw None = pure (with_seen None seen)
+second_exprs m seen shift aw (Some p) = do
   a ← vector_once m seen p.address shift aw
   d ← bits_once m a.seen p.input
   g ← gate m d.seen p.write p.clock_enable
-  pure (with_seen (some (record { write_address = a.value; write_data = d.value; write_asserted = g.value.write_asserted; read_address = a.value; read_data = p.output; read_enable = p.read_enable; clock_enabled = g.value.clock_enabled })) g.seen)
+  pure (with_seen (Some (record { write_address = a.value; write_data = d.value; write_asserted = g.value.write_asserted; read_address = a.value; read_data = p.output; read_enable = p.read_enable; clock_enabled = g.value.clock_enabled })) g.seen)
 
 abbrev pub second_output : Option SecondPort → List ℕ
-second_output none = []
-second_output (some p) = p.output
+second_output None = []
+second_output (Some p) = p.output
 
 -- cell number `owner`, after what it has read so far
 unfoldable pub emit_block_ram : Wires → Constants → Seen → ℕ → BlockRam → Writer (Reading (Unit {0}))
@@ -162,8 +162,8 @@ emit_block_ram m z seen owner r = do
 unfoldable pub dram_words : PortExprs → ℕ → ℕ → ℕ → ℕ → ℕ → List Word → Writer (List Word)
 dram_words p owner clock edge zero index words = pure words
 dram_words p owner clock edge (suc left) index words = do
-  w ← ram_word p none owner 4 4 index
-  state (reg w.signal w.next clock edge none none)
+  w ← ram_word p None owner 4 4 index
+  state (reg w.signal w.next clock edge None None)
   dram_words p owner clock edge left (suc index) (words ++ (w ∷ []))
 
 unfoldable pub dram_select : ℕ → ℕ → List Word → ℕ → Writer ℕ
@@ -181,7 +181,7 @@ emit_distributed_ram m z seen owner r = do
   d ← vector_once m ra.seen r.input 0 4
   y ← asserted_once m d.seen r.write
   clock ← bit_signal m z r.clock
-  words ← dram_words (record { write_address = wa.value; write_data = d.value; write_asserted = y.value; read_address = ra.value; read_data = r.output; read_enable = none; clock_enabled = none }) owner clock r.edge 16 0 []
+  words ← dram_words (record { write_address = wa.value; write_data = d.value; write_asserted = y.value; read_address = ra.value; read_data = r.output; read_enable = None; clock_enabled = None }) owner clock r.edge 16 0 []
   e ← emit (const 4 0)
   v ← dram_select ra.value 0 words e
   keeping y.seen (assign_wire m (get_or r.output 0 0) v)

@@ -1,6 +1,6 @@
 -- What the RAMs' functions hand over: the expressions of ports, words by their numbers, and which lists a call writes.
 use Rattle.std.specs.Prelude.{List, [], ◌∷◌, ◌≡◌, ℕ, zero, suc, ◌+◌, ◌≤◌, max}
-use Rattle.std.proofs.Math.Option.{Option, none, some}
+use Rattle.std.specs.Prelude.{Option, None, Some}
 use Rattle.refusal.specs.Refusal.{number_of, place_of}
 use Rattle.netlist.specs.declared.Bit.{Bit}
 use Rattle.netlist.specs.declared.Control.{Control}
@@ -47,15 +47,15 @@ WroteWords s e t w r s' e' = (m : List ℕ) → Wrote (lists s e m) t w r (lists
 -- ---- the expressions of a port, with the wires that it reads to and its read enable
 
 abbrev pub enabled_of : ClockEnabled → Option ℕ
-enabled_of E.Absent = none
-enabled_of (E.Present c) = some c.0
+enabled_of E.Absent = None
+enabled_of (E.Present c) = Some c.0
 
 abbrev pub port_of : List ℕ → Option Control → Port → PortExprs
 port_of out en p = record { write_address = p.writes.0; write_data = p.data.0; write_asserted = p.asserted.0; read_address = p.reads.0; read_data = out; read_enable = en; clock_enabled = enabled_of p.clock_enabled }
 
 -- only its writing counts
 abbrev pub writing : Port → PortExprs
-writing p = port_of [] none p
+writing p = port_of [] None p
 
 -- only its reading counts
 abbrev pub reading : ℕ → ℕ → Option Control → ClockEnabled → PortExprs
@@ -74,11 +74,11 @@ ported out en (P.Done p t) = Done (port_of out en p) t
 ported out en (P.Refused x) = Failed (number_of x) (place_of x)
 
 abbrev pub second_of : List ℕ → Option Control → Second → Option PortExprs
-second_of out en B.Absent = none
-second_of out en (B.Present p) = some (port_of out en p)
+second_of out en B.Absent = None
+second_of out en (B.Present p) = Some (port_of out en p)
 
 abbrev pub second_writing : Second → Option PortExprs
-second_writing b = second_of [] none b
+second_writing b = second_of [] None b
 
 abbrev pub seconded : List ℕ → Option Control → Seconded → Answer (Option PortExprs)
 seconded out en (D.Done b t) = Done (second_of out en b) t
@@ -100,12 +100,12 @@ dram_exprs m seen r = do
   ra ← vector_once m wa.seen r.read_address 0 4
   d ← vector_once m ra.seen r.input 0 4
   y ← asserted_once m d.seen r.write
-  pure (with_seen (record { write_address = wa.value; write_data = d.value; write_asserted = y.value; read_address = ra.value; read_data = r.output; read_enable = none; clock_enabled = none }) y.seen)
+  pure (with_seen (record { write_address = wa.value; write_data = d.value; write_asserted = y.value; read_address = ra.value; read_data = r.output; read_enable = None; clock_enabled = None }) y.seen)
 
 -- the own read of a port
 abbrev pub own_of : Own → Option ℕ
-own_of O.Unread = none
-own_of (O.Read e) = some e.0
+own_of O.Unread = None
+own_of (O.Read e) = Some e.0
 
 -- ---- words by their numbers
 
@@ -168,7 +168,7 @@ read_register m z output enable clocked own width v clock edge = do
   r ← wire_ref m output
   en ← enable_of m z enable
   n ← next_read clocked own width r.signal v
-  state (reg r.signal n clock edge none en)
+  state (reg r.signal n clock edge None en)
 
 -- ---- the cells at an index
 
@@ -186,8 +186,8 @@ dram_at words i = record {
 
 -- a second port, a block RAM and a distributed RAM with other addresses: one that is written, one that is read, the second port's
 abbrev pub second_addressed : Option SecondPort → List Bit → Option SecondPort
-second_addressed none a = none
-second_addressed (some p) a = some (record {
+second_addressed None a = None
+second_addressed (Some p) a = Some (record {
   address = a;
   write = p.write;
   read_enable = p.read_enable;

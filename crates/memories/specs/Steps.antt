@@ -1,6 +1,6 @@
 -- The steps of a block RAM and of a distributed RAM that functions of the code write.
 use Rattle.std.specs.Prelude.{List, [], ◌≡◌, ℕ, ◌+◌, ◌≤◌}
-use Rattle.std.proofs.Math.Option.{Option, none}
+use Rattle.std.specs.Prelude.{Option, None}
 use Rattle.netlist.specs.Netlist.{SecondPort}
 use Rattle.netlist.specs.Fields.{word_at, first_size, second_port_at}
 use Rattle.recorder.specs.declared.Tapes.{Tapes}
@@ -43,8 +43,8 @@ ram_body m z owner a own_a b own_b width aw depth clock edge = do
 -- a word of a distributed RAM, with its statement
 unfoldable pub dram_word : PortExprs → ℕ → ℕ → ℕ → ℕ → Writer Word
 dram_word p owner clock edge index = do
-  w ← ram_word p none owner 4 4 index
-  state (reg w.signal w.next clock edge none none)
+  w ← ram_word p None owner 4 4 index
+  state (reg w.signal w.next clock edge None None)
   pure w
 
 -- the 16 words were made from the tapes t on

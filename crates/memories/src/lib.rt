@@ -13,7 +13,6 @@ use recorder::{Enable, ExprId, SignalId, Tapes};
 use refusal::Refusal;
 
 // A port's clock enable asserted.
-#[derive(Drop)]
 #[derive(Clone, Copy)]
 pub enum ClockEnabled {
     Absent,
@@ -21,7 +20,6 @@ pub enum ClockEnabled {
 }
 
 // Whether a port writes, and its clock enable.
-#[derive(Drop)]
 #[derive(Clone, Copy)]
 pub enum Gated {
     Done(ExprId, ClockEnabled, Tapes),
@@ -43,7 +41,6 @@ pub struct Owns {
 }
 
 // The enable of a read register's record.
-#[derive(Drop)]
 #[derive(Clone, Copy)]
 pub enum ReadEnabled {
     Done(Enable),
@@ -51,7 +48,6 @@ pub enum ReadEnabled {
 }
 
 // The expressions of a port: where it writes, what, whether, where it reads, and its clock enable.
-#[derive(Drop)]
 #[derive(Clone, Copy)]
 pub struct Port {
     pub writes: ExprId,
@@ -61,21 +57,18 @@ pub struct Port {
     pub clock_enabled: ClockEnabled,
 }
 
-#[derive(Drop)]
 #[derive(Clone, Copy)]
 pub enum Ported {
     Done(Port, Tapes),
     Refused(Refusal),
 }
 
-#[derive(Drop)]
 #[derive(Clone, Copy)]
 pub enum Second {
     Absent,
     Present(Port),
 }
 
-#[derive(Drop)]
 #[derive(Clone, Copy)]
 pub enum Seconded {
     Done(Second, Tapes),
@@ -83,7 +76,6 @@ pub enum Seconded {
 }
 
 // A word: its signal, its read, its next value.
-#[derive(Drop)]
 #[derive(Clone, Copy)]
 pub struct RamWord {
     pub signal: SignalId,
@@ -91,7 +83,6 @@ pub struct RamWord {
     pub next: ExprId,
 }
 
-#[derive(Drop)]
 #[derive(Clone, Copy)]
 pub enum Worded {
     Done(RamWord, Tapes),
@@ -100,7 +91,6 @@ pub enum Worded {
 
 // The words of a RAM. Their signals are consecutive; each word's next value stands `last` behind its read, and the next word's read
 // right behind that.
-#[derive(Drop)]
 #[derive(Clone, Copy)]
 pub struct Words {
     pub signal: SignalId,
@@ -110,7 +100,6 @@ pub struct Words {
 }
 
 // A RAM's sizes and clock: the words' width, the address's, the clock's signal and its edge.
-#[derive(Drop)]
 #[derive(Clone, Copy)]
 pub struct RamShape {
     pub width: u32,

@@ -1,6 +1,6 @@
 // The expressions of a RAM's ports. What a refusal leaves of what has been read is not said here: the RAM is refused then.
 ghost use Rattle.std.specs.Prelude.{◌≡◌, [], ◌+◌, ◌≤◌, length};
-ghost use Rattle.std.proofs.Math.Option.{none};
+ghost use Rattle.std.specs.Prelude.{None};
 ghost use Rattle.netlist.specs.Fields.{word_at, bits_at, control_at, optional_control_at, first_size, ram_at};
 ghost use Rattle.recorder.specs.Lists.{emitted};
 ghost use Rattle.wires.specs.Wires.{wires_of};
@@ -345,8 +345,8 @@ pub fn dram_port(
     read_address: [Bit; 4],
 ) -> Ported
     requires { first ≤ t.exprs.count }
-    ensures wrote { OnceAt exprs.old t first seen.old (λ s. dram_exprs (wires_of wires.now places.now) s (dram_addressed (dram_at words.now at) write_address read_address)) (ported (dram_at words.now at).output none result) exprs.new seen.new }
-    ensures grows { Grows t (ported (dram_at words.now at).output none result) }
+    ensures wrote { OnceAt exprs.old t first seen.old (λ s. dram_exprs (wires_of wires.now places.now) s (dram_addressed (dram_at words.now at) write_address read_address)) (ported (dram_at words.now at).output None result) exprs.new seen.new }
+    ensures grows { Grows t (ported (dram_at words.now at).output None result) }
 {
     match four_bits(exprs, seen, wires, places, t, first, write_address) {
         Emitted::Done(writes, t2) => {

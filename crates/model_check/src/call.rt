@@ -1,6 +1,6 @@
 // What refuses a call before any loop is looked for: 12, then 1 and 14.
 ghost use Rattle.std.specs.Prelude.{◌≡◌, ◌&&◌, [], ◌≤◌, min, leb, ltb, length, take};
-ghost use Rattle.std.proofs.Math.Option.{none, some};
+ghost use Rattle.std.specs.Prelude.{None, Some};
 ghost use Rattle.bits.specs.Bits.{pick};
 ghost use Rattle.recorder.specs.Lists.{lists};
 ghost use Rattle.recorder.specs.Read.{only};
@@ -25,7 +25,7 @@ pub fn either(a: Ran, b: Ran) -> Ran
 }
 
 fn too_short(n: usize, buffer: &[u8]) -> Ran
-    ensures { answer_of result ≡ only (ltb (length buffer.now) n) (some (1, n)) }
+    ensures { answer_of result ≡ only (ltb (length buffer.now) n) (Some (1, n)) }
 {
     if buffer.len() < n {
         return Ran::Refused(Refusal::BufferTooShort(n));
@@ -122,7 +122,7 @@ fn wrong_count(n: usize, ticks: &[u8]) -> Ran
 }
 
 fn wrong_edge(signals: usize, s: usize, edge: u32) -> Ran
-    ensures { answer_of result ≡ pick (ltb s signals && leb edge 1) none (some (14, 0)) }
+    ensures { answer_of result ≡ pick (ltb s signals && leb edge 1) None (Some (14, 0)) }
 {
     if s >= signals {
         return Ran::Refused(Refusal::BadTick(0));

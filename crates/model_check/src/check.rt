@@ -1,6 +1,6 @@
 // The check of a model: refusal 12.
 ghost use Rattle.std.specs.Prelude.{◌≡◌, Bool, true, false, ◌&&◌, ℕ, ◌+◌, ◌≤◌, ◌<◌, ◌^◌, min, leb, ltb, eqb, length, get_or, set, drop};
-ghost use Rattle.std.proofs.Math.Option.{none, some};
+ghost use Rattle.std.specs.Prelude.{None, Some};
 ghost use Rattle.bits.specs.Bits.{pick};
 ghost use Rattle.recorder.specs.Lists.{lists};
 ghost use Rattle.recorder.specs.Read.{split, read_signal, read_expr, read_stmt};
@@ -715,7 +715,7 @@ fn stmt_fault(
 
 // The first fault, or else the second, behind k records.
 fn first(a: Fault, k: usize, b: Fault) -> Fault
-    requires { (n : ℕ) → fault_of b ≡ some n → k + n < 18446744073709551616 }
+    requires { (n : ℕ) → fault_of b ≡ Some n → k + n < 18446744073709551616 }
     ensures { fault_of result ≡ or_else (fault_of a) (behind k (fault_of b)) }
 {
     match a {

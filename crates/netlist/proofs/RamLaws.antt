@@ -2,7 +2,7 @@
 use mathlib.Core.Path.{◌≡◌, refl, sym, ◌∙◌, ap, subst}
 use mathlib.Core.Bool.{Bool, true, false}
 use mathlib.Core.List.{List, [], ◌∷◌}
-use mathlib.Core.Option.{Option, none, some}
+use Rattle.std.specs.Prelude.{Option, None, Some}
 use Prim.Native.Nat.{ℕ, suc, ◌+◌, ◌-◌, ◌*◌, ◌^◌, ◌≤◌, ◌<◌}
 use native.Mathlib.Nat.{pow-suc}
 use native.Mathlib.Numerals.{add-one}
@@ -64,9 +64,9 @@ module _ (depth width room : ℕ) (h : Widening depth width room) where
       left = let few = h.few in omega arith
 
 look : (x k v : ℕ) (l : List (ℕ × ℕ)) → (x ≡ k → ⊥) → lookup x ((k, v) ∷ l) ≡ lookup x l
-look x k v l h = ap (λ (b : Bool). elim b [ true ↦ some v | false ↦ lookup x l ]) (ne_eqb x k h)
+look x k v l h = ap (λ (b : Bool). elim b [ true ↦ Some v | false ↦ lookup x l ]) (ne_eqb x k h)
 
-pub shift_none : (x : ℕ) → (x ≡ 1 → ⊥) → (x ≡ 2 → ⊥) → (x ≡ 4 → ⊥) → (x ≡ 9 → ⊥) → (x ≡ 18 → ⊥) → none ≡ shift_of x
+pub shift_none : (x : ℕ) → (x ≡ 1 → ⊥) → (x ≡ 2 → ⊥) → (x ≡ 4 → ⊥) → (x ≡ 9 → ⊥) → (x ≡ 18 → ⊥) → None ≡ shift_of x
 shift_none x a b c d e =
     sym
     (look x 1 0 ((2, 1) ∷ (4, 2) ∷ (9, 3) ∷ (18, 4) ∷ []) a ∙ look x 2 1 ((4, 2) ∷ (9, 3) ∷ (18, 4) ∷ []) b

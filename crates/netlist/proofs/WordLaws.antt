@@ -1,7 +1,7 @@
 -- For the field readers: words past the end, an index that was cut to the number of words, sizes by kind.
 use mathlib.Core.Path.{◌≡◌, refl, sym, ◌∙◌, ap, subst}
 use mathlib.Core.List.{List, [], ◌∷◌, ◌++◌}
-use mathlib.Core.Option.{none, some}
+use Rattle.std.specs.Prelude.{None, Some}
 use mathlib.Core.Bool.{Bool, true, false}
 use Prim.Native.Nat.{ℕ, zero, suc, ◌+◌, ◌-◌, ◌≤◌, min}
 use native.Mathlib.Nat.{add-zero}
@@ -24,12 +24,12 @@ bit_of_wire (suc (suc n)) h g = ap Wire (omega arith)
 pub word_past : (words : List ℕ) (i : ℕ) → length words ≤ i → 0 ≡ word_at words i
 word_past words i h = sym (get_or-eq_default words 0 h)
 
-pub set_absent : {A : Type 0} (n : ℕ) (a : A) → n ≡ 0 → none ≡ when_set n a
-set_absent {A} n a e = subst (λ (m : ℕ). none ≡ when_set m a) (sym e) refl
+pub set_absent : {A : Type 0} (n : ℕ) (a : A) → n ≡ 0 → None ≡ when_set n a
+set_absent {A} n a e = subst (λ (m : ℕ). None ≡ when_set m a) (sym e) refl
 
-pub set_present : {A : Type 0} (n : ℕ) (a b : A) → (n ≡ 0 → ⊥) → b ≡ a → some b ≡ when_set n a
+pub set_present : {A : Type 0} (n : ℕ) (a b : A) → (n ≡ 0 → ⊥) → b ≡ a → Some b ≡ when_set n a
 set_present zero a b h e = absurd (h refl)
-set_present (suc n) a b h e = ap some e
+set_present (suc n) a b h e = ap Some e
 
 pub size_absent : (n s : ℕ) → n ≡ 0 → size_if n s ≡ 0
 size_absent n s e = ap (λ (m : ℕ). size_if m s) e

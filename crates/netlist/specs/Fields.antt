@@ -1,6 +1,6 @@
 -- What the words say, read without a check: the fields of the record that begins at an index. Past the last word all is 0.
 use Rattle.std.specs.Prelude.{List, [], ◌∷◌, ℕ, zero, suc, ◌+◌, ◌-◌, length, get_or}
-use Rattle.std.proofs.Math.Option.{Option, none, some}
+use Rattle.std.specs.Prelude.{Option, None, Some}
 use Rattle.netlist.specs.declared.Bit.{Bit}
 use Rattle.netlist.specs.declared.Layout.{Layout}
 use Rattle.netlist.specs.Netlist.{bit_of, Control, Reset, SecondPort, BlockRam, Cell, Port, Netlist}
@@ -20,8 +20,8 @@ after i = i + 1
 
 -- a flag says whether the field is there
 abbrev pub when_set : {A : Type 0} → ℕ → A → Option A
-when_set zero a = none
-when_set (suc n) a = some a
+when_set zero a = None
+when_set (suc n) a = Some a
 
 -- `second` if the flag is set
 abbrev pub size_if : ℕ → ℕ → ℕ

@@ -105,7 +105,6 @@ pub fn control(words: &[u32], at: usize, offset: usize) -> Control
     }
 }
 
-#[derive(Drop)]
 #[derive(Clone, Copy)]
 pub enum OptionalControl {
     Absent,
@@ -122,7 +121,6 @@ pub fn optional_control(words: &[u32], at: usize, offset: usize) -> OptionalCont
     OptionalControl::Present(control(words, i, 1))
 }
 
-#[derive(Drop)]
 #[derive(Clone, Copy)]
 pub enum OptionalReset {
     Absent,

@@ -5,7 +5,6 @@ ghost use Rattle.netlist.specs.FieldForms.{shift_given};
 
 use super::fields::wide;
 
-#[derive(Drop)]
 #[derive(Clone, Copy)]
 pub enum Shift {
     NotAllowed,

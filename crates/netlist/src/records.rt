@@ -7,7 +7,6 @@ ghost use Rattle.netlist.specs.Records.{pfumx_of, l6mux21_of, ccu2c_with, io_of}
 use super::Bit;
 use super::fields::{ahead, bit_at, field, wide};
 
-#[derive(Drop)]
 #[derive(Clone, Copy)]
 pub struct Pfumx {
     pub lut_true: Bit,
@@ -31,7 +30,6 @@ pub fn pfumx_at(words: &[u32], at: usize) -> Pfumx
     }
 }
 
-#[derive(Drop)]
 #[derive(Clone, Copy)]
 pub struct L6mux21 {
     pub data_zero: Bit,
@@ -56,7 +54,6 @@ pub fn l6mux21_at(words: &[u32], at: usize) -> L6mux21
 }
 
 // The two rows of inputs: fields::ccu2c_inputs.
-#[derive(Drop)]
 #[derive(Clone, Copy)]
 pub struct Ccu2c {
     pub carry_in: Bit,
@@ -100,7 +97,6 @@ pub fn second_start(words: &[u32], at: usize) -> usize
     ahead(words, at, 43 + width + width)
 }
 
-#[derive(Drop)]
 #[derive(Clone, Copy)]
 pub struct Io {
     pub pad: u32,

@@ -35,7 +35,6 @@ fn even_half(table: u16) -> u16
 }
 
 // The tables that are left when the first input is 0 and when it is 1.
-#[derive(Drop)]
 #[derive(Clone, Copy)]
 pub struct Halves {
     pub low: u16,

@@ -10,7 +10,6 @@ use crate::{bitwise, mux};
 use recorder::{Emitted, ExprId, Tapes, builder};
 
 // The result of a local rewrite, before anything is recorded.
-#[derive(Drop)]
 #[derive(Clone, Copy)]
 pub enum Rewrite {
     Value(ExprId),

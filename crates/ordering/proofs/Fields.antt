@@ -3,7 +3,7 @@ use Prim.Native.Nat.{ℕ, zero, suc, ◌+◌, ◌-◌, ◌≤◌, ◌<◌}
 use mathlib.Core.Path.{◌≡◌, refl, sym, ◌∙◌, ap, subst}
 use mathlib.Core.Bool.{Bool, true, false, ◌||◌}
 use mathlib.Core.List.{List, [], ◌∷◌, tail}
-use mathlib.Core.Option.{Option, none, some}
+use Rattle.std.specs.Prelude.{Option, None, Some}
 use native.Mathlib.Omega.{arith}
 use native.Mathlib.Nat.{not-suc-le-zero}
 use lib.Dec.{eqb}
@@ -35,14 +35,14 @@ or_false : (b : Bool) → (b || false) ≡ b
 or_false true = refl
 or_false false = refl
 
-read_cons : {A : Type 0} (g : List ℕ → Option A) (r : List ℕ) (rs : List (List ℕ)) (a : A) → g r ≡ some a → read_all g (r ∷ rs) ≡ a ∷ read_all g rs
+read_cons : {A : Type 0} (g : List ℕ → Option A) (r : List ℕ) (rs : List (List ℕ)) (a : A) → g r ≡ Some a → read_all g (r ∷ rs) ≡ a ∷ read_all g rs
 read_cons g r rs a e = rw (e, read_all)
 
 -- record k is read as number k
-pub read_at : {A : Type 0} (g : List ℕ → Option A) (rs : List (List ℕ)) (d : A) → EachReads g rs → (k : ℕ) → k < length rs → g (get_or rs k []) ≡ some (get_or (read_all g rs) k d)
+pub read_at : {A : Type 0} (g : List ℕ → Option A) (rs : List (List ℕ)) (d : A) → EachReads g rs → (k : ℕ) → k < length rs → g (get_or rs k []) ≡ Some (get_or (read_all g rs) k d)
 read_at g [] d t k h = absurd (not-suc-le-zero h)
-read_at g (r ∷ rs) d t zero h = t.0.reads ∙ ap (λ (l : List _). some (get_or l 0 d)) (sym (read_cons g r rs t.0.as_this t.0.reads))
-read_at g (r ∷ rs) d t (suc k) h = read_at g rs d t.1 k (omega arith) ∙ ap (λ (l : List _). some (get_or l (suc k) d)) (sym (read_cons g r rs t.0.as_this t.0.reads))
+read_at g (r ∷ rs) d t zero h = t.0.reads ∙ ap (λ (l : List _). Some (get_or l 0 d)) (sym (read_cons g r rs t.0.as_this t.0.reads))
+read_at g (r ∷ rs) d t (suc k) h = read_at g rs d t.1 k (omega arith) ∙ ap (λ (l : List _). Some (get_or l (suc k) d)) (sym (read_cons g r rs t.0.as_this t.0.reads))
 
 pub read_count : {A : Type 0} (g : List ℕ → Option A) (rs : List (List ℕ)) → EachReads g rs → length (read_all g rs) ≡ length rs
 read_count g [] t = refl
@@ -198,12 +198,12 @@ module _ (exprs stmts : List ℕ) (readable : EachReads read_expr (records_in ex
 
     module _ (marks : List ℕ) where
       by_mark : (o : Option ℕ) → mark_of marks true o ≡ all (marked marks) (listed o)
-      by_mark none = refl
-      by_mark (some d) = sym (and_true (marked marks d))
+      by_mark None = refl
+      by_mark (Some d) = sym (and_true (marked marks d))
 
       by_no_mark : (o : Option ℕ) → mark_of marks false o ≡ any (marked marks) (listed o)
-      by_no_mark none = refl
-      by_no_mark (some d) = sym (or_false (marked marks d))
+      by_no_mark None = refl
+      by_no_mark (Some d) = sym (or_false (marked marks d))
 
       pub ready_none : kind ≡ 0 → true ≡ ready m marks e
       ready_none k = sym (ap (all (marked marks)) (none_needed k))

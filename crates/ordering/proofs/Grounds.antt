@@ -12,7 +12,7 @@ use mathlib.Core.List.Memᴰ.{head as here}
 use mathlib.Core.List.Memᴰ.{not-nil}
 use mathlib.Core.List.Memᴰ.{tail as there}
 use mathlib.Core.List.{List, [], ◌∷◌, ◌++◌, Memᴰ as Mem}
-use mathlib.Core.Option.{Option, none, some}
+use Rattle.std.specs.Prelude.{Option, None, Some}
 use native.Mathlib.Omega.{arith}
 use native.Mathlib.Nat.{not-suc-le-zero}
 use native.Mathlib.Decide.{dec_lt, ℕ_discrete}
@@ -291,8 +291,8 @@ module _ (widest : ℕ) (m : Model) (sound : Sound widest m) where
   Sig s = Grounded (Reads (depends m)) s
 
   by_driver : (o : Option ℕ) → ((d : ℕ) → Mem d (listed o) → (z : ℕ) → Mem z (get_or rs d []) → Sig z) → (z : ℕ) → Mem z (reads_by rs o) → Sig z
-  by_driver none f z q = absurd (not-nil q)
-  by_driver (some d) f z q = f d (here refl) z q
+  by_driver None f z q = absurd (not-nil q)
+  by_driver (Some d) f z q = f d (here refl) z q
 
   reads_step : (e : ℕ) → ((d : ℕ) → Mem d (needs m e) → (z : ℕ) → Mem z (get_or rs d []) → Sig z) → (y : ℕ) → Mem y (get_or rs e []) → Sig y
   reads_step e ih y k = go (dec_lt e (length m.exprs))
@@ -308,9 +308,9 @@ module _ (widest : ℕ) (m : Model) (sound : Sound widest m) where
   grounded_reads {e} (ground h) y k = reads_step e (λ d q. grounded_reads (h d q)) y k
 
   -- all expressions can be reached at last: no signal is on a loop
-  pub grounded→unlooped : ((e : ℕ) → e < length m.exprs → Grounded (Needs m) e) → looped m ≡ none
+  pub grounded→unlooped : ((e : ℕ) → e < length m.exprs → Grounded (Needs m) e) → looped m ≡ None
   unfolding looped
-  grounded→unlooped all = lowest_on_loop_only (depends m) (length m.signals) (reads_under widest m sound) none (grounded→no_loop (Reads (depends m)) (Under (length m.signals)) (λ s p. ground (by_driver (given assigns m.stmts s) (λ d q. grounded_reads (any d)))))
+  grounded→unlooped all = lowest_on_loop_only (depends m) (length m.signals) (reads_under widest m sound) None (grounded→no_loop (Reads (depends m)) (Under (length m.signals)) (λ s p. ground (by_driver (given assigns m.stmts s) (λ d q. grounded_reads (any d)))))
     where
       any : (e : ℕ) → Grounded (Needs m) e
       any e = go (dec_lt e (length m.exprs))
@@ -341,11 +341,11 @@ module _ (widest : ℕ) (m : Model) (sound : Sound widest m) where
   driver_grounded {s} (ground h) d k = expr_grounded (suc d) d (omega arith) (λ y q. driver_grounded (h y (to (given assigns m.stmts s) k y q)))
     where
       to : (o : Option ℕ) → Mem d (listed o) → (y : ℕ) → Mem y (get_or rs d []) → Mem y (reads_by rs o)
-      to none z y q = absurd (not-nil z)
-      to (some a) z y q = subst (λ (b : ℕ). Mem y (get_or rs b [])) (singleton z) q
+      to None z y q = absurd (not-nil z)
+      to (Some a) z y q = subst (λ (b : ℕ). Mem y (get_or rs b [])) (singleton z) q
 
   -- no signal is on a loop: all expressions can be reached at last
-  pub unlooped→grounded : looped m ≡ none → (e : ℕ) → e < length m.exprs → Grounded (Needs m) e
+  pub unlooped→grounded : looped m ≡ None → (e : ℕ) → e < length m.exprs → Grounded (Needs m) e
   unfolding looped
   unlooped→grounded h e p = expr_grounded (suc e) e (omega arith) (λ y q. driver_grounded (every y (under e y q)))
     where

@@ -7,7 +7,7 @@ use mathlib.Core.List.Memᴰ.{eq_of_singleton as singleton}
 use mathlib.Core.List.Memᴰ.{head as here}
 use mathlib.Core.List.Memᴰ.{not-nil}
 use mathlib.Core.List.{List, [], ◌∷◌, Memᴰ as Mem}
-use mathlib.Core.Option.{Option, none, some}
+use Rattle.std.specs.Prelude.{Option, None, Some}
 use native.Mathlib.Omega.{arith}
 use native.Mathlib.Nat.{not-suc-le-zero}
 use native.Mathlib.Decide.{dec_lt, ℕ_discrete}
@@ -60,9 +60,9 @@ module _ (widest : ℕ) (m : Model) (sound : Sound widest m) (s : ℕ) where
   way_by y d k l = go (given assigns m.stmts y) refl k l
     where
       go : (o : Option ℕ) → given assigns m.stmts y ≡ o → Mem d (listed o) → Leads m s d → Way (Reads (depends m)) y s
-      go none p z q = absurd (not-nil z)
-      go (some a) p z (inl q) = edge (subst (λ (t : Option ℕ). Mem s (reads_by rs t)) (sym p) (subst (λ (b : ℕ). Mem s (get_or rs b [])) (singleton z) q))
-      go (some a) p z (inr t) = more (subst (λ (u : Option ℕ). Mem t.0 (reads_by rs u)) (sym p) (subst (λ (b : ℕ). Mem t.0 (get_or rs b [])) (singleton z) t.1)) t.2
+      go None p z q = absurd (not-nil z)
+      go (Some a) p z (inl q) = edge (subst (λ (t : Option ℕ). Mem s (reads_by rs t)) (sym p) (subst (λ (b : ℕ). Mem s (get_or rs b [])) (singleton z) q))
+      go (Some a) p z (inr t) = more (subst (λ (u : Option ℕ). Mem t.0 (reads_by rs u)) (sym p) (subst (λ (b : ℕ). Mem t.0 (get_or rs b [])) (singleton z) t.1)) t.2
 
   leads_kind : (v : Expr) → Shape m v → (marks : List ℕ) → Backed m s marks → (reads_it s v || any (marked marks) (needs_of m.stmts v)) ≡ true → Mem s (reads_expr rs v) ⊎ ((y : ℕ) × Mem y (reads_expr rs v) × Way (Reads (depends m)) y s)
   leads_kind v (reads w y l) marks b h = go (or_true (eqb y s) (any (marked marks) (listed (given assigns m.stmts y))) h)
@@ -132,8 +132,8 @@ module _ (widest : ℕ) (m : Model) (sound : Sound widest m) (s : ℕ) where
     first_edge y z k t = go (given assigns m.stmts y) k
       where
         go : (o : Option ℕ) → Mem z (reads_by rs o) → (d : ℕ) × Mem d (listed o) × (marked marks d ≡ true)
-        go none q = absurd (not-nil q)
-        go (some d) q = (d, here refl, hit_marked (suc d) d z (omega arith) q t)
+        go None q = absurd (not-nil q)
+        go (Some d) q = (d, here refl, hit_marked (suc d) d z (omega arith) q t)
 
     way_hits : {y z : ℕ} → Way (Reads (depends m)) y z → z ≡ s → (d : ℕ) × Mem d (listed (given assigns m.stmts y)) × (marked marks d ≡ true)
     way_hits {y} {z} (edge e) p = first_edge y z e (inl p)

@@ -6,7 +6,7 @@ use mathlib.Core.Bool.{Bool, true, false, false≢true}
 use mathlib.Core.List.Memᴰ.{eq_of_singleton as singleton}
 use mathlib.Core.List.Memᴰ.{not-nil}
 use mathlib.Core.List.{List, [], ◌∷◌, Memᴰ as Mem}
-use mathlib.Core.Option.{Option, none, some}
+use Rattle.std.specs.Prelude.{Option, None, Some}
 use native.Mathlib.Omega.{arith}
 use native.Mathlib.Decide.{ℕ_discrete}
 use lib.Dec.{eqb, leb, ltb}
@@ -40,7 +40,7 @@ reached_more m marks e r h = record { ends = λ d k. go d k (ℕ_discrete d e) }
 -- DRIVERS ARE THERE
 
 module _ (sw ew : List ℕ) where
-  stmt_value : (t : Stmt) (e : ℕ) → stmt_fits sw ew t ≡ true → assigns t ≡ some e → e < length ew
+  stmt_value : (t : Stmt) (e : ℕ) → stmt_fits sw ew t ≡ true → assigns t ≡ Some e → e < length ew
   stmt_value (assign t e') e h p =
       let q : e' ≡ e = cc in
       let w = and_right (ltb t (length sw)) (wide ew (length ew) e' (get_or sw t 0)) h in
@@ -48,25 +48,25 @@ module _ (sw ew : List ℕ) where
       omega (arith, q)
   stmt_value (reg t n c d r en) e h p = let z : ◌≡◌ {A = ℕ} 0 1 = cc in omega arith
 
-  given_there : (n : ℕ) (ts : List Stmt) (s e : ℕ) → AllFrom (λ (i : ℕ). stmt_fits sw ew) n ts → given assigns ts s ≡ some e → e < length ew
+  given_there : (n : ℕ) (ts : List Stmt) (s e : ℕ) → AllFrom (λ (i : ℕ). stmt_fits sw ew) n ts → given assigns ts s ≡ Some e → e < length ew
   given_there n [] s e h p = let z : ◌≡◌ {A = ℕ} 0 1 = cc in omega arith
   given_there n (t ∷ ts) s e h p = go (eqb (target t) s) (assigns t) refl p (given_there (suc n) ts s e h.1)
     where
-      go : (b : Bool) (o : Option ℕ) → assigns t ≡ o → pick b (or_else o (given assigns ts s)) (given assigns ts s) ≡ some e → (given assigns ts s ≡ some e → e < length ew) → e < length ew
+      go : (b : Bool) (o : Option ℕ) → assigns t ≡ o → pick b (or_else o (given assigns ts s)) (given assigns ts s) ≡ Some e → (given assigns ts s ≡ Some e → e < length ew) → e < length ew
       go false o q z f = f z
-      go true none q z f = f z
-      go true (some d) q z f = stmt_value t e h.0 (q ∙ z)
+      go true None q z f = f z
+      go true (Some d) q z f = stmt_value t e h.0 (q ∙ z)
 
 module _ (widest : ℕ) (m : Model) (sound : Sound widest m) where
-  pub driver_there : (s e : ℕ) → given assigns m.stmts s ≡ some e → e < length m.exprs
+  pub driver_there : (s e : ℕ) → given assigns m.stmts s ≡ Some e → e < length m.exprs
   driver_there s e p = let q = given_there (signal_widths m) (expr_widths m) 0 m.stmts s e sound.stmts_fit p in omega (arith, length-map m.exprs expr_width)
 
   listed_there : (s d : ℕ) → Mem d (listed (given assigns m.stmts s)) → d < length m.exprs
   listed_there s d k = go (given assigns m.stmts s) refl k
     where
       go : (o : Option ℕ) → given assigns m.stmts s ≡ o → Mem d (listed o) → d < length m.exprs
-      go none q z = absurd (not-nil z)
-      go (some e) q z = let w = driver_there s e q in omega (arith, singleton z)
+      go None q z = absurd (not-nil z)
+      go (Some e) q z = let w = driver_there s e q in omega (arith, singleton z)
 
   kinds_there : (x : Expr) (e : ℕ) → e < length m.exprs → ((d : ℕ) → Mem d (operands x) → d < e) → (d : ℕ) → Mem d (needs_of m.stmts x) → d < length m.exprs
   kinds_there (const w v) e h f d k = absurd (not-nil k)
@@ -93,8 +93,8 @@ module _ (widest : ℕ) (m : Model) (sound : Sound widest m) where
         go (inl y) f = y
         go (inr n) f = clash (ready m marks e) (all_in (marked marks) (needs m e) f) (stuck.none_ready e p n)
 
-    pub unlooped_marked : looped m ≡ none → (e : ℕ) → e < length m.exprs → marked marks e ≡ true
+    pub unlooped_marked : looped m ≡ None → (e : ℕ) → e < length m.exprs → marked marks e ≡ true
     unlooped_marked h e p = reachable_marked (unlooped→grounded widest m sound h e p) p
 
-  pub marked_unlooped : (marks : List ℕ) → Reached m marks → ((e : ℕ) → e < length m.exprs → marked marks e ≡ true) → looped m ≡ none
+  pub marked_unlooped : (marks : List ℕ) → Reached m marks → ((e : ℕ) → e < length m.exprs → marked marks e ≡ true) → looped m ≡ None
   marked_unlooped marks r all = grounded→unlooped widest m sound (λ e h. r.ends e (all e h))

@@ -6,7 +6,7 @@ use mathlib.Core.List.Memᴰ.{eq_of_singleton as singleton}
 use mathlib.Core.List.Memᴰ.{head as here}
 use mathlib.Core.List.Memᴰ.{not-nil}
 use mathlib.Core.List.{List, Memᴰ as Mem}
-use mathlib.Core.Option.{Option, none, some}
+use Rattle.std.specs.Prelude.{Option, None, Some}
 use native.Mathlib.Omega.{arith}
 use native.Mathlib.Nat.{not-suc-le-zero}
 use native.Mathlib.Decide.{ℕ_discrete}
@@ -109,12 +109,12 @@ touch_more {b = b} q h = record { found = sym (yes b h) ∙ q; marks_are = refl 
 -- ON A LOOP
 
 by_mark : (marks : List ℕ) (o : Option ℕ) → mark_of marks false o ≡ true → (d : ℕ) × Mem d (listed o) × (marked marks d ≡ true)
-by_mark marks none h = absurd (false≢true h)
-by_mark marks (some d) h = (d, here refl, h)
+by_mark marks None h = absurd (false≢true h)
+by_mark marks (Some d) h = (d, here refl, h)
 
 not_by_mark : (marks : List ℕ) (o : Option ℕ) → mark_of marks false o ≡ false → (d : ℕ) → Mem d (listed o) → marked marks d ≡ true → ⊥
-not_by_mark marks none h d k t = not-nil k
-not_by_mark marks (some e) h d k t = false≢true (sym h ∙ sym (ap (marked marks) (singleton k)) ∙ t)
+not_by_mark marks None h d k t = not-nil k
+not_by_mark marks (Some e) h d k t = false≢true (sym h ∙ sym (ap (marked marks) (singleton k)) ∙ t)
 
 pub on_loop_by : (widest : ℕ) {m : Model} (sound : Sound widest m) {s : ℕ} {marks : List ℕ} {r : Bool} → Found m s marks → r ≡ mark_of marks false (given assigns m.stmts s) → OnLoop m s r
 on_loop_by widest {m} sound {s} {marks} {r} f q =
@@ -137,13 +137,13 @@ unlooped_more {m} {s} u o h = record { none_below = λ y p w. go y p w (ℕ_disc
     go y p w (yes q) = o.not h (subst (λ (z : ℕ). Way (Reads (depends m)) z z) q w)
     go y p w (no q) = u.none_below y (omega (arith, p, q)) w
 
-pub lowest_found : (widest : ℕ) {m : Model} (sound : Sound widest m) {s : ℕ} {r : Bool} → Unlooped m s → s < length m.signals → OnLoop m s r → r ≡ true → some s ≡ looped m
+pub lowest_found : (widest : ℕ) {m : Model} (sound : Sound widest m) {s : ℕ} {r : Bool} → Unlooped m s → s < length m.signals → OnLoop m s r → r ≡ true → Some s ≡ looped m
 unfolding looped
-lowest_found widest {m} sound {s} u h o t = sym (lowest_on_loop_only (depends m) (length m.signals) (reads_under widest m sound) (some s) (h, o.is t, u.none_below))
+lowest_found widest {m} sound {s} u h o t = sym (lowest_on_loop_only (depends m) (length m.signals) (reads_under widest m sound) (Some s) (h, o.is t, u.none_below))
 
-pub none_found : (widest : ℕ) {m : Model} (sound : Sound widest m) {s : ℕ} → Unlooped m s → length m.signals ≤ s → none ≡ looped m
+pub none_found : (widest : ℕ) {m : Model} (sound : Sound widest m) {s : ℕ} → Unlooped m s → length m.signals ≤ s → None ≡ looped m
 unfolding looped
-none_found widest {m} sound {s} u h = sym (lowest_on_loop_only (depends m) (length m.signals) (reads_under widest m sound) none (λ y p w. u.none_below y (omega (arith, p, h)) w))
+none_found widest {m} sound {s} u h = sym (lowest_on_loop_only (depends m) (length m.signals) (reads_under widest m sound) None (λ y p w. u.none_below y (omega (arith, p, h)) w))
 
 -- PASS AFTER PASS
 

@@ -1,6 +1,6 @@
 -- What the search for a loop says.
 use Rattle.std.specs.Prelude.{ℕ, ◌<◌, ◌≡◌, Bool, true, false, List, set}
-use Rattle.std.proofs.Math.Option.{Option, none, some}
+use Rattle.std.specs.Prelude.{Option, None, Some}
 use Rattle.bits.specs.Bits.{pick}
 use Rattle.recorder.specs.Record.{Model}
 use Rattle.settle.specs.Walk.{Way}
@@ -11,8 +11,8 @@ use Rattle.ordering.specs.declared.Loop.TheVariants.{Free, At}
 use Rattle.ordering.specs.Marks.{marked, touched, Backed, Full, left}
 
 abbrev pub loop_of : Loop → Option ℕ
-loop_of Free = none
-loop_of (At s) = some s
+loop_of Free = None
+loop_of (At s) = Some s
 
 -- expression e leads to signal s, and is not marked yet
 abbrev pub finds : Model → ℕ → List ℕ → ℕ → Bool

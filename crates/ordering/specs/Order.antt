@@ -1,15 +1,15 @@
 -- What an expression needs first, and an order of all expressions in which it comes first.
 use Rattle.std.specs.Prelude.{ℕ, get_or}
 use mathlib.Core.List.{List, [], ◌∷◌}
-use Rattle.std.proofs.Math.Option.{Option, none, some}
+use Rattle.std.specs.Prelude.{Option, None, Some}
 use Rattle.recorder.specs.Record.{Expr, Stmt, Model}
 use Rattle.recorder.specs.Record.{const, read, concat, not, and, or, xor, mux, eq, mul}
 use Rattle.settle.specs.Loop.{Reads}
 use Rattle.simulation.specs.Tick.{given, assigns}
 
 abbrev pub listed : Option ℕ → List ℕ
-listed none = []
-listed (some e) = e ∷ []
+listed None = []
+listed (Some e) = e ∷ []
 
 -- its operands; a read of an assigned signal needs that signal's expression
 abbrev pub needs_of : List Stmt → Expr → List ℕ

@@ -1,6 +1,6 @@
 -- A model's expressions and statements from their words, and the tables that find them.
 use Rattle.std.specs.Prelude.{ℕ, Bool, List, []}
-use Rattle.std.proofs.Math.Option.{Option, none, some}
+use Rattle.std.specs.Prelude.{Option, None, Some}
 use Rattle.recorder.specs.Record.{Model}
 use Rattle.recorder.specs.Read.{read_signal, read_expr, read_all}
 use Rattle.recorder.specs.Words.{EachReads}
@@ -21,8 +21,8 @@ pub record Tabled (exprs starts stmts drivers : List ℕ) : Type 0 where
 
 -- the mark of the expression that is assigned to a signal
 abbrev pub mark_of : List ℕ → Bool → Option ℕ → Bool
-mark_of marks b none = b
-mark_of marks b (some e) = marked marks e
+mark_of marks b None = b
+mark_of marks b (Some e) = marked marks e
 
 abbrev pub driver_marked : List ℕ → List ℕ → ℕ → Bool → Bool
 driver_marked stmts marks s b = mark_of marks b (given assigns (stmts_in stmts) s)

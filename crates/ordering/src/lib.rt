@@ -3,7 +3,6 @@
 #![tactic(auto)]
 
 // The lowest signal on a loop.
-#[derive(Drop)]
 #[derive(Clone, Copy)]
 pub enum Loop {
     Free,

@@ -2,7 +2,7 @@
 use mathlib.Core.Path.{◌≡◌, refl, sym, subst}
 use mathlib.Core.Bool.{Bool}
 use mathlib.Core.List.{List}
-use mathlib.Core.Option.{none}
+use Rattle.std.specs.Prelude.{None}
 use Prim.Native.Nat.{ℕ, zero, suc, ◌+◌, ◌-◌, ◌≤◌}
 use native.Mathlib.Omega.{arith}
 use lib.ListN.{get_or}
@@ -41,7 +41,7 @@ module _ (limits : Limits) (words : List ℕ) (end : ℕ) where
             shape = omega arith
 
   pub no_second : {w : Walk} (flag width : ℕ) → flag ≡ 0 → Passed w (Reader.second_if limits words end flag width) w
-  no_second {w} flag width e = subst (λ (n : ℕ). Passed w (Reader.second_if limits words end n width) w) (sym e) (passed_done w none)
+  no_second {w} flag width e = subst (λ (n : ℕ). Passed w (Reader.second_if limits words end n width) w) (sym e) (passed_done w None)
 
   pub with_second : {w r : Walk} (flag width : ℕ) → (flag ≡ 0 → ⊥) → Passed w (Reader.second_if limits words end 1 width) r → Passed w (Reader.second_if limits words end flag width) r
   with_second zero width h p = absurd (h refl)

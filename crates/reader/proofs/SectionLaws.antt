@@ -1,7 +1,7 @@
 -- For the checks of sections: a loop over records, 6, and the answer.
 use mathlib.Core.Path.{◌≡◌, refl, sym, ◌∙◌, ap, subst}
 use mathlib.Core.List.{List, [], ◌∷◌, ◌++◌}
-use mathlib.Core.Option.{Option, none, some}
+use Rattle.std.specs.Prelude.{Option, None, Some}
 use mathlib.Core.Bool.{Bool, true, false, ◌&&◌}
 use Prim.Native.Nat.{ℕ, zero, suc, ◌+◌, ◌-◌, ◌≤◌, ◌<◌, min, zero-le}
 use native.Mathlib.Nat.{add-zero}
@@ -186,9 +186,9 @@ module _ (words : List ℕ) (i k : ℕ) (kind : k ≡ word_at words (i + 0)) whe
 
 -- the first that fails, one cell more
 pub first_more : {A : Type 0} (ok : A → Bool) (l : List A) (a : A) (i : ℕ) → first_not ok (l ++ (a ∷ [])) i ≡ first_of (first_not ok l i) (ok a) (i + length l)
-first_more {A} ok [] a i = go (ok a) ∙ ap (λ (n : ℕ). first_of none (ok a) n) (sym (add-zero i))
+first_more {A} ok [] a i = go (ok a) ∙ ap (λ (n : ℕ). first_of None (ok a) n) (sym (add-zero i))
   where
-    go : (b : Bool) → elim b [ true ↦ none | false ↦ some i ] ≡ first_of none b i
+    go : (b : Bool) → elim b [ true ↦ None | false ↦ Some i ] ≡ first_of None b i
     go true = refl
     go false = refl
 first_more {A} ok (x ∷ l) a i = go (ok x) (first_more ok l a (suc i))
@@ -197,7 +197,7 @@ first_more {A} ok (x ∷ l) a i = go (ok x) (first_more ok l a (suc i))
     shift = omega arith
 
     go : (b : Bool) → first_not ok (l ++ (a ∷ [])) (suc i) ≡ first_of (first_not ok l (suc i)) (ok a) (suc i + length l)
-        → elim b [ true ↦ first_not ok (l ++ (a ∷ [])) (suc i) | false ↦ some i ] ≡ first_of (elim b [ true ↦ first_not ok l (suc i) | false ↦ some i ]) (ok a) (i + suc (length l))
+        → elim b [ true ↦ first_not ok (l ++ (a ∷ [])) (suc i) | false ↦ Some i ] ≡ first_of (elim b [ true ↦ first_not ok l (suc i) | false ↦ Some i ]) (ok a) (i + suc (length l))
     go true e = e ∙ ap (λ (n : ℕ). first_of (first_not ok l (suc i)) (ok a) n) shift
     go false e = refl
 
@@ -400,5 +400,5 @@ module _ (limits : Limits) (words : List ℕ) where
 pub first_found : (six : fo.Found) (n : ℕ) (ok : Bool) (k : ℕ) → six ≡ fo.TheVariants.Cell n → found six ≡ first_of (found six) ok k
 first_found six n ok k e = ap found e ∙ sym (ap (λ (s : fo.Found). first_of (found s) ok k) e)
 
-pub first_next : (six : fo.Found) (ok : Bool) (k : ℕ) (b : Bool) → six ≡ fo.TheVariants.Nothing → ok ≡ b → first_of none b k ≡ first_of (found six) ok k
-first_next six ok k b e h = sym (ap (λ (s : fo.Found). first_of (found s) ok k) e ∙ ap (λ (t : Bool). first_of none t k) h)
+pub first_next : (six : fo.Found) (ok : Bool) (k : ℕ) (b : Bool) → six ≡ fo.TheVariants.Nothing → ok ≡ b → first_of None b k ≡ first_of (found six) ok k
+first_next six ok k b e h = sym (ap (λ (s : fo.Found). first_of (found s) ok k) e ∙ ap (λ (t : Bool). first_of None t k) h)

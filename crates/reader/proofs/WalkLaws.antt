@@ -1,7 +1,7 @@
 -- Laws of walks: one field after the other, and a loop over words.
 use mathlib.Core.Path.{◌≡◌, refl, sym, ◌∙◌, ap, subst}
 use mathlib.Core.List.{List, ◌∷◌}
-use mathlib.Core.Option.{none, some}
+use Rattle.std.specs.Prelude.{None, Some}
 use mathlib.Core.Bool.{Bool, true, false, ◌&&◌}
 use Prim.Native.Nat.{ℕ, zero, suc, ◌+◌, ◌-◌, ◌≤◌, ◌<◌}
 use native.Mathlib.Omega.{arith}
@@ -189,14 +189,14 @@ module _ (limits : Limits) (words : List ℕ) (end : ℕ) {w r1 : Walk} (x : ℕ
       go (suc n) q = h n
 
   pub optional_control_absent : {r2 r3 : Walk} → x ≡ 0 → Passed r1 (Reader.nought limits words end) r2 → Passed r2 (Reader.nought limits words end) r3 → Passed w (Reader.optional_control limits words end) r3
-  optional_control_absent z a b = choose_absent (Reader.control_if limits words end) z (then_go _ 0 a (λ p. then_go _ 0 b (λ q. passed_done _ none)))
+  optional_control_absent z a b = choose_absent (Reader.control_if limits words end) z (then_go _ 0 a (λ p. then_go _ 0 b (λ q. passed_done _ None)))
 
   pub optional_control_present : {r2 : Walk} → (x ≡ 0 → ⊥) → Passed r1 (Reader.control limits words end) r2 → Passed w (Reader.optional_control limits words end) r2
-  optional_control_present z a = choose_present (Reader.control_if limits words end) z (λ n. passed_map some (record { signal = Zero; active = 0 }) a)
+  optional_control_present z a = choose_present (Reader.control_if limits words end) z (λ n. passed_map Some (record { signal = Zero; active = 0 }) a)
 
   pub optional_reset_absent : {r2 r3 r4 r5 : Walk} → x ≡ 0 → Passed r1 (Reader.nought limits words end) r2 → Passed r2 (Reader.nought limits words end) r3
       → Passed r3 (Reader.nought limits words end) r4 → Passed r4 (Reader.nought limits words end) r5 → Passed w (Reader.optional_reset limits words end) r5
-  optional_reset_absent z a b c d = choose_absent (Reader.reset_if limits words end) z (then_go _ 0 a (λ p. then_go _ 0 b (λ q. then_go _ 0 c (λ s. then_go _ 0 d (λ t. passed_done _ none)))))
+  optional_reset_absent z a b c d = choose_absent (Reader.reset_if limits words end) z (then_go _ 0 a (λ p. then_go _ 0 b (λ q. then_go _ 0 c (λ s. then_go _ 0 d (λ t. passed_done _ None)))))
 
   pub optional_reset_present : {r2 r3 r4 r5 : Walk} → (x ≡ 0 → ⊥) → Passed r1 (Reader.bit limits words end) r2 → Passed r2 (Reader.flag limits words end) r3
       → Passed r3 (Reader.flag limits words end) r4 → Passed r4 (Reader.flag limits words end) r5 → Passed w (Reader.optional_reset limits words end) r5

@@ -1,6 +1,6 @@
 -- What `check` answers: a netlist's layout, or the refusal that the reader gives.
 use Rattle.std.specs.Prelude.{◌≡◌, List, Bool, true, false, ℕ}
-use Rattle.std.proofs.Math.Option.{Option, none, some}
+use Rattle.std.specs.Prelude.{Option, None, Some}
 use Rattle.refusal.specs.Refusal.{number_of, place_of}
 use Rattle.netlist.specs.declared.Layout.{Layout}
 use Rattle.reader.specs.declared.Checked as c
@@ -20,14 +20,14 @@ Checks limits words (c.TheVariants.Refused x) = read_words limits words ≡ refu
 -- FOR THE PARTS of the check
 
 abbrev pub found : f.Found → Option ℕ
-found f.TheVariants.Nothing = none
-found (f.TheVariants.Cell k) = some k
+found f.TheVariants.Nothing = None
+found (f.TheVariants.Cell k) = Some k
 
 -- the first that fails stays the first; cell k is next
 abbrev pub first_of : Option ℕ → Bool → ℕ → Option ℕ
-first_of (some n) ok k = some n
-first_of none true k = none
-first_of none false k = some k
+first_of (Some n) ok k = Some n
+first_of None true k = None
+first_of None false k = Some k
 
 pub record CellsChecked (limits : Limits) (words : List ℕ) (end start count : ℕ) (r : Cells) : Type 0 where
   pub walk : r.walk ≡ walk_of (Reader.read_cells limits words end count start)

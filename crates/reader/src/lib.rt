@@ -15,7 +15,6 @@ use netlist::{Layout, Limits};
 use refusal::Refusal;
 use sections::check_sections;
 
-#[derive(Drop)]
 #[derive(Clone, Copy)]
 pub enum Checked {
     Netlist(Layout),

@@ -15,14 +15,12 @@ use netlist::{Layout, Limits};
 use refusal::Refusal;
 
 // The first cell whose second port has another clock or edge.
-#[derive(Drop)]
 #[derive(Clone, Copy)]
 pub enum Found {
     Nothing,
     Cell(usize),
 }
 
-#[derive(Drop)]
 #[derive(Clone, Copy)]
 pub struct Cells {
     pub walk: Walk,

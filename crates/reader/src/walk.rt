@@ -9,7 +9,6 @@ use netlist::Limits;
 use netlist::fields::{wide, word};
 use refusal::Refusal;
 
-#[derive(Drop)]
 #[derive(Clone, Copy)]
 pub enum Walk {
     At(usize),

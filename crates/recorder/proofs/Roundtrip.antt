@@ -4,7 +4,7 @@ use Prim.Native.Nat.{ℕ, zero, suc, ◌+◌, ◌≤◌, ◌<◌}
 use mathlib.Core.Path.{◌≡◌, refl, sym, ◌∙◌, ap}
 use mathlib.Core.Bool.{Bool, true, false}
 use mathlib.Core.List.{List, [], ◌∷◌, ◌++◌, map, tail}
-use mathlib.Core.Option.{Option, none, some}
+use Rattle.std.specs.Prelude.{Option, None, Some}
 use native.Mathlib.Omega.{arith}
 use native.Mathlib.Nat.{not-suc-le-zero}
 use lib.Dec.{eqb, leb}
@@ -75,7 +75,7 @@ pub record Kind {A : Type 0} (f : A → List ℕ) (g : List ℕ → Option A) : 
   -- a record is its length and its fields
   pub is_sized : (a : A) → f a ≡ sized (tail (f a))
   -- what was written is read
-  pub back : (a : A) → g (tail (f a)) ≡ some a
+  pub back : (a : A) → g (tail (f a)) ≡ Some a
 
 module _ {A : Type 0} {f : A → List ℕ} {g : List ℕ → Option A} (kind : Kind f g) where
   -- the words of records split into them
@@ -96,59 +96,59 @@ module _ {A : Type 0} {f : A → List ℕ} {g : List ℕ → Option A} (kind : K
 
 -- WHAT WAS READ WAS WRITTEN, by the number of fields
 
-clash : {A B : Type 0} {a : A} → ◌≡◌ {A = Option A} none (some a) → B
+clash : {A B : Type 0} {a : A} → ◌≡◌ {A = Option A} None (Some a) → B
 clash q = let z : ◌≡◌ {A = ℕ} 0 1 = cc in absurd (omega arith)
 
 module _ {A : Type 0} (words : A → List ℕ) {x : A} where
-  some_words : {y : A} {ws : List ℕ} → ◌≡◌ {A = Option A} (some y) (some x) → words y ≡ ws → words x ≡ ws
+  some_words : {y : A} {ws : List ℕ} → ◌≡◌ {A = Option A} (Some y) (Some x) → words y ≡ ws → words x ≡ ws
   some_words {y} q h = let e : y ≡ x = cc in sym (ap words e) ∙ h
 
-  one_said : (f : ℕ → A) (pre : List ℕ → List ℕ) → ((a : ℕ) → words (f a) ≡ sized (pre (a ∷ []))) → (l : List ℕ) → one f l ≡ some x → words x ≡ sized (pre l)
+  one_said : (f : ℕ → A) (pre : List ℕ → List ℕ) → ((a : ℕ) → words (f a) ≡ sized (pre (a ∷ []))) → (l : List ℕ) → one f l ≡ Some x → words x ≡ sized (pre l)
   one_said f pre h [] q = clash q
   one_said f pre h (a ∷ []) q = some_words q (h a)
   one_said f pre h (a ∷ b ∷ l) q = clash q
 
-  two_said : (f : ℕ → ℕ → A) (pre : List ℕ → List ℕ) → ((a b : ℕ) → words (f a b) ≡ sized (pre (a ∷ b ∷ []))) → (l : List ℕ) → two f l ≡ some x → words x ≡ sized (pre l)
+  two_said : (f : ℕ → ℕ → A) (pre : List ℕ → List ℕ) → ((a b : ℕ) → words (f a b) ≡ sized (pre (a ∷ b ∷ []))) → (l : List ℕ) → two f l ≡ Some x → words x ≡ sized (pre l)
   two_said f pre h [] q = clash q
   two_said f pre h (a ∷ l) q = one_said (f a) (λ t. pre (a ∷ t)) (h a) l q
 
-  three_said : (f : ℕ → ℕ → ℕ → A) (pre : List ℕ → List ℕ) → ((a b c : ℕ) → words (f a b c) ≡ sized (pre (a ∷ b ∷ c ∷ []))) → (l : List ℕ) → three f l ≡ some x → words x ≡ sized (pre l)
+  three_said : (f : ℕ → ℕ → ℕ → A) (pre : List ℕ → List ℕ) → ((a b c : ℕ) → words (f a b c) ≡ sized (pre (a ∷ b ∷ c ∷ []))) → (l : List ℕ) → three f l ≡ Some x → words x ≡ sized (pre l)
   three_said f pre h [] q = clash q
   three_said f pre h (a ∷ l) q = two_said (f a) (λ t. pre (a ∷ t)) (h a) l q
 
   -- a width that must be n
-  only_said : (w n : ℕ) (o : Option A) (pre : ℕ → List ℕ) → (o ≡ some x → words x ≡ pre n) → only (eqb w n) o ≡ some x → words x ≡ pre w
+  only_said : (w n : ℕ) (o : Option A) (pre : ℕ → List ℕ) → (o ≡ Some x → words x ≡ pre n) → only (eqb w n) o ≡ Some x → words x ≡ pre w
   only_said w n o pre h q = go (eqb w n) refl q
     where
-      go : (b : Bool) → eqb w n ≡ b → only b o ≡ some x → words x ≡ pre w
+      go : (b : Bool) → eqb w n ≡ b → only b o ≡ Some x → words x ≡ pre w
       go true e q = h q ∙ ap pre (sym (eqb-true w n e))
       go false e q = clash q
 
-  enable_said : (f : Option RegEnable → A) (pre : List ℕ → List ℕ) → ((e : Option RegEnable) → words (f e) ≡ sized (pre (enable_words e))) → (l : List ℕ) → with_enable f l ≡ some x → words x ≡ sized (pre l)
+  enable_said : (f : Option RegEnable → A) (pre : List ℕ → List ℕ) → ((e : Option RegEnable) → words (f e) ≡ sized (pre (enable_words e))) → (l : List ℕ) → with_enable f l ≡ Some x → words x ≡ sized (pre l)
   enable_said f pre h [] q = clash q
-  enable_said f pre h (zero ∷ []) q = some_words q (h none)
+  enable_said f pre h (zero ∷ []) q = some_words q (h None)
   enable_said f pre h (zero ∷ a ∷ l) q = clash q
-  enable_said f pre h (suc zero ∷ l) q = two_said (λ s a. f (some (record { signal = s; active = a }))) (λ t. pre (1 ∷ t)) (λ s a. h (some (record { signal = s; active = a }))) l q
+  enable_said f pre h (suc zero ∷ l) q = two_said (λ s a. f (Some (record { signal = s; active = a }))) (λ t. pre (1 ∷ t)) (λ s a. h (Some (record { signal = s; active = a }))) l q
   enable_said f pre h (suc (suc n) ∷ l) q = clash q
 
-  reset_said : (f : Option RegReset → List ℕ → Option A) (pre : List ℕ → List ℕ) → ((r : Option RegReset) (l : List ℕ) → f r l ≡ some x → words x ≡ sized (pre (reset_words r ++ l))) → (l : List ℕ) → with_reset f l ≡ some x
+  reset_said : (f : Option RegReset → List ℕ → Option A) (pre : List ℕ → List ℕ) → ((r : Option RegReset) (l : List ℕ) → f r l ≡ Some x → words x ≡ sized (pre (reset_words r ++ l))) → (l : List ℕ) → with_reset f l ≡ Some x
       → words x ≡ sized (pre l)
   reset_said f pre h [] q = clash q
-  reset_said f pre h (zero ∷ l) q = h none l q
+  reset_said f pre h (zero ∷ l) q = h None l q
   reset_said f pre h (suc zero ∷ []) q = clash q
   reset_said f pre h (suc zero ∷ s ∷ []) q = clash q
   reset_said f pre h (suc zero ∷ s ∷ a ∷ []) q = clash q
-  reset_said f pre h (suc zero ∷ s ∷ a ∷ v ∷ l) q = h (some (record { signal = s; active = a; value = v })) l q
+  reset_said f pre h (suc zero ∷ s ∷ a ∷ v ∷ l) q = h (Some (record { signal = s; active = a; value = v })) l q
   reset_said f pre h (suc (suc n) ∷ l) q = clash q
 
-pub signal_said : (r : List ℕ) {s : Signal} → read_signal r ≡ some s → signal_words s ≡ sized r
+pub signal_said : (r : List ℕ) {s : Signal} → read_signal r ≡ Some s → signal_words s ≡ sized r
 signal_said r q = three_said signal_words (λ l w o. record { label = l; width = w; owner = o }) (λ t. t) (λ l w o. refl) r q
 
 -- two operands, and a width that the kind fixes
-fixed_said : (k w n : ℕ) (f : ℕ → ℕ → Expr) (l : List ℕ) {e : Expr} → ((a b : ℕ) → expr_words (f a b) ≡ sized (k ∷ n ∷ a ∷ b ∷ [])) → only (eqb w n) (two f l) ≡ some e → expr_words e ≡ sized (k ∷ w ∷ l)
+fixed_said : (k w n : ℕ) (f : ℕ → ℕ → Expr) (l : List ℕ) {e : Expr} → ((a b : ℕ) → expr_words (f a b) ≡ sized (k ∷ n ∷ a ∷ b ∷ [])) → only (eqb w n) (two f l) ≡ Some e → expr_words e ≡ sized (k ∷ w ∷ l)
 fixed_said k w n f l h q = only_said expr_words w n (two f l) (λ v. sized (k ∷ v ∷ l)) (λ p. two_said expr_words f (λ t. k ∷ n ∷ t) h l p) q
 
-pub expr_said : (r : List ℕ) {e : Expr} → read_expr r ≡ some e → expr_words e ≡ sized r
+pub expr_said : (r : List ℕ) {e : Expr} → read_expr r ≡ Some e → expr_words e ≡ sized r
 expr_said [] q = clash q
 expr_said (k ∷ []) q = clash q
 expr_said (zero ∷ w ∷ l) q = one_said expr_words (const w) (λ t. 0 ∷ w ∷ t) (λ a. refl) l q
@@ -163,7 +163,7 @@ expr_said (suc (suc (suc (suc (suc (suc (suc (suc zero))))))) ∷ w ∷ l) q = f
 expr_said (suc (suc (suc (suc (suc (suc (suc (suc (suc zero)))))))) ∷ w ∷ l) q = fixed_said 9 w 36 mul l (λ a b. refl) q
 expr_said (suc (suc (suc (suc (suc (suc (suc (suc (suc (suc k))))))))) ∷ w ∷ l) q = clash q
 
-pub stmt_said : (r : List ℕ) {s : Stmt} → read_stmt r ≡ some s → stmt_words s ≡ sized r
+pub stmt_said : (r : List ℕ) {s : Stmt} → read_stmt r ≡ Some s → stmt_words s ≡ sized r
 stmt_said [] q = clash q
 stmt_said (zero ∷ l) q = two_said stmt_words assign (λ t. 0 ∷ t) (λ a b. refl) l q
 stmt_said (suc zero ∷ []) q = clash q
@@ -192,7 +192,7 @@ expr_sized (mux w s t f) = refl
 expr_sized (eq a b) = refl
 expr_sized (mul a b) = refl
 
-expr_back : (e : Expr) → read_expr (tail (expr_words e)) ≡ some e
+expr_back : (e : Expr) → read_expr (tail (expr_words e)) ≡ Some e
 expr_back (const w v) = refl
 expr_back (read w s l) = refl
 expr_back (concat w ps) = refl
@@ -211,14 +211,14 @@ stmt_sized : (s : Stmt) → stmt_words s ≡ sized (tail (stmt_words s))
 stmt_sized (assign t e) = refl
 stmt_sized (reg t n c d r e) = refl
 
-enable_back : {A : Type 0} (f : Option RegEnable → A) (e : Option RegEnable) → with_enable f (enable_words e) ≡ some (f e)
-enable_back f none = refl
-enable_back f (some e) = refl
+enable_back : {A : Type 0} (f : Option RegEnable → A) (e : Option RegEnable) → with_enable f (enable_words e) ≡ Some (f e)
+enable_back f None = refl
+enable_back f (Some e) = refl
 
-stmt_back : (s : Stmt) → read_stmt (tail (stmt_words s)) ≡ some s
+stmt_back : (s : Stmt) → read_stmt (tail (stmt_words s)) ≡ Some s
 stmt_back (assign t e) = refl
-stmt_back (reg t n c d none e) = enable_back (reg t n c d none) e
-stmt_back (reg t n c d (some r) e) = enable_back (reg t n c d (some r)) e
+stmt_back (reg t n c d None e) = enable_back (reg t n c d None) e
+stmt_back (reg t n c d (Some r) e) = enable_back (reg t n c d (Some r)) e
 
 pub stmt_kind : Kind stmt_words read_stmt
 stmt_kind = record { is_sized = stmt_sized; back = stmt_back }

@@ -1,6 +1,6 @@
 -- The three lent lists: what playing a writer's events into them leaves, and how the call ends.
 use Rattle.std.specs.Prelude.{Bool, ◌&&◌, List, [], ◌∷◌, ◌≡◌, ℕ, ◌+◌, min, leb, length}
-use Rattle.std.proofs.Math.Option.{Option, none, some}
+use Rattle.std.specs.Prelude.{Option, None, Some}
 use Rattle.std.proofs.lemmas.List.Edits.{sets}
 use Rattle.bits.specs.Bits.{pick}
 use Rattle.refusal.specs.Refusal.{number_of, place_of}
@@ -164,9 +164,9 @@ stated (S.Refused x) = Failed (number_of x) (place_of x)
 
 -- a register's controls, as its record has them
 abbrev pub reset_of : AsyncReset → Option RegReset
-reset_of R.Absent = none
-reset_of (R.Present s a v) = some (record { signal = s.0; active = a; value = v.0 })
+reset_of R.Absent = None
+reset_of (R.Present s a v) = Some (record { signal = s.0; active = a; value = v.0 })
 
 abbrev pub enable_of : Enable → Option RegEnable
-enable_of N.Absent = none
-enable_of (N.Present s a) = some (record { signal = s.0; active = a })
+enable_of N.Absent = None
+enable_of (N.Present s a) = Some (record { signal = s.0; active = a })

@@ -1,6 +1,6 @@
 -- Whole lists: the words of records one after the other, and lists of given lengths that hold a model's records.
 use Rattle.std.specs.Prelude.{ℕ, ◌-◌, ◌≤◌, min, List, [], ◌∷◌, ◌++◌, ◌≡◌, length, replicate}
-use Rattle.std.proofs.Math.Option.{Option, some}
+use Rattle.std.specs.Prelude.{Option, Some}
 use Rattle.recorder.specs.declared.Tape.{Tape}
 use Rattle.recorder.specs.declared.Tapes.{Tapes}
 use Rattle.recorder.specs.Record.{Model, signal_words, expr_words, stmt_words}
@@ -24,7 +24,7 @@ raw_of l = record { signals = (split l.signals).records; exprs = (split l.exprs)
 
 pub record Reads {A : Type 0} (g : List ℕ → Option A) (r : List ℕ) : Type 0 where
   pub as_this : A
-  pub reads : g r ≡ some as_this
+  pub reads : g r ≡ Some as_this
 
 -- every record reads as something
 abbrev pub EachReads : {A : Type 0} → (List ℕ → Option A) → List (List ℕ) → Type 0

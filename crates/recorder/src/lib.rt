@@ -10,13 +10,11 @@ pub mod words;
 use refusal::Refusal;
 
 // The number of an expression.
-#[derive(Drop)]
-#[derive(Clone, Copy)]
+#[derive(Clone, Copy, Debug, PartialEq, Eq)]
 pub struct ExprId(pub u32);
 
 // The number of a signal. It cannot stand for an expression's, nor that for this.
-#[derive(Drop)]
-#[derive(Clone, Copy)]
+#[derive(Clone, Copy, Debug, PartialEq, Eq)]
 pub struct SignalId(pub u32);
 
 // The constants are always the first two expressions.
@@ -27,14 +25,12 @@ impl ExprId {
 }
 
 // How far a list is written: its words and its records.
-#[derive(Drop)]
 #[derive(Clone, Copy)]
 pub struct Tape {
     pub used: usize,
     pub count: u32,
 }
 
-#[derive(Drop)]
 #[derive(Clone, Copy)]
 pub struct Tapes {
     pub signals: Tape,
@@ -43,28 +39,24 @@ pub struct Tapes {
 }
 
 // Where a record went: its number and the tape behind it.
-#[derive(Drop)]
 #[derive(Clone, Copy)]
 pub enum Put {
     At(u32, Tape),
     Full,
 }
 
-#[derive(Drop)]
 #[derive(Clone, Copy)]
 pub enum Emitted {
     Done(ExprId, Tapes),
     Refused(Refusal),
 }
 
-#[derive(Drop)]
 #[derive(Clone, Copy)]
 pub enum Declared {
     Done(SignalId, Tapes),
     Refused(Refusal),
 }
 
-#[derive(Drop)]
 #[derive(Clone, Copy)]
 pub enum Stated {
     Done(Tapes),
@@ -72,7 +64,6 @@ pub enum Stated {
 }
 
 // An asynchronous reset of a register: signal, active level, the value that it loads.
-#[derive(Drop)]
 #[derive(Clone, Copy)]
 pub enum AsyncReset {
     Absent,
@@ -80,7 +71,6 @@ pub enum AsyncReset {
 }
 
 // An enable of a register: signal, active level.
-#[derive(Drop)]
 #[derive(Clone, Copy)]
 pub enum Enable {
     Absent,
@@ -88,7 +78,6 @@ pub enum Enable {
 }
 
 // What stands at an index of a list: a whole record with so many fields, the end, or a length of 0 or past the end.
-#[derive(Drop)]
 #[derive(Clone, Copy)]
 pub enum Cut {
     Record(usize),

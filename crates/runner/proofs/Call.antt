@@ -3,7 +3,8 @@ use Prim.Native.Nat.{ℕ, zero, suc, ◌+◌, ◌-◌, ◌≤◌}
 use mathlib.Core.Path.{◌≡◌, refl, sym, ◌∙◌, ap, ap₂}
 use mathlib.Core.Bool.{false}
 use mathlib.Core.List.{List, [], ◌∷◌, ◌++◌, map, map-append}
-use mathlib.Core.Option.{Option, none, some, some-ne-none}
+use Rattle.std.specs.Prelude.{Option, None, Some}
+use Rattle.bits.proofs.Options.{some_ne_none}
 use native.Mathlib.Omega.{arith}
 use lib.ListN.{length, take, drop, replicate, length-replicate, replicate-append-replicate}
 use Rattle.bits.specs.Bits.{Bits, digit}
@@ -32,7 +33,7 @@ use Rattle.runner.specs.Calls.{Answers, Runs}
 use Rattle.runner.specs.Parts.{Unrefused, Tries}
 use Rattle.runner.proofs.Ticking.{good_ticks}
 
-firsts_none : {a b d : Option (ℕ × ℕ)} → a ≡ none → b ≡ none → d ≡ none → first_of (a ∷ b ∷ d ∷ []) ≡ none
+firsts_none : {a b d : Option (ℕ × ℕ)} → a ≡ None → b ≡ None → d ≡ None → first_of (a ∷ b ∷ d ∷ []) ≡ None
 firsts_none p q r = rw (p, q, r)
 
 -- zeros of a buffer's length, whatever it held in between
@@ -84,7 +85,7 @@ module _ {signals exprs stmts bytes ticks : List ℕ} {fired : Option (ℕ × �
   abbrev l : Lists
   l = lists signals exprs stmts
 
-  fine : first_fault largest (raw_of (lists signals exprs stmts)) ≡ none
+  fine : first_fault largest (raw_of (lists signals exprs stmts)) ≡ None
   fine = faultless largest (lists signals exprs stmts) u.well_formed
 
   pub no_fault : NoFault signals exprs stmts
@@ -119,17 +120,17 @@ module _ {signals exprs stmts bytes ticks : List ℕ} {fired : Option (ℕ × �
   ticks_good = good_ticks signals ticks fired (length (model_of (raw_of l)).signals) (tick_bits (model_of (raw_of l))) refl u.no_cause
 
   -- with a loop
-  pub tried_looped : (x : ℕ) {found : Loop} → found ≡ At x → loop_of found ≡ looped (model_in signals exprs stmts) → (r : Ran) → answer_of r ≡ some (13, x) → Tries (lists signals exprs stmts) bytes ticks fired r bytes
+  pub tried_looped : (x : ℕ) {found : Loop} → found ≡ At x → loop_of found ≡ looped (model_in signals exprs stmts) → (r : Ran) → answer_of r ≡ Some (13, x) → Tries (lists signals exprs stmts) bytes ticks fired r bytes
   tried_looped x {found} e f r a = record { answered = a ∙ ap on_loop so; left = sym (ap (bytes_after (call_of (lists signals exprs stmts) bytes ticks fired [] [] [])) (sym (ap on_loop so))) }
     where
-      so : some x ≡ looped (model_in signals exprs stmts)
+      so : Some x ≡ looped (model_in signals exprs stmts)
       so = ap loop_of (sym e) ∙ f
 
-  pub unlooped : {found : Loop} → found ≡ Free → loop_of found ≡ looped (model_in signals exprs stmts) → looped (model_in signals exprs stmts) ≡ none
+  pub unlooped : {found : Loop} → found ≡ Free → loop_of found ≡ looped (model_in signals exprs stmts) → looped (model_in signals exprs stmts) ≡ None
   unlooped e f = sym f ∙ ap loop_of e
 
   -- without
-  pub tried_made : looped (model_in signals exprs stmts) ≡ none → {bytes' : List ℕ} → Ticks signals exprs stmts ticks (firing fired) bytes bytes' → (r : Ran) → answer_of r ≡ none → Tries (lists signals exprs stmts) bytes ticks fired r bytes'
+  pub tried_made : looped (model_in signals exprs stmts) ≡ None → {bytes' : List ℕ} → Ticks signals exprs stmts ticks (firing fired) bytes bytes' → (r : Ran) → answer_of r ≡ None → Tries (lists signals exprs stmts) bytes ticks fired r bytes'
   unfolding ticked
   tried_made q {bytes'} t r a = record {
     answered = a ∙ ap on_loop (sym q);
@@ -139,13 +140,13 @@ module _ {signals exprs stmts bytes ticks : List ℕ} {fired : Option (ℕ × �
 -- ALL OF A CALL
 
 module _ (c : Call) where
-  pub checked_none : checked_by largest c ≡ none → Unrefused c.lists c.bytes c.ticks c.fired c.work_bits c.work_exprs c.work_signals
+  pub checked_none : checked_by largest c ≡ None → Unrefused c.lists c.bytes c.ticks c.fired c.work_bits c.work_exprs c.work_signals
   unfolding checked_by
   checked_none = go (malformed largest c.lists) refl
     where
-      go : (o : Option ℕ) → malformed largest c.lists ≡ o → checked (call_model c) c o ≡ none → Unrefused c.lists c.bytes c.ticks c.fired c.work_bits c.work_exprs c.work_signals
-      go (some n) e h = absurd (some-ne-none (12, n) h)
-      go none e h =
+      go : (o : Option ℕ) → malformed largest c.lists ≡ o → checked (call_model c) c o ≡ None → Unrefused c.lists c.bytes c.ticks c.fired c.work_bits c.work_exprs c.work_signals
+      go (Some n) e h = absurd (some_ne_none (12, n) h)
+      go None e h =
           let a : AllNone (take 8 (causes (call_model c) c)) = all_none (take 8 (causes (call_model c) c)) h in
           record {
             well_formed = e;
@@ -156,21 +157,21 @@ module _ (c : Call) where
           }
 
   -- refused before a loop is looked for
-  pub answers_refused : (x : ℕ × ℕ) (r : Ran) → answer_of r ≡ some x → answer_of r ≡ checked_by largest c → Answers c r c.bytes
+  pub answers_refused : (x : ℕ × ℕ) (r : Ran) → answer_of r ≡ Some x → answer_of r ≡ checked_by largest c → Answers c r c.bytes
   answers_refused x r e q =
-      let a : some x ≡ answer largest c = ap (λ (o : Option (ℕ × ℕ)). or_else o (on_loop (looped (call_model c)))) (sym e ∙ q) ∙ sym (answer_checked largest c) in
+      let a : Some x ≡ answer largest c = ap (λ (o : Option (ℕ × ℕ)). or_else o (on_loop (looped (call_model c)))) (sym e ∙ q) ∙ sym (answer_checked largest c) in
       record { answered = e ∙ a; left = ap (bytes_after c) a }
 
   -- or not
-  pub answers_tried : {r : Ran} {bytes' : List ℕ} → none ≡ checked_by largest c → Tries c.lists c.bytes c.ticks c.fired r bytes' → Answers c r bytes'
+  pub answers_tried : {r : Ran} {bytes' : List ℕ} → None ≡ checked_by largest c → Tries c.lists c.bytes c.ticks c.fired r bytes' → Answers c r bytes'
   unfolding ticked
   answers_tried {r} {bytes'} q t =
       let a : on_loop (looped (call_model c)) ≡ answer largest c = ap (λ (o : Option (ℕ × ℕ)). or_else o (on_loop (looped (call_model c)))) q ∙ sym (answer_checked largest c) in
       record { answered = t.answered ∙ a; left = t.left ∙ same_after (on_loop (looped (call_model c))) ∙ ap (bytes_after c) a }
     where
       same_after : (o : Option (ℕ × ℕ)) → bytes_after (call_of c.lists c.bytes c.ticks c.fired [] [] []) o ≡ bytes_after c o
-      same_after none = refl
-      same_after (some x) = refl
+      same_after None = refl
+      same_after (Some x) = refl
 
   -- works of the same length
   pub same_works : {ws : List ℕ} → length ws ≡ length c.work_signals → Unrefused c.lists c.bytes c.ticks c.fired c.work_bits c.work_exprs c.work_signals → Unrefused c.lists c.bytes c.ticks c.fired c.work_bits c.work_exprs ws

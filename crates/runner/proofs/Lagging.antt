@@ -3,7 +3,7 @@ use Prim.Native.Nat.{ℕ, suc, ◌+◌, ◌-◌, ◌*◌, ◌/◌, ◌≤◌, �
 use mathlib.Core.Path.{◌≡◌, refl, sym, ◌∙◌, ap, ap₂, subst}
 use mathlib.Core.Bool.{Bool, true, false, not, ◌||◌, false≢true}
 use mathlib.Core.List.{List, [], ◌∷◌, ◌++◌, map, append_assoc}
-use mathlib.Core.Option.{Option, none, some}
+use Rattle.std.specs.Prelude.{Option, None, Some}
 use native.Mathlib.Omega.{arith}
 use lib.Dec.{eqb}
 use borrow.Author.Tests.{eqb-true}
@@ -74,7 +74,7 @@ planning_kept p l = record { ports = p.ports; planned = λ u. planned_kept (p.pl
 
 -- THE PARTS OF A TICK
 
-module _ {signals exprs stmts expr_table signal_table : List ℕ} (p : Prepared signals exprs stmts expr_table signal_table) (q : looped (model_in signals exprs stmts) ≡ none) where
+module _ {signals exprs stmts expr_table signal_table : List ℕ} (p : Prepared signals exprs stmts expr_table signal_table) (q : looped (model_in signals exprs stmts) ≡ None) where
   abbrev m : Model
   m = model_in signals exprs stmts
 
@@ -150,16 +150,16 @@ finishes_none {late = false} z = record { finishes = λ old behind h. h }
 finishes_none {late = true} z = absurd (false≢true z)
 
 module _ {signals exprs stmts ticks : List ℕ} {fired : Option (ℕ × ℕ)} {bytes : List ℕ} where
-  pub late_refused : (r : ℕ × ℕ) → RunsLate signals exprs stmts ticks fired (some r) bytes bytes
+  pub late_refused : (r : ℕ × ℕ) → RunsLate signals exprs stmts ticks fired (Some r) bytes bytes
   late_refused r = record { runs_late = λ old behind ho. (old, ho, refl) }
 
-  late_runs : {bytes' : List ℕ} → TicksLate signals exprs stmts ticks (firing fired) bytes bytes' → RunsLate signals exprs stmts ticks fired none bytes bytes'
+  late_runs : {bytes' : List ℕ} → TicksLate signals exprs stmts ticks (firing fired) bytes bytes' → RunsLate signals exprs stmts ticks fired None bytes bytes'
   late_runs t = record { runs_late = λ old behind ho. t.ticks_late old behind ho }
 
 -- of a tick that is made all bits were there
-pub late_handed : {signals exprs stmts ticks : List ℕ} {fired : Option (ℕ × ℕ)} {bytes bytes' : List ℕ} (inputs asked count : ℕ) → none ≡ tick_causes count inputs (handed inputs asked ticks) fired → TicksLate signals exprs stmts ticks (firing fired) bytes bytes' → RunsLate signals exprs stmts (handed inputs asked ticks) fired none bytes bytes'
+pub late_handed : {signals exprs stmts ticks : List ℕ} {fired : Option (ℕ × ℕ)} {bytes bytes' : List ℕ} (inputs asked count : ℕ) → None ≡ tick_causes count inputs (handed inputs asked ticks) fired → TicksLate signals exprs stmts ticks (firing fired) bytes bytes' → RunsLate signals exprs stmts (handed inputs asked ticks) fired None bytes bytes'
 late_handed {signals} {exprs} {stmts} {ticks} {fired} {bytes} {bytes'} inputs asked count h t =
-    subst (λ (x : List ℕ). RunsLate signals exprs stmts x fired none bytes bytes') (sym (handed_made inputs asked ticks count fired h)) (late_runs t)
+    subst (λ (x : List ℕ). RunsLate signals exprs stmts x fired None bytes bytes') (sym (handed_made inputs asked ticks count fired h)) (late_runs t)
 
 -- A LIST OF THEM
 
@@ -216,11 +216,11 @@ pub record Next (l : Lists) (ticks : List ℕ) (fired : Option (ℕ × ℕ)) (me
   pub ran : RunsTick l.signals l.exprs l.stmts ticks fired a meant meant'
   pub lags : Lags l late meant' bytes
 
-module _ (l : Lists) (h : malformed largest l ≡ none) (u : looped (model_of (raw_of l)) ≡ none) where
+module _ (l : Lists) (h : malformed largest l ≡ None) (u : looped (model_of (raw_of l)) ≡ None) where
   abbrev M : Model
   M = model_of (raw_of l)
 
-  fine : first_fault largest (raw_of l) ≡ none
+  fine : first_fault largest (raw_of l) ≡ None
   fine = faultless largest l h
 
   good : Sound largest (model_of (raw_of l))
@@ -248,7 +248,7 @@ module _ (l : Lists) (h : malformed largest l ≡ none) (u : looped (model_of (r
   module _ {late : Bool} {meant bytes : List ℕ} (g : Lags l late meant bytes) (count : ℕ) {inputs : ℕ} (hi : inputs ≡ total input_width (signals_in l.signals)) {ticks : List ℕ} {fired : Option (ℕ × ℕ)} where
     next : {bytes' : List ℕ} (a : Option (ℕ × ℕ)) → a ≡ tick_causes count inputs ticks fired → RunsLate l.signals l.exprs l.stmts ticks fired a bytes bytes' → {late' : Bool} → late' ≡ (late || is_made a) → Next l ticks fired meant a late' bytes'
     unfolding model_of
-    next {bytes'} (some r) ha w {late'} e = record {
+    next {bytes'} (Some r) ha w {late'} e = record {
       meant' = meant;
       ran = record { runs = λ old behind ho. ho };
       lags =
@@ -260,7 +260,7 @@ module _ (l : Lists) (h : malformed largest l ≡ none) (u : looped (model_of (r
         same : (b : Bool) → b ≡ (b || false)
         same true = refl
         same false = refl
-    next {bytes'} none ha w {late'} e = record {
+    next {bytes'} None ha w {late'} e = record {
       meant' = map digit (flat T) ++ g.behind;
       ran = record { runs = λ old behind ho. moved old behind ho };
       lags = subst (λ (b : Bool). Lags l b (map digit (flat T) ++ g.behind) bytes') (same late ∙ sym e)
@@ -313,7 +313,7 @@ pub along_start : {l : Lists} (heads bits : List ℕ) {bytes₀ : List ℕ} (ans
 along_start heads bits {bytes₀} answers₀ shown₀ f = record { meant = bytes₀; running = running_start heads bits bytes₀ answers₀ shown₀; lags = lags_start f }
 
 module _ {l : Lists} {heads bits bytes₀ bytes answers₀ answers shown₀ shown : List ℕ} {at pos to i : ℕ} {late : Bool} (g : Along l heads bits bytes₀ bytes answers₀ answers shown₀ shown at pos to i late)
-    (h : malformed largest l ≡ none) (u : looped (model_of (raw_of l)) ≡ none) where
+    (h : malformed largest l ≡ None) (u : looped (model_of (raw_of l)) ≡ None) where
   pub along_long : length bytes ≡ length bytes₀
   along_long = lags_long l h u g.lags ∙ g.running.bytes_long
 

@@ -4,7 +4,8 @@ use mathlib.Core.Path.{◌≡◌, refl, sym, ◌∙◌, ap, subst}
 use mathlib.Core.Bool.{Bool, true, false, true≢false, false≢true}
 use mathlib.Core.List.{List, [], ◌∷◌}
 use mathlib.Core.Logic.{◌⊎◌, inl, inr, ◌≢◌}
-use mathlib.Core.Option.{Option, none, some, none-ne-some}
+use Rattle.std.specs.Prelude.{Option, None, Some}
+use Rattle.bits.proofs.Options.{none_ne_some}
 use native.Mathlib.Omega.{arith}
 use native.Mathlib.Nat.{not-suc-le-zero}
 use native.Mathlib.Decide.{dec_lt, ℕ_discrete}
@@ -308,16 +309,16 @@ module _ {signals stmts : List ℕ} (s : Stated signals stmts) where
 
 -- what a rule gives a signal
 
-or_else_none : (o : Option ℕ) → or_else o none ≡ o
-or_else_none none = refl
-or_else_none (some e) = refl
+or_else_none : (o : Option ℕ) → or_else o None ≡ o
+or_else_none None = refl
+or_else_none (Some e) = refl
 
 module _ (rule : Stmt → Option ℕ) where
-  given_nothing : (ss : List Stmt) (i : ℕ) → count_of (on i) ss ≤ 0 → given rule ss i ≡ none
+  given_nothing : (ss : List Stmt) (i : ℕ) → count_of (on i) ss ≤ 0 → given rule ss i ≡ None
   given_nothing [] i h = refl
   given_nothing (x ∷ ss) i h = go (eqb (target x) i) (given_nothing ss i) h
     where
-      go : (b : Bool) → (count_of (on i) ss ≤ 0 → given rule ss i ≡ none) → pick b (suc (count_of (on i) ss)) (count_of (on i) ss) ≤ 0 → ◌≡◌ {A = Option ℕ} (pick b (or_else (rule x) (given rule ss i)) (given rule ss i)) none
+      go : (b : Bool) → (count_of (on i) ss ≤ 0 → given rule ss i ≡ None) → pick b (suc (count_of (on i) ss)) (count_of (on i) ss) ≤ 0 → ◌≡◌ {A = Option ℕ} (pick b (or_else (rule x) (given rule ss i)) (given rule ss i)) None
       go true f k = absurd (not-suc-le-zero k)
       go false f k = f k
 
@@ -338,18 +339,18 @@ module _ (rule : Stmt → Option ℕ) where
     pub number : ℕ
     pub there : number < length ss
     pub onto : target (get_or ss number (assign 0 0)) ≡ i
-    pub gives : rule (get_or ss number (assign 0 0)) ≡ some e
+    pub gives : rule (get_or ss number (assign 0 0)) ≡ Some e
 
-  giver : (ss : List Stmt) (i e : ℕ) → given rule ss i ≡ some e → Giver ss i e
-  giver [] i e h = absurd (none-ne-some e h)
+  giver : (ss : List Stmt) (i e : ℕ) → given rule ss i ≡ Some e → Giver ss i e
+  giver [] i e h = absurd (none_ne_some e h)
   giver (x ∷ ss) i e h = go (eqb (target x) i) refl (rule x) refl (giver ss i e) h
     where
       later : Giver ss i e → Giver (x ∷ ss) i e
       later g = record { number = suc g.number; there = omega (arith, g.there); onto = g.onto; gives = g.gives }
 
-      go : (b : Bool) → eqb (target x) i ≡ b → (o : Option ℕ) → rule x ≡ o → (given rule ss i ≡ some e → Giver ss i e) → pick b (or_else o (given rule ss i)) (given rule ss i) ≡ some e → Giver (x ∷ ss) i e
-      go true t none r f k = later (f k)
-      go true t (some d) r f k = record { number = 0; there = omega arith; onto = eqb-true (target x) i t; gives = r ∙ k }
+      go : (b : Bool) → eqb (target x) i ≡ b → (o : Option ℕ) → rule x ≡ o → (given rule ss i ≡ Some e → Giver ss i e) → pick b (or_else o (given rule ss i)) (given rule ss i) ≡ Some e → Giver (x ∷ ss) i e
+      go true t None r f k = later (f k)
+      go true t (Some d) r f k = record { number = 0; there = omega arith; onto = eqb-true (target x) i t; gives = r ∙ k }
       go false t o r f k = later (f k)
 
 same_given : (rule rule' : Stmt → Option ℕ) (ss : List Stmt) (i : ℕ) → ((k : ℕ) → k < length ss → rule (get_or ss k (assign 0 0)) ≡ rule' (get_or ss k (assign 0 0))) → given rule ss i ≡ given rule' ss i
@@ -359,12 +360,12 @@ same_given rule rule' (x ∷ ss) i h =
     ∙ ap (λ (o : Option ℕ). pick (eqb (target x) i) (or_else (rule' x) o) o) (same_given rule rule' ss i (λ k q. h (suc k) (omega arith)))
 
 store_at : (vs : List Bits) (o : Option ℕ) (x i : ℕ) (t : List Bits) → x ≡ i → i < length t → get_or (store vs o x t) i [] ≡ become vs o (get_or t i [])
-store_at vs none x i t e h = refl
-store_at vs (some k) x i t e h = ap (λ (j : ℕ). get_or (set t j (get_or vs k [])) i []) e ∙ get_or-set_same t i (get_or vs k []) [] h
+store_at vs None x i t e h = refl
+store_at vs (Some k) x i t e h = ap (λ (j : ℕ). get_or (set t j (get_or vs k [])) i []) e ∙ get_or-set_same t i (get_or vs k []) [] h
 
 store_off : (vs : List Bits) (o : Option ℕ) (x i : ℕ) (t : List Bits) → i ≢ x → get_or (store vs o x t) i [] ≡ get_or t i []
-store_off vs none x i t e = refl
-store_off vs (some k) x i t e = get_or-set_other t x i (get_or vs k []) [] e
+store_off vs None x i t e = refl
+store_off vs (Some k) x i t e = get_or-set_other t x i (get_or vs k []) [] e
 
 -- NOTES: the first j of a list of registers have their marks
 
@@ -423,8 +424,8 @@ pub record LoadsFirst (signals exprs stmts values marks order : List ℕ) (from 
 pub loads_start : (signals exprs stmts values marks order : List ℕ) (from : ℕ) (bytes : List ℕ) → LoadsFirst signals exprs stmts values marks order from bytes bytes 0
 loads_start signals exprs stmts values marks order from bytes = record { as_long = refl; so_far = λ old vs behind rest ho hv. (old, ho, record { either = λ s. inl refl; those = λ i q. absurd (not-suc-le-zero q) }) }
 
-by_register : (mark e : ℕ) (x : Stmt) → marked mark x ≡ some e → is_register x ≡ true
-by_register mark e (assign t n) h = absurd (none-ne-some e h)
+by_register : (mark e : ℕ) (x : Stmt) → marked mark x ≡ Some e → is_register x ≡ true
+by_register mark e (assign t n) h = absurd (none_ne_some e h)
 by_register mark e (reg t n c d r v) h = refl
 
 module _ {signals exprs stmts values marks order : List ℕ} {from : ℕ} {bytes₀ bytes : List ℕ} {j : ℕ} (s : Stated signals stmts) (g : LoadsFirst signals exprs stmts values marks order from bytes₀ bytes j) {k : ℕ} (r : Registers stmts order from k) where
@@ -448,9 +449,9 @@ module _ {signals exprs stmts values marks order : List ℕ} {from : ℕ} {bytes
         after = store vs (by_marks marks (stmt_in stmts b.number)) t cur
 
         settled : (o : Option ℕ) → (get_or cur t [] ≡ get_or old t []) ⊎ (get_or cur t [] ≡ become vs o (get_or old t [])) → become vs o (get_or cur t []) ≡ become vs o (get_or old t [])
-        settled none (inl z) = z
-        settled none (inr z) = z
-        settled (some d) z = refl
+        settled None (inl z) = z
+        settled None (inr z) = z
+        settled (Some d) z = refl
 
         own : get_or after t [] ≡ become vs (given (by_marks marks) (stmts_in stmts) t) (get_or old t [])
         own =
@@ -499,8 +500,8 @@ module _ {signals exprs stmts values marks order : List ℕ} {from : ℕ} {bytes
     where
       every : {old vs cur : List Bits} → LoadsSome stmts marks order from j old vs cur → (i : ℕ) (o : Option ℕ) → given (by_marks marks) (stmts_in stmts) i ≡ o → (get_or cur i [] ≡ get_or old i []) ⊎ (get_or cur i [] ≡ become vs (given (by_marks marks) (stmts_in stmts) i) (get_or old i [])) → get_or cur i [] ≡ become vs (given (by_marks marks) (stmts_in stmts) i) (get_or old i [])
       every p i o z (inr x) = x
-      every {old} {vs} p i none z (inl x) = x ∙ sym (ap (λ (y : Option ℕ). become vs y (get_or old i [])) z)
-      every {old} {vs} {cur} p i (some d) z (inl x) =
+      every {old} {vs} p i None z (inl x) = x ∙ sym (ap (λ (y : Option ℕ). become vs y (get_or old i [])) z)
+      every {old} {vs} {cur} p i (Some d) z (inl x) =
           let w = giver (by_marks marks) (stmts_in stmts) i d z in
           let n : w.number < length (records_in stmts) = omega (arith, w.there, stmts_long s) in
           let a = r.all w.number n (by_register (get_or marks (target (stmt_in stmts w.number)) 0) d (stmt_in stmts w.number) w.gives) in
@@ -515,34 +516,34 @@ loads_listed_by {stmts = stmts} {marks = marks} {f = f} s n l = record {
 
 -- DRIVERS
 
-driven_there : {signals stmts : List ℕ} → Stated signals stmts → {i d : ℕ} → given assigns (stmts_in stmts) i ≡ some d → i < length (records_in signals)
+driven_there : {signals stmts : List ℕ} → Stated signals stmts → {i d : ℕ} → given assigns (stmts_in stmts) i ≡ Some d → i < length (records_in signals)
 driven_there {stmts = stmts} s {i} {d} h =
     let w = giver assigns (stmts_in stmts) i d h in
     omega (arith, w.onto, target_known s {k = w.number} (omega (arith, w.there, stmts_long s)))
 
 module _ {signals exprs stmts expr_table signal_table : List ℕ} (p : Prepared signals exprs stmts expr_table signal_table) {values bytes : List ℕ} {x : ℕ} where
-  pub driven_by : {d : ℕ} {bytes' : List ℕ} → given assigns (stmts_in stmts) x ≡ some d → StoresOne signals exprs values x d bytes bytes' → StoresDriven signals exprs stmts x values bytes bytes'
+  pub driven_by : {d : ℕ} {bytes' : List ℕ} → given assigns (stmts_in stmts) x ≡ Some d → StoresOne signals exprs values x d bytes bytes' → StoresDriven signals exprs stmts x values bytes bytes'
   driven_by {d} {bytes'} h o = record { stores_driven = λ old vs behind rest ho hv. subst (λ (y : Option ℕ). Holds (widths_in signals) (store vs y x old) behind bytes') (sym h) (o.stores_one old vs behind rest ho hv) }
 
-  pub driven_none : given assigns (stmts_in stmts) x ≡ none → StoresDriven signals exprs stmts x values bytes bytes
+  pub driven_none : given assigns (stmts_in stmts) x ≡ None → StoresDriven signals exprs stmts x values bytes bytes
   driven_none h = record { stores_driven = λ old vs behind rest ho hv. subst (λ (y : Option ℕ). Holds (widths_in signals) (store vs y x old) behind bytes) (sym h) ho }
 
   -- no such signal
   pub driven_past : length (records_in signals) ≤ x → StoresDriven signals exprs stmts x values bytes bytes
   driven_past h = driven_none (by (given assigns (stmts_in stmts) x) refl)
     where
-      by : (o : Option ℕ) → given assigns (stmts_in stmts) x ≡ o → given assigns (stmts_in stmts) x ≡ none
-      by none z = z
-      by (some d) z = absurd (omega (arith, driven_there (stated p) z))
+      by : (o : Option ℕ) → given assigns (stmts_in stmts) x ≡ o → given assigns (stmts_in stmts) x ≡ None
+      by None z = z
+      by (Some d) z = absurd (omega (arith, driven_there (stated p) z))
 
-  pub driven_asks : {d : ℕ} → Room signals exprs bytes values → given assigns (stmts_in stmts) x ≡ some d → Indexed (widths_in exprs) expr_table × Indexed (widths_in signals) signal_table × Room signals exprs bytes values × (x < length (records_in signals)) × (d < length (records_in exprs)) × (get_or (widths_in exprs) d 0 ≡ get_or (widths_in signals) x 0)
+  pub driven_asks : {d : ℕ} → Room signals exprs bytes values → given assigns (stmts_in stmts) x ≡ Some d → Indexed (widths_in exprs) expr_table × Indexed (widths_in signals) signal_table × Room signals exprs bytes values × (x < length (records_in signals)) × (d < length (records_in exprs)) × (get_or (widths_in exprs) d 0 ≡ get_or (widths_in signals) x 0)
   driven_asks r h = (p.expr_offsets, p.signal_offsets, r, driven_there (stated p) h, omega (arith, driver_there p x h, length_widths exprs), driver_wide p x h)
 
 -- STORES: the first j signals of a list have the values of what is assigned to them, free ones are kept
 
 pub record StoresSome (stmts order : List ℕ) (from j : ℕ) (old vs cur : List Bits) : Type 0 where
-  pub those : (i d : ℕ) → i < j → given assigns (stmts_in stmts) (get_or order (from + i) 0) ≡ some d → get_or cur (get_or order (from + i) 0) [] ≡ get_or vs d []
-  pub free : (x : ℕ) → given assigns (stmts_in stmts) x ≡ none → get_or cur x [] ≡ get_or old x []
+  pub those : (i d : ℕ) → i < j → given assigns (stmts_in stmts) (get_or order (from + i) 0) ≡ Some d → get_or cur (get_or order (from + i) 0) [] ≡ get_or vs d []
+  pub free : (x : ℕ) → given assigns (stmts_in stmts) x ≡ None → get_or cur x [] ≡ get_or old x []
 
 pub record StoresFirst (signals exprs stmts values order : List ℕ) (from : ℕ) (bytes₀ bytes : List ℕ) (j : ℕ) : Type 0 where
   pub as_long : length bytes ≡ length bytes₀
@@ -561,17 +562,17 @@ module _ {signals exprs stmts values order : List ℕ} {from : ℕ} {bytes₀ by
       after : List Bits
       after = store vs (given assigns (stmts_in stmts) x) x cur
 
-      own : (d : ℕ) → given assigns (stmts_in stmts) x ≡ some d → get_or after x [] ≡ get_or vs d []
+      own : (d : ℕ) → given assigns (stmts_in stmts) x ≡ Some d → get_or after x [] ≡ get_or vs d []
       own d z = store_at vs (given assigns (stmts_in stmts) x) x x cur refl (omega (arith, h, driven_there s z)) ∙ ap (λ (o : Option ℕ). become vs o (get_or cur x [])) z
 
-      more : (i d : ℕ) → Dec (i < j) → Dec (get_or order (from + i) 0 ≡ x) → i < j + 1 → given assigns (stmts_in stmts) (get_or order (from + i) 0) ≡ some d → get_or after (get_or order (from + i) 0) [] ≡ get_or vs d []
+      more : (i d : ℕ) → Dec (i < j) → Dec (get_or order (from + i) 0 ≡ x) → i < j + 1 → given assigns (stmts_in stmts) (get_or order (from + i) 0) ≡ Some d → get_or after (get_or order (from + i) 0) [] ≡ get_or vs d []
       more i d a (yes y) q z = subst (λ (n : ℕ). get_or after n [] ≡ get_or vs d []) (sym y) (own d (ap (given assigns (stmts_in stmts)) (sym y) ∙ z))
       more i d (yes a) (no n) q z = store_off vs (given assigns (stmts_in stmts) x) x (get_or order (from + i) 0) cur n ∙ p.those i d a z
       more i d (no a) (no n) q z =
           let same : i ≡ j = omega arith in
           absurd (n (ap (λ (m : ℕ). get_or order (from + m) 0) same ∙ sym e))
 
-      kept : (y : ℕ) → Dec (y ≡ x) → given assigns (stmts_in stmts) y ≡ none → get_or after y [] ≡ get_or old y []
+      kept : (y : ℕ) → Dec (y ≡ x) → given assigns (stmts_in stmts) y ≡ None → get_or after y [] ≡ get_or old y []
       kept y (yes a) z = ap (λ (o : Option ℕ). get_or (store vs o x cur) y []) (ap (given assigns (stmts_in stmts)) (sym a) ∙ z) ∙ p.free y z
       kept y (no n) z = store_off vs (given assigns (stmts_in stmts) x) x y cur n ∙ p.free y z
 

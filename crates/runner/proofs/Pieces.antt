@@ -2,7 +2,7 @@
 use Prim.Native.Nat.{ℕ, zero, suc, ◌+◌, ◌*◌, ◌/◌, ◌≤◌}
 use mathlib.Core.Path.{◌≡◌, refl, sym, ◌∙◌, ap, ap₂, subst}
 use mathlib.Core.List.{List, [], ◌∷◌, ◌++◌, append_assoc}
-use mathlib.Core.Option.{Option, none, some}
+use Rattle.std.specs.Prelude.{Option, None, Some}
 use native.Mathlib.Omega.{arith}
 use native.Mathlib.Nat.{le_trans, le_of_eq, mul-suc, mul-zero, mul-add, zero-add}
 use lib.ListN.{length, take, drop, set, replicate, length-append, length-drop, length-replicate}
@@ -118,7 +118,7 @@ filled_more buffer ws vs i n e d h =
 
 -- THE LAW
 
-six_none : {a b c d e f : Option (ℕ × ℕ)} → a ≡ none → b ≡ none → c ≡ none → d ≡ none → e ≡ none → f ≡ none → first_of (a ∷ b ∷ c ∷ d ∷ e ∷ f ∷ []) ≡ none
+six_none : {a b c d e f : Option (ℕ × ℕ)} → a ≡ None → b ≡ None → c ≡ None → d ≡ None → e ≡ None → f ≡ None → first_of (a ∷ b ∷ c ∷ d ∷ e ∷ f ∷ []) ≡ None
 six_none qa qb qc qd qe qf = rw (qa, qb, qc, qd, qe, qf)
 
 runs_to : (widest : ℕ) (x : ListCall) (o : Option ℕ) → malformed widest x.lists ≡ o → run_list widest x ≡ list_outcome widest x (list_verdict (list_model x) x o)
@@ -126,7 +126,7 @@ unfolding run_list list_answer
 runs_to widest x o e = ap (λ (p : Option ℕ). list_outcome widest x (list_verdict (list_model x) x p)) e
 
 module _ (widest : ℕ) (c : ListCall) (k : ℕ) (heads bits more_heads more_bits : List ℕ) (hk : length heads ≡ 3 * k) (hb : length bits ≡ asked heads)
-    (enough : let whole = piece c (heads ++ more_heads) (bits ++ more_bits) c.bytes in first_of (list_causes (list_model whole) whole) ≡ none) where
+    (enough : let whole = piece c (heads ++ more_heads) (bits ++ more_bits) c.bytes in first_of (list_causes (list_model whole) whole) ≡ None) where
   abbrev m : Model
   m = list_model c
 
@@ -166,7 +166,7 @@ module _ (widest : ℕ) (c : ListCall) (k : ℕ) (heads bits more_heads more_bit
       le_trans (le_of_eq (sym (mul-add (output_bytes m) k n) ∙ ap (λ (i : ℕ). output_bytes m * i) (sym all_count))) (short_none (output_bytes m * length (entries_of whole)) c.shown causes.1.1.1.1.1.0)
 
   -- and for a part of the ticks, from as many bytes
-  part_enough : (h b bytes : List ℕ) (i : ℕ) → length (entries_of (piece c h b bytes)) ≡ i → 2 * i ≤ length c.answers → output_bytes (list_model c) * i ≤ length c.shown → length bytes ≡ length c.bytes → first_of (list_causes (list_model c) (piece c h b bytes)) ≡ none
+  part_enough : (h b bytes : List ℕ) (i : ℕ) → length (entries_of (piece c h b bytes)) ≡ i → 2 * i ≤ length c.answers → output_bytes (list_model c) * i ≤ length c.shown → length bytes ≡ length c.bytes → first_of (list_causes (list_model c) (piece c h b bytes)) ≡ None
   part_enough h b bytes i e qa qs q =
       six_none
       (short_so (signal_bytes m) bytes (le_trans (short_none (signal_bytes m) c.bytes causes.0) (le_of_eq (sym q))))
@@ -183,11 +183,11 @@ module _ (widest : ℕ) (c : ListCall) (k : ℕ) (heads bits more_heads more_bit
   Follows a = Joined a (run_list widest (piece c more_heads more_bits a.bytes))
 
   -- a malformed model refuses all three
-  malformed_so : (x : ℕ) → malformed widest c.lists ≡ some x → Follows (run_list widest (piece c heads bits c.bytes))
+  malformed_so : (x : ℕ) → malformed widest c.lists ≡ Some x → Follows (run_list widest (piece c heads bits c.bytes))
   malformed_so x e =
-      subst Follows (sym (runs_to widest (piece c heads bits c.bytes) (some x) e))
-      (subst (Joined (list_outcome widest (piece c heads bits c.bytes) (some (12, x)))) (sym (runs_to widest (piece c more_heads more_bits c.bytes) (some x) e))
-      (refl, runs_to widest whole (some x) e ∙ outcome_same refl refl (nothing_over c.answers (2 * k) (2 * n)) (nothing_over c.shown (output_bytes m * k) (output_bytes m * n))))
+      subst Follows (sym (runs_to widest (piece c heads bits c.bytes) (Some x) e))
+      (subst (Joined (list_outcome widest (piece c heads bits c.bytes) (Some (12, x)))) (sym (runs_to widest (piece c more_heads more_bits c.bytes) (Some x) e))
+      (refl, runs_to widest whole (Some x) e ∙ outcome_same refl refl (nothing_over c.answers (2 * k) (2 * n)) (nothing_over c.shown (output_bytes m * k) (output_bytes m * n))))
 
   abbrev left : List ℕ
   left = bytes_after_all widest c.lists c.bytes es
@@ -207,7 +207,7 @@ module _ (widest : ℕ) (c : ListCall) (k : ℕ) (heads bits more_heads more_bit
   room : total (λ (s : Signal). s.width) (list_model c).signals ≤ length c.bytes
   room = short_none (signal_bytes m) c.bytes causes.0
 
-  all_so : list_outcome widest (piece c (heads ++ more_heads) (bits ++ more_bits) c.bytes) none ≡ behind_of c k (list_outcome widest (piece c heads bits c.bytes) none) (length more_heads / 3) (list_outcome widest (piece c more_heads more_bits (bytes_after_all widest c.lists c.bytes (entries (tick_bits (list_model c)) c.work_bits c.work_exprs c.work_signals heads bits))) none)
+  all_so : list_outcome widest (piece c (heads ++ more_heads) (bits ++ more_bits) c.bytes) None ≡ behind_of c k (list_outcome widest (piece c heads bits c.bytes) None) (length more_heads / 3) (list_outcome widest (piece c more_heads more_bits (bytes_after_all widest c.lists c.bytes (entries (tick_bits (list_model c)) c.work_bits c.work_exprs c.work_signals heads bits))) None)
   all_so =
       outcome_same refl
       (ap (bytes_after_all widest c.lists c.bytes) all_ticks ∙ bytes_append widest c.lists c.bytes es fs)
@@ -225,17 +225,17 @@ module _ (widest : ℕ) (c : ListCall) (k : ℕ) (heads bits more_heads more_bit
       (omega (arith, shown_long)))
 
   -- the ticks of a model without a fault
-  formed_so : malformed widest c.lists ≡ none → Follows (run_list widest (piece c heads bits c.bytes))
+  formed_so : malformed widest c.lists ≡ None → Follows (run_list widest (piece c heads bits c.bytes))
   formed_so e =
       let a = part_enough heads bits c.bytes k first_count (omega (arith, answers_long)) (omega (arith, shown_long)) refl in
       let b = part_enough more_heads more_bits left n more_count (omega (arith, answers_long)) (omega (arith, shown_long)) left_length in
-      subst Follows (sym (runs_to widest (piece c heads bits c.bytes) none e ∙ ap (list_outcome widest (piece c heads bits c.bytes)) a))
-      (subst (Joined (list_outcome widest (piece c heads bits c.bytes) none)) (sym (runs_to widest (piece c more_heads more_bits left) none e ∙ ap (list_outcome widest (piece c more_heads more_bits left)) b))
-      (refl, runs_to widest whole none e ∙ ap (list_outcome widest whole) enough ∙ all_so))
+      subst Follows (sym (runs_to widest (piece c heads bits c.bytes) None e ∙ ap (list_outcome widest (piece c heads bits c.bytes)) a))
+      (subst (Joined (list_outcome widest (piece c heads bits c.bytes) None)) (sym (runs_to widest (piece c more_heads more_bits left) None e ∙ ap (list_outcome widest (piece c more_heads more_bits left)) b))
+      (refl, runs_to widest whole None e ∙ ap (list_outcome widest whole) enough ∙ all_so))
 
   joined : (o : Option ℕ) → malformed widest c.lists ≡ o → Follows (run_list widest (piece c heads bits c.bytes))
-  joined none e = formed_so e
-  joined (some x) e = malformed_so x e
+  joined None e = formed_so e
+  joined (Some x) e = malformed_so x e
 
 pub in_pieces : InPieces
 in_pieces widest c k heads bits more_heads more_bits hk hb enough = joined widest c k heads bits more_heads more_bits hk hb enough (malformed widest c.lists) refl

@@ -4,7 +4,8 @@ use mathlib.Core.Path.{◌≡◌, refl, sym, ◌∙◌, ap, subst}
 use mathlib.Core.Bool.{true, false, false≢true}
 use mathlib.Core.Logic.{◌⊎◌, inl, inr}
 use mathlib.Core.List.{List}
-use mathlib.Core.Option.{some, some-ne-none}
+use Rattle.std.specs.Prelude.{Some}
+use Rattle.bits.proofs.Options.{some_ne_none}
 use native.Mathlib.Omega.{arith}
 use native.Mathlib.Decide.{ℕ_discrete}
 use lib.ListN.{length, get_or, take, drop}
@@ -33,9 +34,9 @@ pub loads_start : (stmts order : List ℕ) (from : ℕ) (marks : List ℕ) → L
 loads_start stmts order from marks = record { so_far = λ i h. absurd (omega arith) }
 
 -- what may be loaded stands in a register
-loads_register : (x : Stmt) (e : ℕ) → (loaded_by 1 x ≡ some e) ⊎ (loaded_by 2 x ≡ some e) → is_register x ≡ true
-loads_register (assign t d) e (inl h) = absurd (some-ne-none e (sym h))
-loads_register (assign t d) e (inr h) = absurd (some-ne-none e (sym h))
+loads_register : (x : Stmt) (e : ℕ) → (loaded_by 1 x ≡ Some e) ⊎ (loaded_by 2 x ≡ Some e) → is_register x ≡ true
+loads_register (assign t d) e (inl h) = absurd (some_ne_none e (sym h))
+loads_register (assign t d) e (inr h) = absurd (some_ne_none e (sym h))
 loads_register (reg t n c d r y) e h = refl
 
 module _ {stmts order : List ℕ} {from : ℕ} {marks : List ℕ} {j : ℕ} (g : LoadsSoFar stmts order from marks j) where
@@ -138,8 +139,8 @@ module _ (n s : ℕ) (o₁ o₂ o₃ o₄ : List ℕ) (k₂ : take (7 * n) o₂ 
           → PortsBefore signals ports → n ≡ length (records_in exprs) → registers ≤ s → controls ≤ s → outputs ≤ s → first ≤ n
           → 9 * n + 3 * s ≤ length o₆ → length o₆ ≡ length o₅ → base ≡ bits_in exprs → state ≡ bits_in signals → base + state ≤ length values
           → Registers stmts o₂ (7 * n) registers → Controls stmts o₃ (7 * n + s) controls → Outputs signals o₄ (7 * n + s + s) outputs
-          → Coded signals exprs stmts n (7 * n + s + s + s) first o₅ → ((e : ℕ) → Loaded stmts e → Among o₅ (7 * n + s + s + s) first e) → ((x d : ℕ) → Among o₅ (7 * n + s) controls x → given assigns (stmts_in stmts) x ≡ some d → Among o₅ (7 * n + s + s + s) first d)
-          → Coded signals exprs stmts n (7 * n + s + s + s + n) second o₆ → ((x d : ℕ) → Among o₆ (7 * n + s + s) outputs x → given assigns (stmts_in stmts) x ≡ some d → Among o₆ (7 * n + s + s + s + n) second d)
+          → Coded signals exprs stmts n (7 * n + s + s + s) first o₅ → ((e : ℕ) → Loaded stmts e → Among o₅ (7 * n + s + s + s) first e) → ((x d : ℕ) → Among o₅ (7 * n + s) controls x → given assigns (stmts_in stmts) x ≡ Some d → Among o₅ (7 * n + s + s + s) first d)
+          → Coded signals exprs stmts n (7 * n + s + s + s + n) second o₆ → ((x d : ℕ) → Among o₆ (7 * n + s + s) outputs x → given assigns (stmts_in stmts) x ≡ Some d → Among o₆ (7 * n + s + s + s + n) second d)
           → Planning signals exprs stmts n s (record { usable = true; ports = ports; base = base; state = state; registers = registers; controls = controls; outputs = outputs; first = first; second = second; used = used }) o₆ values
       planned_all {signals} {exprs} {stmts} {values} {ports} {base} {state} {registers} {controls} {outputs} {first} {second} {used} hp hn hr hc ho hf room same hb hs hv rs cs os coded loaded driven coded₂ shown = record {
         ports = hp;

@@ -2,7 +2,7 @@
 use Prim.Native.Nat.{ℕ, ◌+◌, ◌-◌, ◌*◌, ◌/◌, ◌≤◌, ◌<◌, min}
 use mathlib.Core.Path.{◌≡◌, refl, sym, ◌∙◌, ap, ap₂}
 use mathlib.Core.List.{List, []}
-use mathlib.Core.Option.{Option, none}
+use Rattle.std.specs.Prelude.{Option, None}
 use native.Mathlib.Omega.{arith}
 use lib.ListN.{length, get_or, take, drop}
 use Rattle.recorder.specs.Lists.{Lists, over}
@@ -27,10 +27,10 @@ use Rattle.runner.proofs.Running.{Running, running_next, entry_at, inputs_asked,
 
 -- ALL TICKS
 
-module _ (l : Lists) (h : malformed largest l ≡ none) (bytes : List ℕ) (b : signal_bytes (model_of (raw_of l)) ≤ length bytes) where
+module _ (l : Lists) (h : malformed largest l ≡ None) (bytes : List ℕ) (b : signal_bytes (model_of (raw_of l)) ≤ length bytes) where
   pub sum_inside : offset (widths_in l.signals) (length (records_in l.signals)) ≤ length bytes
   sum_inside =
-      let z = bytes_same largest (call_of l [] [] none [] [] []) h in
+      let z = bytes_same largest (call_of l [] [] None [] [] []) h in
       let e = total_offset second_field (records_in l.signals) in
       let k = ap (offset (widths_in l.signals)) (length_widths l.signals) in omega (arith, b, z, e, k)
 

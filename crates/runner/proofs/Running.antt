@@ -3,7 +3,7 @@ use Prim.Native.Nat.{ℕ, suc, ◌+◌, ◌-◌, ◌*◌, ◌/◌, ◌≤◌, �
 use mathlib.Core.Path.{◌≡◌, refl, sym, ◌∙◌, ap, ap₂, subst}
 use mathlib.Core.Bool.{Bool, true, false}
 use mathlib.Core.List.{List, [], ◌∷◌, ◌++◌}
-use mathlib.Core.Option.{Option, none, some}
+use Rattle.std.specs.Prelude.{Option, None, Some}
 use native.Mathlib.Omega.{arith}
 use native.Mathlib.Numerals.{add-one}
 use native.Mathlib.Nat.{le_trans, le_of_eq, zero-add, mul-suc, mul-zero, mul-le-mul_left}
@@ -95,8 +95,8 @@ module _ (inputs : ℕ) (wb we ws : List ℕ) where
 -- WHAT ONE TICK SHOWS
 
 pub words_two : (a : Option (ℕ × ℕ)) → length (answer_words a) ≡ 2
-words_two none = refl
-words_two (some a) = refl
+words_two None = refl
+words_two (Some a) = refl
 
 pub shown_length : (ss : List Signal) (bytes : List ℕ) → total (λ (s : Signal). s.width) ss ≤ length bytes → length (flat (shown_bytes ss bytes)) ≡ total output_width ss
 shown_length [] bytes h = refl
@@ -238,7 +238,7 @@ module _ {l : Lists} {heads bits bytes₀ bytes answers₀ answers shown₀ show
       }
 
     -- a tick on a model without a loop, from bytes that are bits
-    module _ (f : Filled (widths_in l.signals) bytes) (h : malformed largest l ≡ none) (u : looped (model_of (raw_of l)) ≡ none) {count inputs : ℕ} (hc : count ≡ length (records_in l.signals)) (hi : inputs ≡ total input_width (signals_in l.signals))
+    module _ (f : Filled (widths_in l.signals) bytes) (h : malformed largest l ≡ None) (u : looped (model_of (raw_of l)) ≡ None) {count inputs : ℕ} (hc : count ≡ length (records_in l.signals)) (hi : inputs ≡ total input_width (signals_in l.signals))
         {end : ℕ} (he : end ≡ min (pos + get_or heads at 0) (length bits)) {ticks : List ℕ} (ht : ticks ≡ handed inputs (get_or heads at 0) (take (end - pos) (drop pos bits))) {fired : Option (ℕ × ℕ)} (hf : fired ≡ fired_by (get_or heads (at + 1) 0) (get_or heads (at + 2) 0))
         {a : Option (ℕ × ℕ)} {bytes' answers' shown' : List ℕ} (ha : a ≡ tick_causes count inputs ticks fired) (hr : RunsTick l.signals l.exprs l.stmts ticks fired a bytes bytes')
         (wa : answers' ≡ over answers (2 * i) (answer_words a)) (hs : shown' ≡ over shown to (flat (shown_bytes (signals_in l.signals) bytes'))) where

@@ -3,7 +3,7 @@ use Prim.Native.Nat.{ℕ, zero, suc, ◌+◌, ◌-◌, ◌*◌, ◌/◌, ◌≤�
 use mathlib.Core.Path.{◌≡◌, refl, sym, ◌∙◌, ap, ap₂}
 use mathlib.Core.Bool.{Bool}
 use mathlib.Core.List.{List, [], ◌∷◌, ◌++◌, map}
-use mathlib.Core.Option.{some}
+use Rattle.std.specs.Prelude.{Some}
 use native.Mathlib.Omega.{arith}
 use native.Mathlib.Decide.{ℕ_discrete}
 use native.Mathlib.Numerals.{add-one}
@@ -205,9 +205,9 @@ module _ (a b : ℕ) (d : a ≡ 0 → ⊥) where
 
 -- WHAT FIRES
 
-pub fired_edge : (f s : ℕ) → (f ≡ 0 → ⊥) → some (s, f - 1) ≡ fired_by f s
+pub fired_edge : (f s : ℕ) → (f ≡ 0 → ⊥) → Some (s, f - 1) ≡ fired_by f s
 fired_edge zero s d = absurd (d refl)
-fired_edge (suc f) s d = ap (λ (k : ℕ). some (s, k)) (omega arith)
+fired_edge (suc f) s d = ap (λ (k : ℕ). Some (s, k)) (omega arith)
 
 -- WHERE THE PORTS END
 

@@ -2,7 +2,8 @@
 use Prim.Native.Nat.{ℕ, suc, ◌≤◌, ◌<◌, min}
 use mathlib.Core.Path.{◌≡◌, refl, sym, ◌∙◌, ap, ap₂, subst}
 use mathlib.Core.List.{List, [], ◌∷◌, ◌++◌, map}
-use mathlib.Core.Option.{Option, none, some, some-ne-none}
+use Rattle.std.specs.Prelude.{Option, None, Some}
+use Rattle.bits.proofs.Options.{some_ne_none}
 use native.Mathlib.Omega.{arith}
 use mathlib.Core.Bool.{Bool, true, false, false≢true}
 use lib.Dec.{leb}
@@ -29,18 +30,18 @@ use Rattle.runner.specs.Calls.{handed}
 use Rattle.runner.specs.Parts.{tick_causes, after_tick, RunsTick, Enough, is_made}
 use Rattle.runner.specs.Whole.{among}
 
-pub short_so : (n : ℕ) (l : List ℕ) → n ≤ length l → short n l ≡ none
-short_so n l h = sym (only_false (some (1, min n 18446744073709551615)) (le-ltb (length l) n h))
+pub short_so : (n : ℕ) (l : List ℕ) → n ≤ length l → short n l ≡ None
+short_so n l h = sym (only_false (Some (1, min n 18446744073709551615)) (le-ltb (length l) n h))
 
 -- of a call's causes the signal bytes', the tick's own and a loop are left
-causes_among : {a b c d : Option (ℕ × ℕ)} (p x y z q : Option (ℕ × ℕ)) → a ≡ none → b ≡ none → c ≡ none → d ≡ none → first_of (a ∷ b ∷ c ∷ d ∷ p ∷ x ∷ y ∷ z ∷ q ∷ []) ≡ among p (first_of (x ∷ y ∷ z ∷ [])) q
+causes_among : {a b c d : Option (ℕ × ℕ)} (p x y z q : Option (ℕ × ℕ)) → a ≡ None → b ≡ None → c ≡ None → d ≡ None → first_of (a ∷ b ∷ c ∷ d ∷ p ∷ x ∷ y ∷ z ∷ q ∷ []) ≡ among p (first_of (x ∷ y ∷ z ∷ [])) q
 causes_among {a} {b} {c} {d} p x y z q qa qb qc qd =
     let left : first_of (a ∷ b ∷ c ∷ d ∷ p ∷ x ∷ y ∷ z ∷ q ∷ []) ≡ first_of (p ∷ x ∷ y ∷ z ∷ q ∷ []) = rw (qa, qb, qc, qd) in
     left ∙ ap (or_else p) (firsts_append (x ∷ y ∷ z ∷ []) (q ∷ []) ∙ ap (or_else (first_of (x ∷ y ∷ z ∷ []))) (or_else_none q))
 
 -- ONE TICK
 
-pub good_ticks : (signals ticks : List ℕ) (fired : Option (ℕ × ℕ)) (count inputs : ℕ) → inputs ≡ total input_width (signals_in signals) → tick_causes count inputs ticks fired ≡ none → GoodTicks signals ticks
+pub good_ticks : (signals ticks : List ℕ) (fired : Option (ℕ × ℕ)) (count inputs : ℕ) → inputs ≡ total input_width (signals_in signals) → tick_causes count inputs ticks fired ≡ None → GoodTicks signals ticks
 good_ticks signals ticks fired count inputs e q =
     let a : AllNone (wrong_count inputs ticks ∷ no_bit 0 ticks ∷ wrong_fired count fired ∷ []) = all_none (wrong_count inputs ticks ∷ no_bit 0 ticks ∷ wrong_fired count fired ∷ []) q in
     record { right_count = count_none inputs ticks a.0 ∙ e; all_bits = a.1.0 }
@@ -60,26 +61,26 @@ module _ (inputs asked : ℕ) (ticks : List ℕ) where
 
   module _ (count : ℕ) (fired : Option (ℕ × ℕ)) where
     -- too few: a wrong count
-    pub few_refused : length ticks < asked → some (14, inputs) ≡ tick_causes count inputs (handed inputs asked ticks) fired
+    pub few_refused : length ticks < asked → Some (14, inputs) ≡ tick_causes count inputs (handed inputs asked ticks) fired
     few_refused h =
-        let w : some (14, inputs) ≡ wrong_count inputs (replicate (suc inputs) 0) = count_wrong inputs (replicate (suc inputs) 0) (λ q. let z = length-replicate {A = ℕ} (suc inputs) 0 in omega (arith, q, z)) in
+        let w : Some (14, inputs) ≡ wrong_count inputs (replicate (suc inputs) 0) = count_wrong inputs (replicate (suc inputs) 0) (λ q. let z = length-replicate {A = ℕ} (suc inputs) 0 in omega (arith, q, z)) in
         ap (λ (o : Option (ℕ × ℕ)). first_of (o ∷ no_bit 0 (replicate (suc inputs) 0) ∷ wrong_fired count fired ∷ [])) w
         ∙ ap (λ (t : List ℕ). tick_causes count inputs t fired) (sym (handed_few h))
 
     -- what is refused for nothing was there
-    pub handed_made : none ≡ tick_causes count inputs (handed inputs asked ticks) fired → handed inputs asked ticks ≡ ticks
+    pub handed_made : None ≡ tick_causes count inputs (handed inputs asked ticks) fired → handed inputs asked ticks ≡ ticks
     handed_made h = go (leb asked (length ticks)) refl
       where
         go : (b : Bool) → leb asked (length ticks) ≡ b → handed inputs asked ticks ≡ ticks
         go true z = ap (λ (b : Bool). pick b ticks (replicate (suc inputs) 0)) z
-        go false z = absurd (some-ne-none (14, inputs) (few_refused (leb-false asked (length ticks) z) ∙ sym h))
+        go false z = absurd (some_ne_none (14, inputs) (few_refused (leb-false asked (length ticks) z) ∙ sym h))
 
-    pub handed_causes : none ≡ tick_causes count inputs (handed inputs asked ticks) fired → tick_causes count inputs ticks fired ≡ none
+    pub handed_causes : None ≡ tick_causes count inputs (handed inputs asked ticks) fired → tick_causes count inputs ticks fired ≡ None
     handed_causes h = ap (λ (t : List ℕ). tick_causes count inputs t fired) (sym (handed_made h)) ∙ sym h
 
 -- A CALL, whatever the bytes and the loops
 
-module _ (l : Lists) (h : malformed largest l ≡ none) (bytes : List ℕ) (b : signal_bytes (model_of (raw_of l)) ≤ length bytes) (e : Entry) (q : Enough (model_of (raw_of l)) e.work_bits e.work_exprs e.work_signals) where
+module _ (l : Lists) (h : malformed largest l ≡ None) (bytes : List ℕ) (b : signal_bytes (model_of (raw_of l)) ≤ length bytes) (e : Entry) (q : Enough (model_of (raw_of l)) e.work_bits e.work_exprs e.work_signals) where
   pub entry_among : answer largest (entry_call l bytes e) ≡ among (no_bit 0 (take (signal_bytes (model_of (raw_of l))) bytes)) (tick_causes (length (model_of (raw_of l)).signals) (tick_bits (model_of (raw_of l))) e.ticks e.fired) (on_loop (looped (model_of (raw_of l))))
   unfolding answer refusal
   entry_among =
@@ -96,16 +97,16 @@ module _ (l : Lists) (h : malformed largest l ≡ none) (bytes : List ℕ) (b : 
   entry_kept = go (answer largest (entry_call l bytes e))
     where
       go : (o : Option (ℕ × ℕ)) → is_made o ≡ false → bytes ≡ bytes_after (entry_call l bytes e) o
-      go (some r) z = refl
-      go none z = absurd (false≢true (sym z))
+      go (Some r) z = refl
+      go None z = absurd (false≢true (sym z))
 
 -- THE SAME AS A CALL
 
-module _ (l : Lists) (h : malformed largest l ≡ none) (u : looped (model_of (raw_of l)) ≡ none) where
+module _ (l : Lists) (h : malformed largest l ≡ None) (u : looped (model_of (raw_of l)) ≡ None) where
   abbrev m : Model
   m = model_of (raw_of l)
 
-  fine : first_fault largest (raw_of l) ≡ none
+  fine : first_fault largest (raw_of l) ≡ None
   fine = faultless largest l h
 
   module _ (e : Entry) (q : Enough (model_of (raw_of l)) e.work_bits e.work_exprs e.work_signals) {bytes behind : List ℕ} {old : List Bits} (ho : Holds (widths_in l.signals) old behind bytes) where
@@ -123,8 +124,8 @@ module _ (l : Lists) (h : malformed largest l ≡ none) (u : looped (model_of (r
     entry_holds = go (answer largest c) refl
       where
         go : (o : Option (ℕ × ℕ)) → answer largest (entry_call l bytes e) ≡ o → Holds (widths_in l.signals) (after_tick (model_of (raw_of l)) e.ticks e.fired o old) behind (bytes_after (entry_call l bytes e) o)
-        go (some r) z = ho
-        go none z =
+        go (Some r) z = ho
+        go None z =
             subst (Holds (widths_in l.signals) (tick m (map is_one e.ticks) (firing e.fired) old) behind)
             (sym (ap₂ (λ (t : List Bits) (b : List ℕ). map digit (flat (tick m (map is_one e.ticks) (firing e.fired) t)) ++ b) (holds_state largest l fine ho) (holds_behind largest l fine ho)))
             (holds_ticked largest l fine ho (map is_one e.ticks) (firing e.fired) (omega (arith, (accepted_good largest c z).right_count, length-map e.ticks is_one)))

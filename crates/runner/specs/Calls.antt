@@ -1,6 +1,6 @@
 -- The calls of a run as values: one tick, and a list of ticks on one model.
 use Rattle.std.specs.Prelude.{ℕ, zero, suc, ◌*◌, ◌≡◌, List, [], ◌∷◌, ◌++◌, eqb, leb, length, take, drop, replicate}
-use Rattle.std.proofs.Math.Option.{Option, none, some}
+use Rattle.std.specs.Prelude.{Option, None, Some}
 use Rattle.bits.specs.Bits.{pick}
 use Rattle.recorder.specs.Record.{Signal, Model}
 use Rattle.recorder.specs.Lists.{Lists, over}
@@ -26,8 +26,8 @@ pub record Answers (c : Call) (r : Ran) (bytes' : List ℕ) : Type 0 where
 
 -- nothing fires (0), or an edge (1 rises, 2 falls) of signal s
 abbrev pub fired_by : ℕ → ℕ → Option (ℕ × ℕ)
-fired_by zero s = none
-fired_by (suc d) s = some (s, d)
+fired_by zero s = None
+fired_by (suc d) s = Some (s, d)
 
 -- n tick bits are asked for and these are there. Too few are a wrong count, whatever it is: one bit more than a model has inputs
 abbrev pub handed : ℕ → ℕ → List ℕ → List ℕ
@@ -78,16 +78,16 @@ list_causes m c =
 
 -- 12 comes first
 abbrev pub list_verdict : Model → ListCall → Option ℕ → Option (ℕ × ℕ)
-list_verdict m c (some n) = some (12, n)
-list_verdict m c none = first_of (list_causes m c)
+list_verdict m c (Some n) = Some (12, n)
+list_verdict m c None = first_of (list_causes m c)
 
 unfoldable pub list_answer : ℕ → ListCall → Option (ℕ × ℕ)
 list_answer widest c = list_verdict (list_model c) c (malformed widest c.lists)
 
 -- a tick's answer as two numbers: 0 and 0 for one that was made
 abbrev pub answer_words : Option (ℕ × ℕ) → List ℕ
-answer_words none = 0 ∷ 0 ∷ []
-answer_words (some a) = a.0 ∷ a.1 ∷ []
+answer_words None = 0 ∷ 0 ∷ []
+answer_words (Some a) = a.0 ∷ a.1 ∷ []
 
 abbrev pub answers_of : List ByModel → List ℕ
 answers_of [] = []
@@ -109,10 +109,10 @@ abbrev pub filled : List ℕ → List ℕ → List ℕ
 filled buffer l = over (zeroed buffer) 0 l
 
 abbrev pub list_outcome : ℕ → ListCall → Option (ℕ × ℕ) → ListOutcome
-list_outcome widest c (some r) = record { answer = some r; bytes = c.bytes; answers = zeroed c.answers; shown = zeroed c.shown }
-list_outcome widest c none =
+list_outcome widest c (Some r) = record { answer = Some r; bytes = c.bytes; answers = zeroed c.answers; shown = zeroed c.shown }
+list_outcome widest c None =
     let ts = shown_by_model widest c.lists (list_model c).signals c.bytes (entries_of c) in
-    record { answer = none; bytes = bytes_after_all widest c.lists c.bytes (entries_of c); answers = filled c.answers (answers_of ts); shown = filled c.shown (outputs_of ts) }
+    record { answer = None; bytes = bytes_after_all widest c.lists c.bytes (entries_of c); answers = filled c.answers (answers_of ts); shown = filled c.shown (outputs_of ts) }
 
 unfoldable pub run_list : ℕ → ListCall → ListOutcome
 run_list widest c = list_outcome widest c (list_answer widest c)

@@ -1,6 +1,6 @@
 -- What the parts of a list's run leave.
 use Rattle.std.specs.Prelude.{ℕ, ◌≤◌, ◌≡◌, Bool, true, false, List, [], map, length, take}
-use Rattle.std.proofs.Math.Option.{Option, none, some}
+use Rattle.std.specs.Prelude.{Option, None, Some}
 use Rattle.bits.specs.Bits.{Bits}
 use Rattle.recorder.specs.Lists.{Lists, over}
 use Rattle.recorder.specs.Record.{Model}
@@ -24,8 +24,8 @@ tick_causes count inputs ticks fired = first_of (causes_of_tick count inputs tic
 
 -- the signals after a tick, as they were if it was refused
 abbrev pub after_tick : Model → List ℕ → Option (ℕ × ℕ) → Option (ℕ × ℕ) → List Bits → List Bits
-after_tick m ticks fired none old = tick m (map is_one ticks) (firing fired) old
-after_tick m ticks fired (some r) old = old
+after_tick m ticks fired None old = tick m (map is_one ticks) (firing fired) old
+after_tick m ticks fired (Some r) old = old
 
 pub record RunsTick (signals exprs stmts ticks : List ℕ) (fired answer : Option (ℕ × ℕ)) (bytes bytes' : List ℕ) : Type 0 where
   pub runs : (old : List Bits) (behind : List ℕ) → Holds (widths_in signals) old behind bytes → Holds (widths_in signals) (after_tick (model_in signals exprs stmts) ticks fired answer old) behind bytes'
@@ -40,15 +40,15 @@ pub record ShowsAfter (signals exprs stmts bytes bytes' : List ℕ) : Type 0 whe
 
 -- a tick, late; the signals are as they were if it was refused
 abbrev pub LateAfter : Model → List ℕ → Option (ℕ × ℕ) → Option (ℕ × ℕ) → List Bits → List Bits → Type 0
-LateAfter m ticks fired none old late = Late m (tick m (map is_one ticks) (firing fired) old) late
-LateAfter m ticks fired (some r) old late = late ≡ old
+LateAfter m ticks fired None old late = Late m (tick m (map is_one ticks) (firing fired) old) late
+LateAfter m ticks fired (Some r) old late = late ≡ old
 
 pub record RunsLate (signals exprs stmts ticks : List ℕ) (fired answer : Option (ℕ × ℕ)) (bytes bytes' : List ℕ) : Type 0 where
   pub runs_late : (old : List Bits) (behind : List ℕ) → Holds (widths_in signals) old behind bytes → (late : List Bits) × Holds (widths_in signals) late behind bytes' × LateAfter (model_in signals exprs stmts) ticks fired answer old late
 
 abbrev pub is_made : Option (ℕ × ℕ) → Bool
-is_made none = true
-is_made (some r) = false
+is_made None = true
+is_made (Some r) = false
 
 -- the state that is meant
 abbrev pub finished : Model → Bool → List Bits → List Bits
@@ -64,11 +64,11 @@ Enough m wb we ws = (expr_bits m ≤ length wb) × (length m.exprs ≤ length we
 
 -- a call that nothing refuses but maybe a loop
 pub record Unrefused (l : Lists) (bytes ticks : List ℕ) (fired : Option (ℕ × ℕ)) (wb we ws : List ℕ) : Type 0 where
-  pub well_formed : malformed largest l ≡ none
+  pub well_formed : malformed largest l ≡ None
   pub bytes_enough : signal_bytes (model_of (raw_of l)) ≤ length bytes
   pub enough : Enough (model_of (raw_of l)) wb we ws
-  pub bits : no_bit 0 (take (signal_bytes (model_of (raw_of l))) bytes) ≡ none
-  pub no_cause : tick_causes (length (model_of (raw_of l)).signals) (tick_bits (model_of (raw_of l))) ticks fired ≡ none
+  pub bits : no_bit 0 (take (signal_bytes (model_of (raw_of l))) bytes) ≡ None
+  pub no_cause : tick_causes (length (model_of (raw_of l)).signals) (tick_bits (model_of (raw_of l))) ticks fired ≡ None
 
 -- its answer, 13 or none, and the signal bytes
 pub record Tries (l : Lists) (bytes ticks : List ℕ) (fired : Option (ℕ × ℕ)) (r : Ran) (bytes' : List ℕ) : Type 0 where

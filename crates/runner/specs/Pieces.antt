@@ -1,6 +1,6 @@
 -- A list of ticks in pieces: a ++ b is a, and then b from the bytes that a left.
 use Rattle.std.specs.Prelude.{ℕ, ◌+◌, ◌*◌, ◌/◌, ◌≡◌, List, [], ◌∷◌, ◌++◌, length, take}
-use Rattle.std.proofs.Math.Option.{none}
+use Rattle.std.specs.Prelude.{None}
 use Rattle.recorder.specs.Lists.{over}
 use Rattle.simulation.specs.Run.{first_of}
 use Rattle.runner.specs.Calls.{ListCall, ListOutcome, list_model, list_causes, output_bytes, run_list}
@@ -40,7 +40,7 @@ abbrev pub InPieces : Type 0
 InPieces =
     (widest : ℕ) (c : ListCall) (k : ℕ) (heads bits more_heads more_bits : List ℕ)
     → length heads ≡ 3 * k → length bits ≡ asked heads
-    → let whole = piece c (heads ++ more_heads) (bits ++ more_bits) c.bytes in first_of (list_causes (list_model whole) whole) ≡ none
+    → let whole = piece c (heads ++ more_heads) (bits ++ more_bits) c.bytes in first_of (list_causes (list_model whole) whole) ≡ None
     → let a = run_list widest (piece c heads bits c.bytes) in
     let b = run_list widest (piece c more_heads more_bits a.bytes) in
     (a.answer ≡ b.answer) × (run_list widest whole ≡ behind_of c k a (length more_heads / 3) b)

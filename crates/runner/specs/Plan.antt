@@ -1,6 +1,6 @@
 -- What is made once for a list of ticks: two pieces of code, one before the registers load and one behind, and what they are for.
 use Rattle.std.specs.Prelude.{ℕ, ◌+◌, ◌*◌, ◌≤◌, ◌<◌, ◌≡◌, true, List, length}
-use Rattle.std.proofs.Math.Option.{some}
+use Rattle.std.specs.Prelude.{Some}
 use Rattle.simulation.specs.Tick.{given, assigns}
 use Rattle.simulation.specs.Index.{records_in, stmts_in}
 use Rattle.ordering.specs.Marks.{marked}
@@ -57,8 +57,8 @@ module _ (signals exprs stmts : List ℕ) where
     pub first : Coded signals exprs stmts n (first_at n s) c.first order
     pub second : Coded signals exprs stmts n (second_at n s) c.second order
     pub loaded_coded : (e : ℕ) → Loaded stmts e → Among order (first_at n s) c.first e
-    pub controls_coded : (x d : ℕ) → Among order (controls_at n s) c.controls x → given assigns (stmts_in stmts) x ≡ some d → Among order (first_at n s) c.first d
-    pub outputs_coded : (x d : ℕ) → Among order (outputs_at n s) c.outputs x → given assigns (stmts_in stmts) x ≡ some d → Among order (second_at n s) c.second d
+    pub controls_coded : (x d : ℕ) → Among order (controls_at n s) c.controls x → given assigns (stmts_in stmts) x ≡ Some d → Among order (first_at n s) c.first d
+    pub outputs_coded : (x d : ℕ) → Among order (outputs_at n s) c.outputs x → given assigns (stmts_in stmts) x ≡ Some d → Among order (second_at n s) c.second d
 
   -- if there is one; where the ports end is known always
   pub record Planning (n s : ℕ) (c : Code) (order values : List ℕ) : Type 0 where

@@ -1,6 +1,6 @@
 -- What the parts of a whole list's run answer and leave.
 use Rattle.std.specs.Prelude.{ℕ, ◌*◌, ◌/◌, ◌≤◌, ◌≡◌, false, List, [], ◌∷◌, length, take}
-use Rattle.std.proofs.Math.Option.{Option, none, some}
+use Rattle.std.specs.Prelude.{Option, None, Some}
 use Rattle.recorder.specs.Lists.{Lists, over}
 use Rattle.recorder.specs.Read.{model_of}
 use Rattle.recorder.specs.Words.{raw_of}
@@ -35,7 +35,7 @@ fault_causes c =
 
 -- a list that nothing refuses as a whole
 pub record ListFits (l : Lists) (heads bytes wb we ws answers shown : List ℕ) : Type 0 where
-  pub well_formed : malformed largest l ≡ none
+  pub well_formed : malformed largest l ≡ None
   pub bytes_enough : signal_bytes (model_of (raw_of l)) ≤ length bytes
   pub enough : Enough (model_of (raw_of l)) wb we ws
   pub answers_enough : 2 * (length heads / 3) ≤ length answers
@@ -44,7 +44,7 @@ pub record ListFits (l : Lists) (heads bytes wb we ws answers shown : List ℕ) 
 -- and whose signal bytes are bits
 pub record ListUnrefused (l : Lists) (heads bytes wb we ws answers shown : List ℕ) : Type 0 where
   pub fits : ListFits l heads bytes wb we ws answers shown
-  pub bits : no_bit 0 (take (signal_bytes (model_of (raw_of l))) bytes) ≡ none
+  pub bits : no_bit 0 (take (signal_bytes (model_of (raw_of l))) bytes) ≡ None
 
 -- WHAT STOPS EVERY TICK: a signal byte, ahead of its own causes, or a loop, behind them
 abbrev pub among : Option (ℕ × ℕ) → Option (ℕ × ℕ) → Option (ℕ × ℕ) → Option (ℕ × ℕ)
@@ -58,10 +58,10 @@ pub record Stopped (l : Lists) (bytes : List ℕ) (ahead behind : Option (ℕ ×
 
 -- all as it was after a refusal, or all ticks' answers and outputs over what the buffers hold
 abbrev pub leaves : ListCall → Option (ℕ × ℕ) → ListOutcome
-leaves c (some r) = record { answer = some r; bytes = c.bytes; answers = c.answers; shown = c.shown }
-leaves c none =
+leaves c (Some r) = record { answer = Some r; bytes = c.bytes; answers = c.answers; shown = c.shown }
+leaves c None =
     let ts = made c.lists c.bytes (entries_of c) in
-    record { answer = none; bytes = bytes_after_all largest c.lists c.bytes (entries_of c); answers = over c.answers 0 (answers_of ts); shown = over c.shown 0 (outputs_of ts) }
+    record { answer = None; bytes = bytes_after_all largest c.lists c.bytes (entries_of c); answers = over c.answers 0 (answers_of ts); shown = over c.shown 0 (outputs_of ts) }
 
 pub record Leaves (c : ListCall) (o : Option (ℕ × ℕ)) (r : Ran) (bytes' answers' shown' : List ℕ) : Type 0 where
   pub left : record { answer = answer_of r; bytes = bytes'; answers = answers'; shown = shown' } ≡ leaves c o

@@ -2,7 +2,7 @@
 // fusing); one piece for what registers load and ask for, one for the outputs. What is wanted is only guessed; what is used is checked, and
 // where a check fails there is no code.
 ghost use Rattle.std.specs.Prelude.{◌≡◌, Bool, true, false, List, ℕ, ◌+◌, ◌*◌, ◌≤◌, ◌<◌, length, get_or, take, drop, set};
-ghost use Rattle.std.proofs.Math.Option.{some};
+ghost use Rattle.std.specs.Prelude.{Some};
 ghost use Rattle.simulation.specs.Tick.{given, assigns};
 ghost use Rattle.simulation.specs.Index.{records_in, widths_in, start_of, stmts_in, Starts, Driven};
 ghost use Rattle.ordering.specs.Words.{Tabled};
@@ -27,7 +27,6 @@ use simulation::{Driver, index};
 
 // Whether there is code; a word before which all ports begin; the bits of all expressions, and of all signals; how many registers, signals that they ask for and outputs are
 // listed; how many words the two pieces of code have; how much of the order is lent.
-#[derive(Drop)]
 #[derive(Clone, Copy)]
 pub struct Code {
     pub usable: bool,
@@ -548,7 +547,7 @@ fn first_code(
     ensures kept { take from order.new ≡ take from order.old }
     ensures coded { result ≤ n → Coded signals.now exprs.now stmts.now n from result order.new }
     ensures loaded { result ≤ n → (e : ℕ) → Loaded stmts.now e → Among order.new from result e }
-    ensures driven { result ≤ n → (x d : ℕ) → Among order.new asked controls x → given assigns (stmts_in stmts.now) x ≡ some d → Among order.new from result d }
+    ensures driven { result ≤ n → (x d : ℕ) → Among order.new asked controls x → given assigns (stmts_in stmts.now) x ≡ Some d → Among order.new from result d }
 {
     zero_bytes(values);
     want_loads(exprs, expr_table, stmts, order, loads, registers, values);
@@ -623,7 +622,7 @@ fn second_code(
     requires { Prepared signals.now exprs.now stmts.now expr_table.now signal_table.now × Starts exprs.now starts.now × Driven stmts.now driver_table.now × (n ≡ length (records_in exprs.now)) × (n ≤ length marks.old) × (base ≡ bits_in exprs.now) × (top ≡ bits_in exprs.now + bits_in signals.now) × (base ≤ length values.old) × (7 * n ≤ from) × (from + n ≤ length order.old) × Formed signals.now exprs.now stmts.now (drop n order.old) n × (shown + outputs ≤ from) }
     ensures kept { take from order.new ≡ take from order.old }
     ensures coded { result ≤ n → Coded signals.now exprs.now stmts.now n from result order.new }
-    ensures driven { result ≤ n → (x d : ℕ) → Among order.new shown outputs x → given assigns (stmts_in stmts.now) x ≡ some d → Among order.new from result d }
+    ensures driven { result ≤ n → (x d : ℕ) → Among order.new shown outputs x → given assigns (stmts_in stmts.now) x ≡ Some d → Among order.new from result d }
 {
     zero_bytes(values);
     want_drivers(

@@ -1,6 +1,6 @@
 // The values of a model's expressions along its code.
 ghost use Rattle.std.specs.Prelude.{◌≡◌, ◌+◌, ◌≤◌, ◌<◌, length, get_or};
-ghost use Rattle.std.proofs.Math.Option.{none};
+ghost use Rattle.std.specs.Prelude.{None};
 ghost use Rattle.simulation.specs.Index.{records_in, widths_in, Starts, Driven};
 ghost use Rattle.simulation.specs.Tick.{looped};
 ghost use Rattle.evaluation.specs.Ready.{Prepared, Room, model_in};
@@ -55,7 +55,7 @@ pub fn settle_coded(
     bytes: &[u8],
     values: &mut [u8],
 )
-    requires { Prepared signals.now exprs.now stmts.now expr_table.now signal_table.now × Starts exprs.now starts.now × Driven stmts.now driver_table.now × Room signals.now exprs.now bytes.now values.old × (n ≡ length (records_in exprs.now)) × Coded signals.now exprs.now stmts.now n from k order.now × (base ≡ bits_in exprs.now) × (state ≡ bits_in signals.now) × (bits_in exprs.now + bits_in signals.now ≤ length values.old) × (looped (model_in signals.now exprs.now stmts.now) ≡ none) × Filled (widths_in exprs.now) values.old }
+    requires { Prepared signals.now exprs.now stmts.now expr_table.now signal_table.now × Starts exprs.now starts.now × Driven stmts.now driver_table.now × Room signals.now exprs.now bytes.now values.old × (n ≡ length (records_in exprs.now)) × Coded signals.now exprs.now stmts.now n from k order.now × (base ≡ bits_in exprs.now) × (state ≡ bits_in signals.now) × (bits_in exprs.now + bits_in signals.now ≤ length values.old) × (looped (model_in signals.now exprs.now stmts.now) ≡ None) × Filled (widths_in exprs.now) values.old }
     ensures { SettlesCode signals.now exprs.now stmts.now order.now from k bytes.now values.new }
 {
     copy(values, base, bytes, 0, state);

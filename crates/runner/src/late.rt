@@ -1,6 +1,6 @@
 // One tick by a plan: of the assigned signals only those are stored that registers ask for, and the outputs.
 ghost use Rattle.std.specs.Prelude.{◌≡◌, true, ◌≤◌, length};
-ghost use Rattle.std.proofs.Math.Option.{none};
+ghost use Rattle.std.specs.Prelude.{None};
 ghost use Rattle.simulation.specs.Index.{records_in, widths_in, Starts, Driven};
 ghost use Rattle.simulation.specs.Run.{fired_of, firing};
 ghost use Rattle.simulation.specs.Tick.{looped};
@@ -34,7 +34,7 @@ fn load_late(
     values: &mut [u8],
     marks: &mut [u8],
 )
-    requires { Prepared signals.now exprs.now stmts.now expr_table.now signal_table.now × Starts exprs.now starts.now × Driven stmts.now driver_table.now × Room signals.now exprs.now bytes.old values.old × (n ≡ length (records_in exprs.now)) × (count ≡ length (records_in signals.now)) × (count ≤ length marks.old) × (looped (model_in signals.now exprs.now stmts.now) ≡ none) × Filled (widths_in exprs.now) values.old × Filled (widths_in signals.now) bytes.old × Planned signals.now exprs.now stmts.now n count code order.now values.old }
+    requires { Prepared signals.now exprs.now stmts.now expr_table.now signal_table.now × Starts exprs.now starts.now × Driven stmts.now driver_table.now × Room signals.now exprs.now bytes.old values.old × (n ≡ length (records_in exprs.now)) × (count ≡ length (records_in signals.now)) × (count ≤ length marks.old) × (looped (model_in signals.now exprs.now stmts.now) ≡ None) × Filled (widths_in exprs.now) values.old × Filled (widths_in signals.now) bytes.old × Planned signals.now exprs.now stmts.now n count code order.now values.old }
     ensures loaded { LoadsAfter signals.now exprs.now stmts.now (firing (fired_of fired)) bytes.old bytes.new }
     ensures filled { Filled (widths_in exprs.now) values.new }
 {
@@ -101,7 +101,7 @@ fn show_late(
     bytes: &mut [u8],
     values: &mut [u8],
 )
-    requires { Prepared signals.now exprs.now stmts.now expr_table.now signal_table.now × Starts exprs.now starts.now × Driven stmts.now driver_table.now × Room signals.now exprs.now bytes.old values.old × (n ≡ length (records_in exprs.now)) × (count ≡ length (records_in signals.now)) × (looped (model_in signals.now exprs.now stmts.now) ≡ none) × Filled (widths_in exprs.now) values.old × Filled (widths_in signals.now) bytes.old × Planned signals.now exprs.now stmts.now n count code order.now values.old }
+    requires { Prepared signals.now exprs.now stmts.now expr_table.now signal_table.now × Starts exprs.now starts.now × Driven stmts.now driver_table.now × Room signals.now exprs.now bytes.old values.old × (n ≡ length (records_in exprs.now)) × (count ≡ length (records_in signals.now)) × (looped (model_in signals.now exprs.now stmts.now) ≡ None) × Filled (widths_in exprs.now) values.old × Filled (widths_in signals.now) bytes.old × Planned signals.now exprs.now stmts.now n count code order.now values.old }
     ensures shows { ShowsAfter signals.now exprs.now stmts.now bytes.old bytes.new }
     ensures filled { Filled (widths_in exprs.now) values.new }
 {
@@ -157,7 +157,7 @@ pub fn tick_late(
     values: &mut [u8],
     marks: &mut [u8],
 )
-    requires { Prepared signals.now exprs.now stmts.now expr_table.now signal_table.now × Starts exprs.now starts.now × Driven stmts.now driver_table.now × Room signals.now exprs.now bytes.old values.old × (n ≡ length (records_in exprs.now)) × (count ≡ length (records_in signals.now)) × (count ≤ length marks.old) × (looped (model_in signals.now exprs.now stmts.now) ≡ none) × Filled (widths_in exprs.now) values.old × Filled (widths_in signals.now) bytes.old × GoodTicks signals.now ticks.now × Planned signals.now exprs.now stmts.now n count code order.now values.old × PortsBefore signals.now code.ports }
+    requires { Prepared signals.now exprs.now stmts.now expr_table.now signal_table.now × Starts exprs.now starts.now × Driven stmts.now driver_table.now × Room signals.now exprs.now bytes.old values.old × (n ≡ length (records_in exprs.now)) × (count ≡ length (records_in signals.now)) × (count ≤ length marks.old) × (looped (model_in signals.now exprs.now stmts.now) ≡ None) × Filled (widths_in exprs.now) values.old × Filled (widths_in signals.now) bytes.old × GoodTicks signals.now ticks.now × Planned signals.now exprs.now stmts.now n count code order.now values.old × PortsBefore signals.now code.ports }
     ensures ticked { TicksLate signals.now exprs.now stmts.now ticks.now (firing (fired_of fired)) bytes.old bytes.new }
     ensures filled { Filled (widths_in exprs.now) values.new }
 {

@@ -1,6 +1,6 @@
 // A list of ticks on a model that was checked and prepared once.
 ghost use Rattle.std.specs.Prelude.{◌≡◌, ◌*◌, ◌/◌, ◌≤◌, length};
-ghost use Rattle.std.proofs.Math.Option.{none};
+ghost use Rattle.std.specs.Prelude.{None};
 ghost use Rattle.recorder.specs.Lists.{lists};
 ghost use Rattle.simulation.specs.Wellformed.{largest, malformed};
 ghost use Rattle.simulation.specs.Index.{records_in, widths_in, Starts, Driven};
@@ -44,7 +44,7 @@ fn tick_either(
     work_exprs: &mut [u8],
     work_signals: &mut [u8],
 )
-    requires { Prepared signals.now exprs.now stmts.now expr_table.now signal_table.now × Starts exprs.now starts.now × Driven stmts.now driver_table.now × Room signals.now exprs.now bytes.old values.old × (n ≡ length (records_in exprs.now)) × (count ≡ length (records_in signals.now)) × (n ≤ length work_exprs.old) × (count ≤ length work_signals.old) × Ordered (model_in signals.now exprs.now stmts.now) n order.now × (looped (model_in signals.now exprs.now stmts.now) ≡ none) × Filled (widths_in exprs.now) values.old × Filled (widths_in signals.now) bytes.old × GoodTicks signals.now ticks.now × Planning signals.now exprs.now stmts.now n count code order.now values.old }
+    requires { Prepared signals.now exprs.now stmts.now expr_table.now signal_table.now × Starts exprs.now starts.now × Driven stmts.now driver_table.now × Room signals.now exprs.now bytes.old values.old × (n ≡ length (records_in exprs.now)) × (count ≡ length (records_in signals.now)) × (n ≤ length work_exprs.old) × (count ≤ length work_signals.old) × Ordered (model_in signals.now exprs.now stmts.now) n order.now × (looped (model_in signals.now exprs.now stmts.now) ≡ None) × Filled (widths_in exprs.now) values.old × Filled (widths_in signals.now) bytes.old × GoodTicks signals.now ticks.now × Planning signals.now exprs.now stmts.now n count code order.now values.old }
     ensures ticked { TicksLate signals.now exprs.now stmts.now ticks.now (firing (fired_of fired)) bytes.old bytes.new }
     ensures filled { Filled (widths_in exprs.now) values.new }
 {
@@ -121,7 +121,7 @@ fn run_tick(
     work_exprs: &mut [u8],
     work_signals: &mut [u8],
 ) -> Ran
-    requires { Prepared signals.now exprs.now stmts.now expr_table.now signal_table.now × Starts exprs.now starts.now × Driven stmts.now driver_table.now × Room signals.now exprs.now bytes.old values.old × (n ≡ length (records_in exprs.now)) × (count ≡ length (records_in signals.now)) × (n ≤ length work_exprs.old) × (count ≤ length work_signals.old) × Ordered (model_in signals.now exprs.now stmts.now) n order.now × (looped (model_in signals.now exprs.now stmts.now) ≡ none) × Filled (widths_in exprs.now) values.old × Filled (widths_in signals.now) bytes.old × (inputs ≡ total input_width (signals_in signals.now)) × Planning signals.now exprs.now stmts.now n count code order.now values.old }
+    requires { Prepared signals.now exprs.now stmts.now expr_table.now signal_table.now × Starts exprs.now starts.now × Driven stmts.now driver_table.now × Room signals.now exprs.now bytes.old values.old × (n ≡ length (records_in exprs.now)) × (count ≡ length (records_in signals.now)) × (n ≤ length work_exprs.old) × (count ≤ length work_signals.old) × Ordered (model_in signals.now exprs.now stmts.now) n order.now × (looped (model_in signals.now exprs.now stmts.now) ≡ None) × Filled (widths_in exprs.now) values.old × Filled (widths_in signals.now) bytes.old × (inputs ≡ total input_width (signals_in signals.now)) × Planning signals.now exprs.now stmts.now n count code order.now values.old }
     ensures answered { answer_of result ≡ tick_causes count inputs (handed inputs asked ticks.now) (fired_of fired) }
     ensures runs { RunsLate signals.now exprs.now stmts.now (handed inputs asked ticks.now) (fired_of fired) (answer_of result) bytes.old bytes.new }
     ensures filled { Filled (widths_in exprs.now) values.new }
@@ -179,7 +179,7 @@ fn finish(
     values: &mut [u8],
     work_exprs: &mut [u8],
 )
-    requires { Prepared signals.now exprs.now stmts.now expr_table.now signal_table.now × Starts exprs.now starts.now × Driven stmts.now driver_table.now × Room signals.now exprs.now bytes.old values.old × (n ≡ length (records_in exprs.now)) × (count ≡ length (records_in signals.now)) × (n ≤ length work_exprs.old) × Ordered (model_in signals.now exprs.now stmts.now) n order.now × (looped (model_in signals.now exprs.now stmts.now) ≡ none) × Filled (widths_in exprs.now) values.old }
+    requires { Prepared signals.now exprs.now stmts.now expr_table.now signal_table.now × Starts exprs.now starts.now × Driven stmts.now driver_table.now × Room signals.now exprs.now bytes.old values.old × (n ≡ length (records_in exprs.now)) × (count ≡ length (records_in signals.now)) × (n ≤ length work_exprs.old) × Ordered (model_in signals.now exprs.now stmts.now) n order.now × (looped (model_in signals.now exprs.now stmts.now) ≡ None) × Filled (widths_in exprs.now) values.old }
     ensures { Finishes signals.now exprs.now stmts.now late bytes.old bytes.new }
 {
     if !late {
@@ -225,7 +225,7 @@ pub fn run_ticks(
     answers: &mut [u64],
     shown: &mut [u8],
 )
-    requires { Prepared signals.now exprs.now stmts.now expr_table.now signal_table.now × Starts exprs.now starts.now × Driven stmts.now driver_table.now × Room signals.now exprs.now bytes.old values.old × (n ≡ length (records_in exprs.now)) × (count ≡ length (records_in signals.now)) × (n ≤ length work_exprs.old) × (count ≤ length work_signals.old) × Ordered (model_in signals.now exprs.now stmts.now) n order.now × (looped (model_in signals.now exprs.now stmts.now) ≡ none) × Filled (widths_in exprs.now) values.old × Filled (widths_in signals.now) bytes.old × (inputs ≡ total input_width (signals_in signals.now)) × (2 * (length heads.now / 3) ≤ length answers.old) × (total output_width (signals_in signals.now) * (length heads.now / 3) ≤ length shown.old) × (malformed largest (lists signals.now exprs.now stmts.now) ≡ none) × Planning signals.now exprs.now stmts.now n count code order.now values.old }
+    requires { Prepared signals.now exprs.now stmts.now expr_table.now signal_table.now × Starts exprs.now starts.now × Driven stmts.now driver_table.now × Room signals.now exprs.now bytes.old values.old × (n ≡ length (records_in exprs.now)) × (count ≡ length (records_in signals.now)) × (n ≤ length work_exprs.old) × (count ≤ length work_signals.old) × Ordered (model_in signals.now exprs.now stmts.now) n order.now × (looped (model_in signals.now exprs.now stmts.now) ≡ None) × Filled (widths_in exprs.now) values.old × Filled (widths_in signals.now) bytes.old × (inputs ≡ total input_width (signals_in signals.now)) × (2 * (length heads.now / 3) ≤ length answers.old) × (total output_width (signals_in signals.now) * (length heads.now / 3) ≤ length shown.old) × (malformed largest (lists signals.now exprs.now stmts.now) ≡ None) × Planning signals.now exprs.now stmts.now n count code order.now values.old }
     ensures { RunsTicks (lists signals.now exprs.now stmts.now) heads.now bits.now bytes.old bytes.new answers.old answers.new shown.old shown.new }
 {
     let mut at: usize = 0;

@@ -13,7 +13,6 @@ use simulation::index::{fill_drivers, fill_offsets, fill_starts};
 use simulation::zero::zero_bytes;
 
 // Whether the model has a loop, and how many expressions the order has: all or none.
-#[derive(Drop)]
 #[derive(Clone, Copy)]
 pub struct Readied {
     pub found: Loop,

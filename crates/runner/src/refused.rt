@@ -1,6 +1,6 @@
 // A list of ticks of which none is made: a signal byte is no bit, or the model has a loop.
 ghost use Rattle.std.specs.Prelude.{◌≡◌, ◌*◌, ◌/◌, ◌≤◌, length};
-ghost use Rattle.std.proofs.Math.Option.{none};
+ghost use Rattle.std.specs.Prelude.{None};
 ghost use Rattle.recorder.specs.Lists.{lists};
 ghost use Rattle.recorder.specs.Read.{model_of};
 ghost use Rattle.recorder.specs.Words.{raw_of};
@@ -49,7 +49,7 @@ pub fn refuse_ticks(
     answers: &mut [u64],
     shown: &mut [u8],
 )
-    requires { (malformed largest (lists signals.now exprs.now stmts.now) ≡ none) × (signal_bytes (model_of (raw_of (lists signals.now exprs.now stmts.now))) ≤ length bytes.now) × (2 * (length heads.now / 3) ≤ length answers.old) × (total output_width (signals_in signals.now) * (length heads.now / 3) ≤ length shown.old) × (count ≡ length (records_in signals.now)) × (inputs ≡ total input_width (signals_in signals.now)) × Stopped (lists signals.now exprs.now stmts.now) bytes.now (answer_of ahead) (answer_of behind) }
+    requires { (malformed largest (lists signals.now exprs.now stmts.now) ≡ None) × (signal_bytes (model_of (raw_of (lists signals.now exprs.now stmts.now))) ≤ length bytes.now) × (2 * (length heads.now / 3) ≤ length answers.old) × (total output_width (signals_in signals.now) * (length heads.now / 3) ≤ length shown.old) × (count ≡ length (records_in signals.now)) × (inputs ≡ total input_width (signals_in signals.now)) × Stopped (lists signals.now exprs.now stmts.now) bytes.now (answer_of ahead) (answer_of behind) }
     ensures { RunsTicks (lists signals.now exprs.now stmts.now) heads.now bits.now bytes.now bytes.now answers.old answers.new shown.old shown.new }
 {
     let ports = ports_end(signals);

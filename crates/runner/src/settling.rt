@@ -1,6 +1,6 @@
 // The values of all expressions: along an order if it has them all, else in passes, marking those that are done.
 ghost use Rattle.std.specs.Prelude.{◌≡◌, ◌≤◌, ◌<◌, length};
-ghost use Rattle.std.proofs.Math.Option.{none};
+ghost use Rattle.std.specs.Prelude.{None};
 ghost use Rattle.simulation.specs.Index.{records_in, widths_in, Starts, Driven};
 ghost use Rattle.simulation.specs.Tick.{looped};
 ghost use Rattle.evaluation.specs.Ready.{Prepared, Room, model_in};
@@ -141,7 +141,7 @@ fn settle_marked(
     values: &mut [u8],
     marks: &mut [u8],
 )
-    requires { Prepared signals.now exprs.now stmts.now expr_table.now signal_table.now × Starts exprs.now starts.now × Driven stmts.now driver_table.now × Room signals.now exprs.now bytes.now values.old × (n ≡ length (records_in exprs.now)) × (n ≤ length marks.old) × (looped (model_in signals.now exprs.now stmts.now) ≡ none) × Filled (widths_in exprs.now) values.old }
+    requires { Prepared signals.now exprs.now stmts.now expr_table.now signal_table.now × Starts exprs.now starts.now × Driven stmts.now driver_table.now × Room signals.now exprs.now bytes.now values.old × (n ≡ length (records_in exprs.now)) × (n ≤ length marks.old) × (looped (model_in signals.now exprs.now stmts.now) ≡ None) × Filled (widths_in exprs.now) values.old }
     ensures { Settles signals.now exprs.now stmts.now bytes.now values.new }
 {
     zero_bytes(marks);
@@ -180,7 +180,7 @@ fn settle_plain(
     values: &mut [u8],
     marks: &mut [u8],
 )
-    requires { Prepared signals.now exprs.now stmts.now expr_table.now signal_table.now × Starts exprs.now starts.now × Driven stmts.now driver_table.now × Room signals.now exprs.now bytes.now values.old × (n ≡ length (records_in exprs.now)) × (n ≤ length marks.old) × Ordered (model_in signals.now exprs.now stmts.now) n order.now × (looped (model_in signals.now exprs.now stmts.now) ≡ none) × Filled (widths_in exprs.now) values.old }
+    requires { Prepared signals.now exprs.now stmts.now expr_table.now signal_table.now × Starts exprs.now starts.now × Driven stmts.now driver_table.now × Room signals.now exprs.now bytes.now values.old × (n ≡ length (records_in exprs.now)) × (n ≤ length marks.old) × Ordered (model_in signals.now exprs.now stmts.now) n order.now × (looped (model_in signals.now exprs.now stmts.now) ≡ None) × Filled (widths_in exprs.now) values.old }
     ensures { SettlesNamed signals.now exprs.now stmts.now bytes.now values.new }
 {
     if n <= order.len() {
@@ -230,7 +230,7 @@ pub fn settle(
     values: &mut [u8],
     marks: &mut [u8],
 )
-    requires { Prepared signals.now exprs.now stmts.now expr_table.now signal_table.now × Starts exprs.now starts.now × Driven stmts.now driver_table.now × Room signals.now exprs.now bytes.old values.old × (n ≡ length (records_in exprs.now)) × (count ≡ length (records_in signals.now)) × (n ≤ length marks.old) × Ordered (model_in signals.now exprs.now stmts.now) n order.now × (looped (model_in signals.now exprs.now stmts.now) ≡ none) × Filled (widths_in exprs.now) values.old }
+    requires { Prepared signals.now exprs.now stmts.now expr_table.now signal_table.now × Starts exprs.now starts.now × Driven stmts.now driver_table.now × Room signals.now exprs.now bytes.old values.old × (n ≡ length (records_in exprs.now)) × (count ≡ length (records_in signals.now)) × (n ≤ length marks.old) × Ordered (model_in signals.now exprs.now stmts.now) n order.now × (looped (model_in signals.now exprs.now stmts.now) ≡ None) × Filled (widths_in exprs.now) values.old }
     ensures { Settled signals.now exprs.now stmts.now bytes.old bytes.new values.new }
 {
     settle_plain(

@@ -121,7 +121,6 @@ fn is_new(marks: &[u8], n: usize, e: usize) -> bool {
 }
 
 // An expression that is needed, and how many needs there are up to it.
-#[derive(Drop)]
 #[derive(Clone, Copy)]
 struct Unmet {
     expr: usize,
@@ -176,7 +175,6 @@ fn enter(marks: &mut [u8], order: &mut [u32], n: usize, depth: usize, e: usize) 
 }
 
 // Where the walk is: the next expression to begin at, how deep the stack is, how many are noted.
-#[derive(Drop)]
 #[derive(Clone, Copy)]
 struct Walk {
     root: usize,

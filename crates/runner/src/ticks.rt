@@ -1,6 +1,6 @@
 // One tick.
 ghost use Rattle.std.specs.Prelude.{◌≡◌, ◌≤◌, length};
-ghost use Rattle.std.proofs.Math.Option.{none};
+ghost use Rattle.std.specs.Prelude.{None};
 ghost use Rattle.simulation.specs.Index.{records_in, widths_in, Starts, Driven};
 ghost use Rattle.simulation.specs.Run.{fired_of, firing};
 ghost use Rattle.simulation.specs.Tick.{looped};
@@ -31,7 +31,7 @@ pub fn tick(
     work_exprs: &mut [u8],
     work_signals: &mut [u8],
 )
-    requires { Prepared signals.now exprs.now stmts.now expr_table.now signal_table.now × Starts exprs.now starts.now × Driven stmts.now driver_table.now × Room signals.now exprs.now bytes.old values.old × (n ≡ length (records_in exprs.now)) × (count ≡ length (records_in signals.now)) × (n ≤ length work_exprs.old) × (count ≤ length work_signals.old) × Ordered (model_in signals.now exprs.now stmts.now) n order.now × (looped (model_in signals.now exprs.now stmts.now) ≡ none) × Filled (widths_in exprs.now) values.old × GoodTicks signals.now ticks.now × Filled (widths_in signals.now) bytes.old }
+    requires { Prepared signals.now exprs.now stmts.now expr_table.now signal_table.now × Starts exprs.now starts.now × Driven stmts.now driver_table.now × Room signals.now exprs.now bytes.old values.old × (n ≡ length (records_in exprs.now)) × (count ≡ length (records_in signals.now)) × (n ≤ length work_exprs.old) × (count ≤ length work_signals.old) × Ordered (model_in signals.now exprs.now stmts.now) n order.now × (looped (model_in signals.now exprs.now stmts.now) ≡ None) × Filled (widths_in exprs.now) values.old × GoodTicks signals.now ticks.now × Filled (widths_in signals.now) bytes.old }
     ensures ticked { Ticks signals.now exprs.now stmts.now ticks.now (firing (fired_of fired)) bytes.old bytes.new }
     ensures filled { Filled (widths_in exprs.now) values.new }
 {

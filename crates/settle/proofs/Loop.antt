@@ -3,7 +3,7 @@
 use Rattle.std.specs.Prelude.{ℕ, zero, suc, ◌<◌, ◌≡◌, refl, ◌⊎◌, true, ◌||◌, eqb}
 use Rattle.std.proofs.Common.{subst, inl, inr, not-suc-le-zero, le_refl, arith, eqb-true, eq-eqb}
 use Rattle.std.proofs.lemmas.Bool.{false≢true}
-use Rattle.std.proofs.Math.Option.{Option, none, some}
+use Rattle.std.specs.Prelude.{Option, None, Some}
 use mathlib.Core.List.{List, Memᴰ as Mem}
 use Rattle.std.proofs.Math.Decide.{ℕ_discrete}
 use Rattle.settle.specs.Walk.{Way, edge, more, Walk, way→walk}
@@ -60,12 +60,12 @@ module _ (deps : ℕ → List ℕ) where
             walk→reach n s.0 x y (omega (arith, length_below n)) (z, m, s.2)
 
     tests→loops : (o : Option ℕ) → Lowest (on_loop n deps) n o → LowestOnLoop n deps o
-    tests→loops none h = λ x p w. clash (on_loop n deps x) (way→reach x x p w) (h x p)
-    tests→loops (some x) h = (h.0, reach→way n x x h.1, λ y q w. clash (on_loop n deps y) (way→reach y y (omega (arith, h.0)) w) (h.2 y q))
+    tests→loops None h = λ x p w. clash (on_loop n deps x) (way→reach x x p w) (h x p)
+    tests→loops (Some x) h = (h.0, reach→way n x x h.1, λ y q w. clash (on_loop n deps y) (way→reach y y (omega (arith, h.0)) w) (h.2 y q))
 
     loops→tests : (o : Option ℕ) → LowestOnLoop n deps o → Lowest (on_loop n deps) n o
-    loops→tests none h = λ x p. not_true→false (on_loop n deps x) (λ e. h x p (reach→way n x x e))
-    loops→tests (some x) h = (h.0, way→reach x x h.0 h.1, λ y q. not_true→false (on_loop n deps y) (λ e. h.2 y q (reach→way n y y e)))
+    loops→tests None h = λ x p. not_true→false (on_loop n deps x) (λ e. h x p (reach→way n x x e))
+    loops→tests (Some x) h = (h.0, way→reach x x h.0 h.1, λ y q. not_true→false (on_loop n deps y) (λ e. h.2 y q (reach→way n y y e)))
 
     -- (4) the lowest node on a loop, both ways
     pub lowest_on_loop_lem : LowestOnLoop n deps (lowest_on_loop n deps)

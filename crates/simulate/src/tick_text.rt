@@ -7,7 +7,6 @@ use std::io::Write;
 use text::{Place, flush};
 
 // Where the next byte goes, and which byte of what is shown comes next.
-#[derive(Drop)]
 #[derive(Clone, Copy)]
 struct Spot {
     at: usize,

@@ -7,7 +7,7 @@ use mathlib.Core.List.Memᴰ.{append_cases}
 use mathlib.Core.List.Memᴰ.{eq_of_singleton as singleton}
 use mathlib.Core.List.Memᴰ.{not-nil}
 use mathlib.Core.List.{List, [], ◌∷◌, ◌++◌, map, Memᴰ as Mem}
-use mathlib.Core.Option.{Option, none, some}
+use Rattle.std.specs.Prelude.{Option, None, Some}
 use native.Mathlib.Omega.{arith}
 use native.Mathlib.Nat.{not-suc-le-zero, zero-add}
 use native.Mathlib.Decide.{dec_lt}
@@ -84,8 +84,8 @@ pub reads_under : (widest : ℕ) (m : Model) → Sound widest m → DepsUnder (l
 reads_under widest m h x y p = go (given assigns m.stmts x)
   where
     go : (o : Option ℕ) → Mem y (reads_by (reads_all [] m.exprs) o) → y < length m.signals
-    go none k = absurd (not-nil k)
-    go (some e) k = reads_there widest m h e y k
+    go None k = absurd (not-nil k)
+    go (Some e) k = reads_there widest m h e y k
 
 -- VALUES HAVE THEIR WIDTHS
 

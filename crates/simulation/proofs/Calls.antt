@@ -3,7 +3,7 @@ use Prim.Native.Nat.{ℕ, zero, suc, ◌+◌, ◌≤◌, ◌<◌, min}
 use mathlib.Core.Path.{◌≡◌, refl, sym, ◌∙◌, ap, ap₂}
 use mathlib.Core.Bool.{Bool, true, false, ◌&&◌}
 use mathlib.Core.List.{List, [], ◌∷◌, ◌++◌, map, tail}
-use mathlib.Core.Option.{Option, none, some}
+use Rattle.std.specs.Prelude.{Option, None, Some}
 use native.Mathlib.Omega.{arith}
 use native.Mathlib.Numerals.{add-one}
 use native.Mathlib.Nat.{not-suc-le-zero}
@@ -28,9 +28,9 @@ use Rattle.simulation.proofs.Found.{read_head, faultless, signals_count, exprs_c
 
 -- ANSWERS ONE AFTER THE OTHER
 
-pub or_else_none : {A : Type 0} (o : Option A) → or_else o none ≡ o
-or_else_none none = refl
-or_else_none (some a) = refl
+pub or_else_none : {A : Type 0} (o : Option A) → or_else o None ≡ o
+or_else_none None = refl
+or_else_none (Some a) = refl
 
 pub three : {a b c x y : Option (ℕ × ℕ)} (a' b' c' : Option (ℕ × ℕ)) → a ≡ a' → b ≡ b' → c ≡ c' → x ≡ or_else b c → y ≡ or_else a x → y ≡ first_of (a' ∷ b' ∷ c' ∷ [])
 three a' b' c' qa qb qc qx qy = qy ∙ ap₂ or_else qa (qx ∙ ap₂ or_else qb (qc ∙ sym (or_else_none c')))
@@ -40,33 +40,33 @@ four a' b' c' d' qa qb qc qd qx qy qz = qz ∙ ap₂ or_else qa (three b' c' d' 
 
 pub firsts_append : (xs ys : List (Option (ℕ × ℕ))) → first_of (xs ++ ys) ≡ or_else (first_of xs) (first_of ys)
 firsts_append [] ys = refl
-firsts_append (none ∷ xs) ys = firsts_append xs ys
-firsts_append (some a ∷ xs) ys = refl
+firsts_append (None ∷ xs) ys = firsts_append xs ys
+firsts_append (Some a ∷ xs) ys = refl
 
 -- A BUFFER'S LENGTH
 
 pub only_true : {A : Type 0} {b : Bool} (o : Option A) → b ≡ true → o ≡ only b o
 only_true o h = sym (ap (λ (x : Bool). only x o) h)
 
-pub only_false : {A : Type 0} {b : Bool} (o : Option A) → b ≡ false → none ≡ only b o
+pub only_false : {A : Type 0} {b : Bool} (o : Option A) → b ≡ false → None ≡ only b o
 only_false o h = sym (ap (λ (x : Bool). only x o) h)
 
 -- a sum that stopped at the largest number is as good: no buffer is that long
-pub short_min : (n : ℕ) (l : List ℕ) (v : ℕ) → v ≡ min n 18446744073709551615 → length l < 18446744073709551615 → only (ltb (length l) v) (some (1, v)) ≡ short n l
+pub short_min : (n : ℕ) (l : List ℕ) (v : ℕ) → v ≡ min n 18446744073709551615 → length l < 18446744073709551615 → only (ltb (length l) v) (Some (1, v)) ≡ short n l
 short_min n l v e h = go (dec_lt (length l) n)
   where
-    go : Dec (length l < n) → only (ltb (length l) v) (some (1, v)) ≡ short n l
-    go (yes q) = sym (only_true _ (lt-ltb (length l) v (omega arith))) ∙ ap (λ (k : ℕ). some (1, k)) e ∙ only_true _ (lt-ltb (length l) n q)
+    go : Dec (length l < n) → only (ltb (length l) v) (Some (1, v)) ≡ short n l
+    go (yes q) = sym (only_true _ (lt-ltb (length l) v (omega arith))) ∙ ap (λ (k : ℕ). Some (1, k)) e ∙ only_true _ (lt-ltb (length l) n q)
     go (no q) = sym (only_false _ (le-ltb (length l) v (omega arith))) ∙ only_false _ (le-ltb (length l) n (omega arith))
 
 -- nothing is short: the first is long enough
-pub long_enough : (n : ℕ) (l : List ℕ) (os : List (Option (ℕ × ℕ))) → none ≡ first_of (short n l ∷ os) → n ≤ length l
+pub long_enough : (n : ℕ) (l : List ℕ) (os : List (Option (ℕ × ℕ))) → None ≡ first_of (short n l ∷ os) → n ≤ length l
 long_enough n l os h = go (dec_lt (length l) n)
   where
     go : Dec (length l < n) → n ≤ length l
     go (no q) = omega arith
     go (yes q) =
-        let w : ◌≡◌ {A = Option (ℕ × ℕ)} none (some (1, min n 18446744073709551615)) = h ∙ ap (λ (o : Option (ℕ × ℕ)). or_else o (first_of os)) (sym (only_true (some (1, min n 18446744073709551615)) (lt-ltb (length l) n q))) in
+        let w : ◌≡◌ {A = Option (ℕ × ℕ)} None (Some (1, min n 18446744073709551615)) = h ∙ ap (λ (o : Option (ℕ × ℕ)). or_else o (first_of os)) (sym (only_true (Some (1, min n 18446744073709551615)) (lt-ltb (length l) n q))) in
         let z : ◌≡◌ {A = ℕ} 0 1 = cc in absurd (omega arith)
 
 -- SUMS
@@ -121,13 +121,13 @@ module _ (l : List ℕ) (i : ℕ) where
   pub bit_next : i < length l → get_or l i 0 ≤ 1 → no_bit i (drop i l) ≡ no_bit (i + 1) (drop (i + 1) l)
   bit_next h q =
       ap (no_bit i) (drop-cons l i 0 h)
-      ∙ ap (λ (b : Bool). pick b (no_bit (suc i) (drop (suc i) l)) (some (14, i))) (le-leb (get_or l i 0) 1 q)
+      ∙ ap (λ (b : Bool). pick b (no_bit (suc i) (drop (suc i) l)) (Some (14, i))) (le-leb (get_or l i 0) 1 q)
       ∙ ap (λ (j : ℕ). no_bit j (drop j l)) (sym (add-one i))
 
-  pub bit_here : i < length l → 1 < get_or l i 0 → some (14, i) ≡ no_bit i (drop i l)
-  bit_here h q = sym (ap (no_bit i) (drop-cons l i 0 h) ∙ ap (λ (b : Bool). pick b (no_bit (suc i) (drop (suc i) l)) (some (14, i))) (lt-leb (get_or l i 0) 1 q))
+  pub bit_here : i < length l → 1 < get_or l i 0 → Some (14, i) ≡ no_bit i (drop i l)
+  bit_here h q = sym (ap (no_bit i) (drop-cons l i 0 h) ∙ ap (λ (b : Bool). pick b (no_bit (suc i) (drop (suc i) l)) (Some (14, i))) (lt-leb (get_or l i 0) 1 q))
 
-  pub bit_end : length l ≤ i → none ≡ no_bit i (drop i l)
+  pub bit_end : length l ≤ i → None ≡ no_bit i (drop i l)
   bit_end h = ap (no_bit i) (sym (drop_of_length-le l h))
 
 -- the first of the signals' bytes, which may be too few, or the sum of whose widths cannot be named
@@ -138,36 +138,36 @@ module _ (l bytes : List ℕ) (sum : ℕ) (e : sum ≡ min (width_total l) 18446
   pub bytes_front : sum ≤ length bytes → length bytes < 18446744073709551615 → no_bit 0 (take sum bytes) ≡ no_bit 0 (take (width_total l) bytes)
   bytes_front h q = let z : sum ≡ width_total l = omega arith in ap (λ (n : ℕ). no_bit 0 (take n bytes)) z
 
-pub count_right : (n : ℕ) (l : List ℕ) → length l ≡ n → none ≡ wrong_count n l
-count_right n l h = sym (ap (λ (b : Bool). pick b none (some (14, n))) (eq-eqb (length l) n h))
+pub count_right : (n : ℕ) (l : List ℕ) → length l ≡ n → None ≡ wrong_count n l
+count_right n l h = sym (ap (λ (b : Bool). pick b None (Some (14, n))) (eq-eqb (length l) n h))
 
-pub count_wrong : (n : ℕ) (l : List ℕ) → (length l ≡ n → ⊥) → some (14, n) ≡ wrong_count n l
-count_wrong n l h = sym (ap (λ (b : Bool). pick b none (some (14, n))) (ne_eqb (length l) n h))
+pub count_wrong : (n : ℕ) (l : List ℕ) → (length l ≡ n → ⊥) → Some (14, n) ≡ wrong_count n l
+count_wrong n l h = sym (ap (λ (b : Bool). pick b None (Some (14, n))) (ne_eqb (length l) n h))
 
 module _ (n s d : ℕ) where
   abbrev pub edge_test : Option (ℕ × ℕ)
-  edge_test = pick (ltb s n && leb d 1) none (some (14, 0))
+  edge_test = pick (ltb s n && leb d 1) None (Some (14, 0))
 
-  pub edge_unknown : n ≤ s → some (14, 0) ≡ edge_test
-  edge_unknown h = sym (ap (λ (b : Bool). pick (b && leb d 1) none (some (14, 0))) (le-ltb s n h))
+  pub edge_unknown : n ≤ s → Some (14, 0) ≡ edge_test
+  edge_unknown h = sym (ap (λ (b : Bool). pick (b && leb d 1) None (Some (14, 0))) (le-ltb s n h))
 
-  pub edge_odd : s < n → 1 < d → some (14, 0) ≡ edge_test
-  edge_odd h q = sym (ap₂ (λ (a b : Bool). pick (a && b) none (some (14, 0))) (lt-ltb s n h) (lt-leb d 1 q))
+  pub edge_odd : s < n → 1 < d → Some (14, 0) ≡ edge_test
+  edge_odd h q = sym (ap₂ (λ (a b : Bool). pick (a && b) None (Some (14, 0))) (lt-ltb s n h) (lt-leb d 1 q))
 
-  pub edge_so : s < n → d ≤ 1 → none ≡ edge_test
-  edge_so h q = sym (ap₂ (λ (a b : Bool). pick (a && b) none (some (14, 0))) (lt-ltb s n h) (le-leb d 1 q))
+  pub edge_so : s < n → d ≤ 1 → None ≡ edge_test
+  edge_so h q = sym (ap₂ (λ (a b : Bool). pick (a && b) None (Some (14, 0))) (lt-ltb s n h) (le-leb d 1 q))
 
 -- A MODEL WITHOUT A FAULT
 
-total_read : {A : Type 0} (g : List ℕ → Option A) (f : List ℕ → ℕ) (k : A → ℕ) → ((r : List ℕ) (a : A) → g r ≡ some a → f r ≡ k a) → (rs : List (List ℕ)) → EachReads g rs → total k (read_all g rs) ≡ total f rs
+total_read : {A : Type 0} (g : List ℕ → Option A) (f : List ℕ → ℕ) (k : A → ℕ) → ((r : List ℕ) (a : A) → g r ≡ Some a → f r ≡ k a) → (rs : List (List ℕ)) → EachReads g rs → total k (read_all g rs) ≡ total f rs
 total_read g f k h [] t = refl
 total_read g f k h (r ∷ rs) t =
     ap (total k) (read_head g r rs t.0.as_this t.0.reads) ∙ ap₂ ◌+◌ (sym (h r t.0.as_this t.0.reads)) (total_read g f k h rs t.1)
 
-signal_label : (r : List ℕ) (s : Signal) → read_signal r ≡ some s → get_or r 0 0 ≡ s.label
+signal_label : (r : List ℕ) (s : Signal) → read_signal r ≡ Some s → get_or r 0 0 ≡ s.label
 signal_label r s h = ap (λ (ws : List ℕ). get_or (tail ws) 0 0) (sym (signal_said r h))
 
-signal_input : (r : List ℕ) (s : Signal) → read_signal r ≡ some s → input_field r ≡ input_width s
+signal_input : (r : List ℕ) (s : Signal) → read_signal r ≡ Some s → input_field r ≡ input_width s
 signal_input r s h = ap₂ (λ (l w : ℕ). pick (eqb l 0) w 0) (signal_label r s h) (signal_width r s h)
 
 -- the causes, by the numbers that they ask for
@@ -176,7 +176,7 @@ eight sb eb ne ns tb c =
     short sb c.bytes ∷ short eb c.work_bits ∷ short ne c.work_exprs ∷ short ns c.work_signals
     ∷ no_bit 0 (take sb c.bytes) ∷ wrong_count tb c.ticks ∷ no_bit 0 c.ticks ∷ wrong_fired ns c.fired ∷ []
 
-module _ (widest : ℕ) (c : Call) (h : malformed widest c.lists ≡ none) where
+module _ (widest : ℕ) (c : Call) (h : malformed widest c.lists ≡ None) where
   abbrev m : Model
   m = call_model c
 
@@ -206,13 +206,13 @@ module _ (widest : ℕ) (c : Call) (h : malformed widest c.lists ≡ none) where
 -- of the work on signals only the length counts
 pub work_same : (l : Lists) (bytes ticks : List ℕ) (fired : Option (ℕ × ℕ)) (work_bits work_exprs work_signals other : List ℕ) → length other ≡ length work_signals → call_causes (call_of l bytes ticks fired work_bits work_exprs other) ≡ call_causes (call_of l bytes ticks fired work_bits work_exprs work_signals)
 work_same l bytes ticks fired work_bits work_exprs work_signals other h =
-    ap (λ (n : ℕ). or_else (first_of (short (width_total l.signals) bytes ∷ short (width_total l.exprs) work_bits ∷ short (length (records_in l.exprs)) work_exprs ∷ only (ltb n (length (records_in l.signals))) (some (1, min (length (records_in l.signals)) 18446744073709551615)) ∷ [])) (first_of (bit_causes l.signals bytes ticks fired))) h
+    ap (λ (n : ℕ). or_else (first_of (short (width_total l.signals) bytes ∷ short (width_total l.exprs) work_bits ∷ short (length (records_in l.exprs)) work_exprs ∷ only (ltb n (length (records_in l.signals))) (Some (1, min (length (records_in l.signals)) 18446744073709551615)) ∷ [])) (first_of (bit_causes l.signals bytes ticks fired))) h
 
-pub checked_fault : (widest : ℕ) (c : Call) (n : ℕ) → some n ≡ malformed widest c.lists → some (12, n) ≡ checked_by widest c
+pub checked_fault : (widest : ℕ) (c : Call) (n : ℕ) → Some n ≡ malformed widest c.lists → Some (12, n) ≡ checked_by widest c
 unfolding checked_by
 checked_fault widest c n h = ap (checked (call_model c) c) h
 
-pub checked_fine : (widest : ℕ) (c : Call) {o : Option (ℕ × ℕ)} → none ≡ malformed widest c.lists → o ≡ call_causes c → o ≡ checked_by widest c
+pub checked_fine : (widest : ℕ) (c : Call) {o : Option (ℕ × ℕ)} → None ≡ malformed widest c.lists → o ≡ call_causes c → o ≡ checked_by widest c
 unfolding checked_by
 checked_fine widest c h e = e ∙ causes_so widest c (sym h) ∙ ap (checked (call_model c) c) h
 
@@ -222,5 +222,5 @@ unfolding answer checked_by refusal
 answer_checked widest c = go (malformed widest c.lists)
   where
     go : (o : Option ℕ) → verdict (call_model c) c o ≡ or_else (checked (call_model c) c o) (on_loop (looped (call_model c)))
-    go (some n) = refl
-    go none = firsts_append (take 8 (causes (call_model c) c)) (on_loop (looped (call_model c)) ∷ []) ∙ ap (or_else (first_of (take 8 (causes (call_model c) c)))) (or_else_none (on_loop (looped (call_model c))))
+    go (Some n) = refl
+    go None = firsts_append (take 8 (causes (call_model c) c)) (on_loop (looped (call_model c)) ∷ []) ∙ ap (or_else (first_of (take 8 (causes (call_model c) c)))) (or_else_none (on_loop (looped (call_model c))))

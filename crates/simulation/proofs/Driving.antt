@@ -3,7 +3,7 @@ use Prim.Native.Nat.{ℕ, zero, suc, ◌+◌, ◌≤◌, ◌<◌}
 use mathlib.Core.Path.{◌≡◌, refl, sym, ◌∙◌, ap, subst}
 use mathlib.Core.Bool.{Bool, true, false, ◌&&◌}
 use mathlib.Core.List.{List, [], ◌∷◌, tail}
-use mathlib.Core.Option.{Option, none, some}
+use Rattle.std.specs.Prelude.{Option, None, Some}
 use native.Mathlib.Omega.{arith}
 use native.Mathlib.Decide.{ℕ_discrete}
 use lib.Dec.{eqb}
@@ -23,33 +23,33 @@ use Rattle.simulation.proofs.Steps.{left_from}
 -- ONE RECORD
 
 -- what assigns nothing is passed over
-passed : (o : Option Stmt) (ts : List Stmt) (s : ℕ) → ((x : Stmt) → o ≡ some x → assigns x ≡ none) → given assigns (elim o as (λ (p : Option Stmt). List Stmt) [ none ↦ ts | some x ↦ x ∷ ts ]) s ≡ given assigns ts s
-passed none ts s h = refl
-passed (some (assign t e)) ts s h = let z : ◌≡◌ {A = ℕ} 0 1 = cc (h (assign t e) refl) in absurd (omega arith)
-passed (some (reg t n c d r e)) ts s h = same (eqb t s)
+passed : (o : Option Stmt) (ts : List Stmt) (s : ℕ) → ((x : Stmt) → o ≡ Some x → assigns x ≡ None) → given assigns (elim o as (λ (p : Option Stmt). List Stmt) [ None ↦ ts | Some x ↦ x ∷ ts ]) s ≡ given assigns ts s
+passed None ts s h = refl
+passed (Some (assign t e)) ts s h = let z : ◌≡◌ {A = ℕ} 0 1 = cc (h (assign t e) refl) in absurd (omega arith)
+passed (Some (reg t n c d r e)) ts s h = same (eqb t s)
   where
     same : (b : Bool) → pick b (given assigns ts s) (given assigns ts s) ≡ given assigns ts s
     same true = refl
     same false = refl
 
 -- a record of a kind other than 0 assigns nothing
-other_kind : (k : ℕ) (l : List ℕ) → (k ≡ 0 → ⊥) → (x : Stmt) → read_stmt (k ∷ l) ≡ some x → assigns x ≡ none
+other_kind : (k : ℕ) (l : List ℕ) → (k ≡ 0 → ⊥) → (x : Stmt) → read_stmt (k ∷ l) ≡ Some x → assigns x ≡ None
 other_kind k l d (reg t n c p r e) h = refl
 other_kind k l d (assign t e) h = let z : ◌≡◌ {A = ℕ} k 0 = ap (λ (ws : List ℕ). get_or (tail ws) 0 0) (sym (stmt_said (k ∷ l) h)) in absurd (d z)
 
 no_assign : (k : ℕ) (l : List ℕ) (s : ℕ) → (k ≡ 0 → ⊥) → assigns_to s (k ∷ l) ≡ false
 no_assign k l s d = ap (λ (b : Bool). (eqb (suc (length l)) 3 && b) && eqb (get_or l 0 0) s) (ne_eqb k 0 d) ∙ ap (λ (b : Bool). b && eqb (get_or l 0 0) s) (and_false (eqb (suc (length l)) 3))
 
-pub given_step : (s : ℕ) (r : List ℕ) (rs : List (List ℕ)) → given assigns (read_all read_stmt (r ∷ rs)) s ≡ pick (assigns_to s r) (some (get_or r 2 0)) (given assigns (read_all read_stmt rs) s)
+pub given_step : (s : ℕ) (r : List ℕ) (rs : List (List ℕ)) → given assigns (read_all read_stmt (r ∷ rs)) s ≡ pick (assigns_to s r) (Some (get_or r 2 0)) (given assigns (read_all read_stmt rs) s)
 given_step s [] rs = refl
 given_step s (zero ∷ []) rs = refl
 given_step s (zero ∷ t ∷ []) rs = refl
 given_step s (zero ∷ t ∷ e ∷ []) rs = refl
 given_step s (zero ∷ t ∷ e ∷ x ∷ l) rs =
-    sym (ap (λ (b : Bool). pick (b && eqb t s) (some e) (given assigns (read_all read_stmt rs) s)) (sym (long (suc (suc (suc (suc (length l))))) 3 true (omega arith))))
+    sym (ap (λ (b : Bool). pick (b && eqb t s) (Some e) (given assigns (read_all read_stmt rs) s)) (sym (long (suc (suc (suc (suc (length l))))) 3 true (omega arith))))
 given_step s (suc k ∷ l) rs =
     passed (read_stmt (suc k ∷ l)) (read_all read_stmt rs) s (other_kind (suc k) l (λ z. absurd (omega arith)))
-    ∙ sym (ap (λ (b : Bool). pick b (some (get_or (suc k ∷ l) 2 0)) (given assigns (read_all read_stmt rs) s)) (no_assign (suc k) l s (λ z. absurd (omega arith))))
+    ∙ sym (ap (λ (b : Bool). pick b (Some (get_or (suc k ∷ l) 2 0)) (given assigns (read_all read_stmt rs) s)) (no_assign (suc k) l s (λ z. absurd (omega arith))))
 
 -- WALKING
 
@@ -69,19 +69,19 @@ module _ {l : List ℕ} {at s : ℕ} (w : Driving l at s) where
     sought =
         sym (ap (λ (rs : List (List ℕ)). given assigns (read_all read_stmt rs) s) e
         ∙ given_step s r (left_from l at')
-        ∙ ap (λ (b : Bool). pick b (some (get_or r 2 0)) (given_from l at' s)) h)
+        ∙ ap (λ (b : Bool). pick b (Some (get_or r 2 0)) (given_from l at' s)) h)
         ∙ w.sought;
   }
 
-  pub driving_here : (r : List ℕ) (at' : ℕ) → left_from l at ≡ r ∷ left_from l at' → assigns_to s r ≡ true → (e : ℕ) → e ≡ get_or r 2 0 → some e ≡ given assigns (stmts_in l) s
+  pub driving_here : (r : List ℕ) (at' : ℕ) → left_from l at ≡ r ∷ left_from l at' → assigns_to s r ≡ true → (e : ℕ) → e ≡ get_or r 2 0 → Some e ≡ given assigns (stmts_in l) s
   driving_here r at' q h e v =
-      ap some v
+      ap Some v
       ∙ sym (ap (λ (rs : List (List ℕ)). given assigns (read_all read_stmt rs) s) q
       ∙ given_step s r (left_from l at')
-      ∙ ap (λ (b : Bool). pick b (some (get_or r 2 0)) (given_from l at' s)) h)
+      ∙ ap (λ (b : Bool). pick b (Some (get_or r 2 0)) (given_from l at' s)) h)
       ∙ w.sought
 
-  pub driving_none : left_from l at ≡ [] → none ≡ given assigns (stmts_in l) s
+  pub driving_none : left_from l at ≡ [] → None ≡ given assigns (stmts_in l) s
   driving_none e = ap (λ (rs : List (List ℕ)). given assigns (read_all read_stmt rs) s) (sym e) ∙ w.sought
 
 -- THE TABLE
@@ -99,7 +99,7 @@ noting_start l n = record { so_far = λ i h. ap (λ (v : ℕ). known v (given as
 known_set : (e : ℕ) (o : Option ℕ) → known (clipped (e + 1)) o ≡ clipped (e + 1)
 known_set e o = ap (λ (b : Bool). pick b (coded o) (clipped (e + 1))) (ne_eqb (clipped (e + 1)) 0 (λ z. absurd (omega arith)))
 
-known_none : (v : ℕ) → known v none ≡ v
+known_none : (v : ℕ) → known v None ≡ v
 known_none v = go (eqb v 0) refl
   where
     go : (b : Bool) → eqb v 0 ≡ b → pick b 0 v ≡ v
@@ -114,7 +114,7 @@ module _ (r table : List ℕ) (i : ℕ) (h : i < length table) (o : Option ℕ) 
   e = get_or r 2 0
 
   abbrev Same : Bool → Bool → Bool → Type 0
-  Same a z x = known (get_or (pick (a && z) (set table t (clipped (e + 1))) table) i 0) o ≡ known (get_or table i 0) (pick (a && x) (some e) o)
+  Same a z x = known (get_or (pick (a && z) (set table t (clipped (e + 1))) table) i 0) o ≡ known (get_or table i 0) (pick (a && x) (Some e) o)
 
   -- another signal's
   elsewhere : (a z : Bool) → (i ≡ t → ⊥) → Same a z false
@@ -128,17 +128,17 @@ module _ (r table : List ℕ) (i : ℕ) (h : i < length table) (o : Option ℕ) 
   at_home true true d q =
       ap (λ (v : ℕ). known v o) (ap (λ (j : ℕ). get_or (set table t (clipped (e + 1))) j 0) d ∙ get_or-set_same table t (clipped (e + 1)) 0 (subst (λ (j : ℕ). j < length table) d h))
       ∙ known_set e o
-      ∙ sym (ap (λ (v : ℕ). known v (some e)) (ap (λ (j : ℕ). get_or table j 0) d ∙ eqb-true (get_or table t 0) 0 q))
+      ∙ sym (ap (λ (v : ℕ). known v (Some e)) (ap (λ (j : ℕ). get_or table j 0) d ∙ eqb-true (get_or table t 0) 0 q))
   at_home true false d q =
       let n : eqb (get_or table i 0) 0 ≡ false = ap (λ (j : ℕ). eqb (get_or table j 0) 0) d ∙ q in
-      ap (λ (b : Bool). pick b (coded o) (get_or table i 0)) n ∙ sym (ap (λ (b : Bool). pick b (coded (some e)) (get_or table i 0)) n)
+      ap (λ (b : Bool). pick b (coded o) (get_or table i 0)) n ∙ sym (ap (λ (b : Bool). pick b (coded (Some e)) (get_or table i 0)) n)
 
-  noted_at : known (get_or (noted r table) i 0) o ≡ known (get_or table i 0) (pick (assigns_to i r) (some e) o)
+  noted_at : known (get_or (noted r table) i 0) o ≡ known (get_or table i 0) (pick (assigns_to i r) (Some e) o)
   noted_at = go (ℕ_discrete i t)
     where
-      go : Dec (i ≡ t) → known (get_or (noted r table) i 0) o ≡ known (get_or table i 0) (pick (assigns_to i r) (some e) o)
-      go (yes d) = at_home (is_assign r) (eqb (get_or table t 0) 0) d refl ∙ ap (λ (b : Bool). known (get_or table i 0) (pick (is_assign r && b) (some e) o)) (sym (eq-eqb t i (sym d)))
-      go (no d) = elsewhere (is_assign r) (eqb (get_or table t 0) 0) d ∙ ap (λ (b : Bool). known (get_or table i 0) (pick (is_assign r && b) (some e) o)) (sym (ne_eqb t i (λ z. d (sym z))))
+      go : Dec (i ≡ t) → known (get_or (noted r table) i 0) o ≡ known (get_or table i 0) (pick (assigns_to i r) (Some e) o)
+      go (yes d) = at_home (is_assign r) (eqb (get_or table t 0) 0) d refl ∙ ap (λ (b : Bool). known (get_or table i 0) (pick (is_assign r && b) (Some e) o)) (sym (eq-eqb t i (sym d)))
+      go (no d) = elsewhere (is_assign r) (eqb (get_or table t 0) 0) d ∙ ap (λ (b : Bool). known (get_or table i 0) (pick (is_assign r && b) (Some e) o)) (sym (ne_eqb t i (λ z. d (sym z))))
 
 pub noted_length : (r table : List ℕ) → length (noted r table) ≡ length table
 noted_length r table = go (is_assign r && eqb (get_or table (get_or r 1 0) 0) 0)

@@ -3,7 +3,7 @@ use Prim.Native.Nat.{ℕ, zero, suc, ◌+◌, ◌*◌, ◌/◌, ◌^◌, ◌≤�
 use mathlib.Core.Path.{◌≡◌, refl, sym, ◌∙◌, ap}
 use mathlib.Core.Bool.{Bool, true, false, ◌&&◌}
 use mathlib.Core.List.{List, [], ◌∷◌}
-use mathlib.Core.Option.{none, some}
+use Rattle.std.specs.Prelude.{None, Some}
 use native.Mathlib.Omega.{arith}
 use native.Mathlib.Numerals.{add-one}
 use lib.Dec.{eqb, leb, ltb}
@@ -20,11 +20,11 @@ use Rattle.simulation.proofs.Ands.{and_true, and_false, long}
 use Rattle.simulation.specs.Fault.{all_wide, expr_test, fixed_test, const_test, read_test, concat_test, mux_test, eq_test}
 
 -- a fault in any part is a fault of the whole
-only_fits : (p : Expr → Bool) (b : Bool) (x : Expr) → fits p (only b (some x)) ≡ (b && p x)
+only_fits : (p : Expr → Bool) (b : Bool) (x : Expr) → fits p (only b (Some x)) ≡ (b && p x)
 only_fits p true x = refl
 only_fits p false x = refl
 
-only_none : (p : Expr → Bool) (b : Bool) → fits p (only b none) ≡ false
+only_none : (p : Expr → Bool) (b : Bool) → fits p (only b None) ≡ false
 only_none p true = refl
 only_none p false = refl
 

@@ -3,7 +3,7 @@ use Prim.Native.Nat.{ℕ, zero, suc, ◌+◌, ◌≤◌, ◌<◌, min}
 use mathlib.Core.Path.{◌≡◌, refl, sym, ◌∙◌, ap}
 use mathlib.Core.Bool.{Bool, true, false, ◌&&◌}
 use mathlib.Core.List.{List, [], ◌∷◌}
-use mathlib.Core.Option.{Option, none, some}
+use Rattle.std.specs.Prelude.{Option, None, Some}
 use native.Mathlib.Omega.{arith}
 use native.Mathlib.Numerals.{add-one}
 use lib.Dec.{eqb, leb}
@@ -22,7 +22,7 @@ module _ (p : ℕ → List ℕ → Bool) (n : ℕ) (r : List ℕ) (left : List (
   pub failing_next : p n r ≡ true → first_failing p n (r ∷ left) ≡ first_failing p (n + 1) left
   failing_next h = rw h (ap (λ (k : ℕ). first_failing p k left) (sym (add-one n)))
 
-  pub failing_here : p n r ≡ false → some n ≡ first_failing p n (r ∷ left)
+  pub failing_here : p n r ≡ false → Some n ≡ first_failing p n (r ∷ left)
   failing_here h = sym (rw h)
 
 -- what a loop keeps: what it still has to find is what there is to find
@@ -37,10 +37,10 @@ module _ {p : ℕ → List ℕ → Bool} {rs : List (List ℕ)} where
     pub seeking_next : (r : List ℕ) (rest : List (List ℕ)) → left ≡ r ∷ rest → p n r ≡ true → Seeking p rs (n + 1) rest
     seeking_next r rest e h = record { sought = sym (ap (first_failing p n) e ∙ failing_next p n r rest h) ∙ s.sought }
 
-    pub seeking_here : (r : List ℕ) (rest : List (List ℕ)) → left ≡ r ∷ rest → p n r ≡ false → some n ≡ first_failing p 0 rs
+    pub seeking_here : (r : List ℕ) (rest : List (List ℕ)) → left ≡ r ∷ rest → p n r ≡ false → Some n ≡ first_failing p 0 rs
     seeking_here r rest e h = failing_here p n r rest h ∙ ap (first_failing p n) (sym e) ∙ s.sought
 
-    pub seeking_none : left ≡ [] → none ≡ first_failing p 0 rs
+    pub seeking_none : left ≡ [] → None ≡ first_failing p 0 rs
     seeking_none e = ap (first_failing p n) (sym e) ∙ s.sought
 
 -- COUNTING THE STATEMENTS ON ONE SIGNAL
@@ -75,7 +75,7 @@ counting_end {n} {rs} {left} {k} c e = let q = c.so_far in let g = ap (λ (l : L
 
 -- SIGNALS
 
-signal_read : (r : List ℕ) → length r ≡ 3 → read_signal r ≡ some (record { label = get_or r 0 0; width = get_or r 1 0; owner = get_or r 2 0 })
+signal_read : (r : List ℕ) → length r ≡ 3 → read_signal r ≡ Some (record { label = get_or r 0 0; width = get_or r 1 0; owner = get_or r 2 0 })
 signal_read [] h = absurd (omega arith)
 signal_read (a ∷ []) h = absurd (omega arith)
 signal_read (a ∷ b ∷ []) h = absurd (omega arith)
@@ -132,5 +132,5 @@ pub signal_counts : (widest k : ℕ) (r : List ℕ) → fits (signal_fits widest
 signal_counts widest k r = go (read_signal r)
   where
     go : (o : Option Signal) → fits (signal_fits widest (min k 2)) o ≡ fits (signal_fits widest k) o
-    go none = refl
-    go (some s) = ap (λ (b : Bool). leb s.label 15 && in_range widest s.width && b) (same_count k s.label)
+    go None = refl
+    go (Some s) = ap (λ (b : Bool). leb s.label 15 && in_range widest s.width && b) (same_count k s.label)

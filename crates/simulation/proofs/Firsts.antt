@@ -3,7 +3,7 @@ use Prim.Native.Nat.{ℕ, suc, ◌+◌, ◌<◌}
 use mathlib.Core.Path.{◌≡◌, refl, sym, ◌∙◌, ap, ap₂}
 use mathlib.Core.Bool.{Bool, true, false}
 use mathlib.Core.List.{List, [], ◌∷◌}
-use mathlib.Core.Option.{Option, none, some}
+use Rattle.std.specs.Prelude.{Option, None, Some}
 use native.Mathlib.Omega.{arith}
 use lib.ListN.{length}
 use Rattle.bits.specs.Bits.{pick}
@@ -14,27 +14,27 @@ use Rattle.simulation.specs.Fault.{signal_fault_of, expr_fault_of, stmt_fault_of
 
 -- NO FAULT LIES BEHIND THE LAST RECORD
 
-failing_below : (p : ℕ → List ℕ → Bool) (k : ℕ) (rs : List (List ℕ)) (n : ℕ) → first_failing p k rs ≡ some n → n < k + length rs
+failing_below : (p : ℕ → List ℕ → Bool) (k : ℕ) (rs : List (List ℕ)) (n : ℕ) → first_failing p k rs ≡ Some n → n < k + length rs
 failing_below p k [] n e = let z : ◌≡◌ {A = ℕ} 0 1 = cc in absurd (omega arith)
 failing_below p k (r ∷ rs) n e = go (p k r) (failing_below p (suc k) rs n) e
   where
-    go : (b : Bool) → (first_failing p (suc k) rs ≡ some n → n < suc k + length rs) → pick b (first_failing p (suc k) rs) (some k) ≡ some n → n < k + suc (length rs)
+    go : (b : Bool) → (first_failing p (suc k) rs ≡ Some n → n < suc k + length rs) → pick b (first_failing p (suc k) rs) (Some k) ≡ Some n → n < k + suc (length rs)
     go true ih q = let z = ih q in omega arith
     go false ih q = let z : n ≡ k = cc in omega arith
 
-pub fault_below : (p : ℕ → List ℕ → Bool) (rs : List (List ℕ)) {f : Option ℕ} → f ≡ first_failing p 0 rs → (n : ℕ) → f ≡ some n → n < length rs
+pub fault_below : (p : ℕ → List ℕ → Bool) (rs : List (List ℕ)) {f : Option ℕ} → f ≡ first_failing p 0 rs → (n : ℕ) → f ≡ Some n → n < length rs
 fault_below p rs e n q = let z = failing_below p 0 rs n (sym e ∙ q) in omega arith
 
-pub chain_below : (o p : Option ℕ) {x : Option ℕ} (k i j : ℕ) → x ≡ or_else o (behind k p) → ((n : ℕ) → o ≡ some n → n < i) → ((n : ℕ) → p ≡ some n → n < j) → k ≡ i → (n : ℕ) → x ≡ some n → n < i + j
-chain_below (some m) p k i j e h g d n q = let z : some m ≡ some n = sym e ∙ q in let w : m ≡ n = cc in omega (arith, h m refl)
-chain_below none none k i j e h g d n q = let z : none ≡ some n = sym e ∙ q in let w : ◌≡◌ {A = ℕ} 0 1 = cc in absurd (omega arith)
-chain_below none (some m) k i j e h g d n q = let z : some (k + m) ≡ some n = sym e ∙ q in let w : k + m ≡ n = cc in omega (arith, g m refl)
+pub chain_below : (o p : Option ℕ) {x : Option ℕ} (k i j : ℕ) → x ≡ or_else o (behind k p) → ((n : ℕ) → o ≡ Some n → n < i) → ((n : ℕ) → p ≡ Some n → n < j) → k ≡ i → (n : ℕ) → x ≡ Some n → n < i + j
+chain_below (Some m) p k i j e h g d n q = let z : Some m ≡ Some n = sym e ∙ q in let w : m ≡ n = cc in omega (arith, h m refl)
+chain_below None None k i j e h g d n q = let z : None ≡ Some n = sym e ∙ q in let w : ◌≡◌ {A = ℕ} 0 1 = cc in absurd (omega arith)
+chain_below None (Some m) k i j e h g d n q = let z : Some (k + m) ≡ Some n = sym e ∙ q in let w : k + m ≡ n = cc in omega (arith, g m refl)
 
 -- THE WHOLE
 
 behind_zero : (o : Option ℕ) → behind 0 o ≡ o
-behind_zero none = refl
-behind_zero (some n) = let z : 0 + n ≡ n = omega arith in ap some z
+behind_zero None = refl
+behind_zero (Some n) = let z : 0 + n ≡ n = omega arith in ap Some z
 
 pub first_of_all :
     (widest : ℕ) (l : Lists) (u a b d x y z : Option ℕ) (s e : ℕ)

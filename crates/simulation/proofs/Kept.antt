@@ -4,7 +4,8 @@ use Prim.Native.Nat.{ℕ, zero, suc, ◌+◌, ◌≤◌, ◌<◌, min}
 use mathlib.Core.Path.{◌≡◌, refl, sym, ◌∙◌, ap, ap₂, subst}
 use mathlib.Core.Bool.{Bool, true, false, ◌&&◌}
 use mathlib.Core.List.{List, [], ◌∷◌, ◌++◌, map, append_assoc}
-use mathlib.Core.Option.{Option, none, some, none-ne-some, some-ne-none, some-injective}
+use Rattle.std.specs.Prelude.{Option, None, Some}
+use Rattle.bits.proofs.Options.{none_ne_some, some_ne_none, some_injective}
 use native.Mathlib.Omega.{arith}
 use native.Mathlib.Nat.{not-suc-le-zero, zero-add}
 use lib.Dec.{eqb, leb, ltb}
@@ -70,23 +71,23 @@ fits_inputs (s ∷ ss) bs (v ∷ t) q h =
 -- what a statement gives its target is as wide as that
 module _ (sw ew : List ℕ) where
   abbrev pub Gives : (Stmt → Option ℕ) → Type 0
-  Gives rule = (t : Stmt) → stmt_fits sw ew t ≡ true → (e : ℕ) → rule t ≡ some e → suits sw ew (target t) e ≡ true
+  Gives rule = (t : Stmt) → stmt_fits sw ew t ≡ true → (e : ℕ) → rule t ≡ Some e → suits sw ew (target t) e ≡ true
 
   pub assigns_gives : Gives assigns
-  assigns_gives (assign t x) h e q = subst (λ (k : ℕ). suits sw ew t k ≡ true) (some-injective x e q) h
-  assigns_gives (reg t n c d r x) h e q = absurd (none-ne-some e q)
+  assigns_gives (assign t x) h e q = subst (λ (k : ℕ). suits sw ew t k ≡ true) (some_injective x e q) h
+  assigns_gives (reg t n c d r x) h e q = absurd (none_ne_some e q)
 
   module _ (v : ℕ → Bits) where
-    reset_gives : (t : ℕ) (r : Option RegReset) → reset_fits sw ew t r ≡ true → (e : ℕ) → reset_loads v r ≡ some e → suits sw ew t e ≡ true
-    reset_gives t none h e q = absurd (none-ne-some e q)
-    reset_gives t (some r) h e q = go (asserted v r.signal r.active) q
+    reset_gives : (t : ℕ) (r : Option RegReset) → reset_fits sw ew t r ≡ true → (e : ℕ) → reset_loads v r ≡ Some e → suits sw ew t e ≡ true
+    reset_gives t None h e q = absurd (none_ne_some e q)
+    reset_gives t (Some r) h e q = go (asserted v r.signal r.active) q
       where
-        go : (b : Bool) → only b (some r.value) ≡ some e → suits sw ew t e ≡ true
-        go true k = subst (λ (x : ℕ). suits sw ew t x ≡ true) (some-injective r.value e k) (and_right (broad sw r.signal 1 && leb r.active 1) (suits sw ew t r.value) h)
-        go false k = absurd (none-ne-some e k)
+        go : (b : Bool) → only b (Some r.value) ≡ Some e → suits sw ew t e ≡ true
+        go true k = subst (λ (x : ℕ). suits sw ew t x ≡ true) (some_injective r.value e k) (and_right (broad sw r.signal 1 && leb r.active 1) (suits sw ew t r.value) h)
+        go false k = absurd (none_ne_some e k)
 
     pub loads_gives : (f : Firing) → Gives (loads f v)
-    loads_gives f (assign t x) h e q = absurd (none-ne-some e q)
+    loads_gives f (assign t x) h e q = absurd (none_ne_some e q)
     loads_gives f (reg t n c d r x) h e q = go (reset_loads v r) (f c d && enabled v x) (reset_gives t r hr e) q
       where
         h1 : (suits sw ew t n && broad sw c 1 && leb d 1 && reset_fits sw ew t r) ≡ true
@@ -98,26 +99,26 @@ module _ (sw ew : List ℕ) where
         hn : suits sw ew t n ≡ true
         hn = and_left (suits sw ew t n) (broad sw c 1) (and_left (suits sw ew t n && broad sw c 1) (leb d 1) (and_left (suits sw ew t n && broad sw c 1 && leb d 1) (reset_fits sw ew t r) h1))
 
-        go : (o : Option ℕ) (b : Bool) → (o ≡ some e → suits sw ew t e ≡ true) → or_else o (only b (some n)) ≡ some e → suits sw ew t e ≡ true
-        go (some y) b ih k = ih k
-        go none true ih k = subst (λ (y : ℕ). suits sw ew t y ≡ true) (some-injective n e k) hn
-        go none false ih k = absurd (none-ne-some e k)
+        go : (o : Option ℕ) (b : Bool) → (o ≡ Some e → suits sw ew t e ≡ true) → or_else o (only b (Some n)) ≡ Some e → suits sw ew t e ≡ true
+        go (Some y) b ih k = ih k
+        go None true ih k = subst (λ (y : ℕ). suits sw ew t y ≡ true) (some_injective n e k) hn
+        go None false ih k = absurd (none_ne_some e k)
 
-  pub given_suits : (rule : Stmt → Option ℕ) → Gives rule → (k : ℕ) (ts : List Stmt) → AllFrom (λ (n : ℕ). stmt_fits sw ew) k ts → (s e : ℕ) → given rule ts s ≡ some e → suits sw ew s e ≡ true
-  given_suits rule g k [] h s e q = absurd (none-ne-some e q)
+  pub given_suits : (rule : Stmt → Option ℕ) → Gives rule → (k : ℕ) (ts : List Stmt) → AllFrom (λ (n : ℕ). stmt_fits sw ew) k ts → (s e : ℕ) → given rule ts s ≡ Some e → suits sw ew s e ≡ true
+  given_suits rule g k [] h s e q = absurd (none_ne_some e q)
   given_suits rule g k (t ∷ ts) h s e q = go (eqb (target t) s) refl (given_suits rule g (suc k) ts h.1 s e) q
     where
-      choose : (o : Option ℕ) → rule t ≡ o → eqb (target t) s ≡ true → (given rule ts s ≡ some e → suits sw ew s e ≡ true) → or_else o (given rule ts s) ≡ some e → suits sw ew s e ≡ true
-      choose none w z ih k = ih k
-      choose (some y) w z ih k = subst (λ (x : ℕ). suits sw ew x e ≡ true) (eqb-true (target t) s z) (g t h.0 e (w ∙ k))
+      choose : (o : Option ℕ) → rule t ≡ o → eqb (target t) s ≡ true → (given rule ts s ≡ Some e → suits sw ew s e ≡ true) → or_else o (given rule ts s) ≡ Some e → suits sw ew s e ≡ true
+      choose None w z ih k = ih k
+      choose (Some y) w z ih k = subst (λ (x : ℕ). suits sw ew x e ≡ true) (eqb-true (target t) s z) (g t h.0 e (w ∙ k))
 
-      go : (b : Bool) → eqb (target t) s ≡ b → (given rule ts s ≡ some e → suits sw ew s e ≡ true) → ◌≡◌ {A = Option ℕ} (pick b (or_else (rule t) (given rule ts s)) (given rule ts s)) (some e) → suits sw ew s e ≡ true
+      go : (b : Bool) → eqb (target t) s ≡ b → (given rule ts s ≡ Some e → suits sw ew s e ≡ true) → ◌≡◌ {A = Option ℕ} (pick b (or_else (rule t) (given rule ts s)) (given rule ts s)) (Some e) → suits sw ew s e ≡ true
       go true z ih k = choose (rule t) refl z ih k
       go false z ih k = ih k
 
 module _ (widest : ℕ) (m : Model) (h : Sound widest m) where
   abbrev pub Suited : (ℕ → Option ℕ) → Type 0
-  Suited choice = (s e : ℕ) → choice s ≡ some e → suits (signal_widths m) (expr_widths m) s e ≡ true
+  Suited choice = (s e : ℕ) → choice s ≡ Some e → suits (signal_widths m) (expr_widths m) s e ≡ true
 
   fits_set : (choice : ℕ → Option ℕ) → Suited choice → (old now : List Bits) → Fits m.signals old → Fits m.signals now → Fits m.signals (set_by m choice old now)
   fits_set choice g old now ho hn = fits_tab m.signals (λ s. become vs (choice s) (get_or old s [])) 0 (λ i q. ap (λ (j : ℕ). length (become vs (choice j) (get_or old j []))) (zero-add i) ∙ go i q (choice i) (g i))
@@ -128,9 +129,9 @@ module _ (widest : ℕ) (m : Model) (h : Sound widest m) where
       widths_are : length (signal_widths m) ≡ length m.signals
       widths_are = length-map m.signals (λ (s : Signal). s.width)
 
-      go : (i : ℕ) → i < length m.signals → (o : Option ℕ) → ((e : ℕ) → o ≡ some e → suits (signal_widths m) (expr_widths m) i e ≡ true) → length (become (values_in m now) o (get_or old i [])) ≡ get_or (signal_widths m) i 0
-      go i q none k = fits_at m.signals old ho i q
-      go i q (some e) k =
+      go : (i : ℕ) → i < length m.signals → (o : Option ℕ) → ((e : ℕ) → o ≡ Some e → suits (signal_widths m) (expr_widths m) i e ≡ true) → length (become (values_in m now) o (get_or old i [])) ≡ get_or (signal_widths m) i 0
+      go i q None k = fits_at m.signals old ho i q
+      go i q (Some e) k =
           let w = and_right (ltb i (length (signal_widths m))) (wide (expr_widths m) (length (expr_widths m)) e (get_or (signal_widths m) i 0)) (k e refl) in
           let there = ltb-true e (length (expr_widths m)) (and_left (ltb e (length (expr_widths m))) (eqb (get_or (expr_widths m) e 0) (get_or (signal_widths m) i 0)) w) in
           values_width widest m h (at [] now) e (omega (arith, there, length-map m.exprs expr_width))
@@ -158,36 +159,36 @@ module _ (widest : ℕ) (m : Model) (h : Sound widest m) where
 -- THE WHOLE CALL
 abbrev pub AllNone : List (Option (ℕ × ℕ)) → Type 0
 AllNone [] = Unit {0}
-AllNone (o ∷ os) = (o ≡ none) × AllNone os
+AllNone (o ∷ os) = (o ≡ None) × AllNone os
 
-pub all_none : (os : List (Option (ℕ × ℕ))) → first_of os ≡ none → AllNone os
+pub all_none : (os : List (Option (ℕ × ℕ))) → first_of os ≡ None → AllNone os
 all_none [] h = tt
-all_none (none ∷ os) h = (refl, all_none os h)
-all_none (some r ∷ os) h = absurd (some-ne-none r h)
+all_none (None ∷ os) h = (refl, all_none os h)
+all_none (Some r ∷ os) h = absurd (some_ne_none r h)
 
-pub short_none : (n : ℕ) (b : List ℕ) → short n b ≡ none → n ≤ length b
+pub short_none : (n : ℕ) (b : List ℕ) → short n b ≡ None → n ≤ length b
 short_none n b h = go (ltb (length b) n) refl h
   where
-    go : (z : Bool) → ltb (length b) n ≡ z → ◌≡◌ {A = Option (ℕ × ℕ)} (only z (some (1, min n 18446744073709551615))) none → n ≤ length b
-    go true e k = absurd (some-ne-none _ k)
+    go : (z : Bool) → ltb (length b) n ≡ z → ◌≡◌ {A = Option (ℕ × ℕ)} (only z (Some (1, min n 18446744073709551615))) None → n ≤ length b
+    go true e k = absurd (some_ne_none _ k)
     go false e k = ltb-false (length b) n e
 
-pub count_none : (n : ℕ) (b : List ℕ) → wrong_count n b ≡ none → length b ≡ n
+pub count_none : (n : ℕ) (b : List ℕ) → wrong_count n b ≡ None → length b ≡ n
 count_none n b h = go (eqb (length b) n) refl h
   where
-    go : (z : Bool) → eqb (length b) n ≡ z → ◌≡◌ {A = Option (ℕ × ℕ)} (pick z none (some (14, n))) none → length b ≡ n
+    go : (z : Bool) → eqb (length b) n ≡ z → ◌≡◌ {A = Option (ℕ × ℕ)} (pick z None (Some (14, n))) None → length b ≡ n
     go true e k = eqb-true (length b) n e
-    go false e k = absurd (some-ne-none _ k)
+    go false e k = absurd (some_ne_none _ k)
 
-verdict_none : (m : Model) (c : Call) (o : Option ℕ) → verdict m c o ≡ none → (o ≡ none) × (refusal m c ≡ none)
-verdict_none m c none h = (refl, h)
-verdict_none m c (some n) h = absurd (some-ne-none _ h)
+verdict_none : (m : Model) (c : Call) (o : Option ℕ) → verdict m c o ≡ None → (o ≡ None) × (refusal m c ≡ None)
+verdict_none m c None h = (refl, h)
+verdict_none m c (Some n) h = absurd (some_ne_none _ h)
 
-loop_none : (o : Option ℕ) → on_loop o ≡ none → o ≡ none
-loop_none none h = refl
-loop_none (some s) h = absurd (some-ne-none _ h)
+loop_none : (o : Option ℕ) → on_loop o ≡ None → o ≡ None
+loop_none None h = refl
+loop_none (Some s) h = absurd (some_ne_none _ h)
 
-pub accepted_good : (widest : ℕ) (c : Call) → answer widest c ≡ none → Good widest c
+pub accepted_good : (widest : ℕ) (c : Call) → answer widest c ≡ None → Good widest c
 unfolding answer malformed refusal
 accepted_good widest c h =
     let m : Model = call_model c in
@@ -220,8 +221,8 @@ unfolding run ticked
 length_kept widest c = go (answer widest c) refl
   where
     go : (o : Option (ℕ × ℕ)) → answer widest c ≡ o → length (bytes_after c o) ≡ length c.bytes
-    go (some r) e = refl
-    go none e =
+    go (Some r) e = refl
+    go None e =
         let g = accepted_good widest c e in
         length-append (map digit (flat (state_after c))) (drop (signal_bytes (call_model c)) c.bytes)
         ∙ ap₂ ◌+◌ (new_length widest c g) (length-drop (signal_bytes (call_model c)) c.bytes)
@@ -232,13 +233,13 @@ digits [] = tt
 digits (true ∷ bs) = (omega arith, digits bs)
 digits (false ∷ bs) = (omega arith, digits bs)
 
-pub bytes_are_bits : (widest : ℕ) (c : Call) → answer widest c ≡ none → AllBits (take (signal_bytes (call_model c)) (run widest c).bytes)
+pub bytes_are_bits : (widest : ℕ) (c : Call) → answer widest c ≡ None → AllBits (take (signal_bytes (call_model c)) (run widest c).bytes)
 unfolding run ticked
 bytes_are_bits widest c e =
     rw e (subst AllBits (sym (take_at (map digit (flat (state_after c))) (drop (signal_bytes (call_model c)) c.bytes) (signal_bytes (call_model c)) (new_length widest c (accepted_good widest c e)))) (digits (flat (state_after c))))
 
 -- after an accepted call every assignment holds: a sweep changes nothing
-pub ends_settled : (widest : ℕ) (c : Call) → answer widest c ≡ none → (old : List Bits) × (state_after c ≡ settle (call_model c) old) × IsSettled (call_model c) old (state_after c)
+pub ends_settled : (widest : ℕ) (c : Call) → answer widest c ≡ None → (old : List Bits) × (state_after c ≡ settle (call_model c) old) × IsSettled (call_model c) old (state_after c)
 unfolding tick
 ends_settled widest c e =
     let g = accepted_good widest c e in
@@ -264,7 +265,7 @@ cut_flat (s ∷ ss) (v ∷ t) rest h =
     ap (λ (l : Bits). take s.width l ∷ per_signal ss (drop s.width l)) (append_assoc v (flat t) rest)
     ∙ ap₂ ◌∷◌ (take_at v (flat t ++ rest) s.width h.0) (ap (per_signal ss) (drop_at v (flat t ++ rest) s.width h.0) ∙ cut_flat ss t rest h.1)
 
-pub left_behind : (widest : ℕ) (c : Call) → answer widest c ≡ none → per_signal (call_model c).signals (map is_one (run widest c).bytes) ≡ state_after c
+pub left_behind : (widest : ℕ) (c : Call) → answer widest c ≡ None → per_signal (call_model c).signals (map is_one (run widest c).bytes) ≡ state_after c
 unfolding run ticked
 left_behind widest c e =
     rw e
@@ -272,6 +273,6 @@ left_behind widest c e =
     ∙ cut_flat (call_model c).signals (state_after c) (map is_one (drop (signal_bytes (call_model c)) c.bytes)) (after_fits widest c (accepted_good widest c e)))
 
 -- a refused call leaves the signal bytes
-pub refused_keeps : (widest : ℕ) (c : Call) (r : ℕ × ℕ) → answer widest c ≡ some r → (run widest c).bytes ≡ c.bytes
+pub refused_keeps : (widest : ℕ) (c : Call) (r : ℕ × ℕ) → answer widest c ≡ Some r → (run widest c).bytes ≡ c.bytes
 unfolding run
 refused_keeps widest c r e = rw e

@@ -8,7 +8,7 @@ use mathlib.Core.List.Memᴰ.{append_left as mem-left}
 use mathlib.Core.List.Memᴰ.{append_right as mem-right}
 use mathlib.Core.List.Memᴰ.{head as here}
 use mathlib.Core.List.{List, [], ◌∷◌, ◌++◌, Memᴰ as Mem}
-use mathlib.Core.Option.{Option, none, some}
+use Rattle.std.specs.Prelude.{Option, None, Some}
 use native.Mathlib.Omega.{arith}
 use native.Mathlib.Decide.{dec_lt, ℕ_discrete}
 use lib.ListN.{length, get_or, length-append, get_or-append, get_or-eq_default}
@@ -112,8 +112,8 @@ pub driven_respects : (m : Model) (old : List Bits) → Respects (Reads (depends
 driven_respects m old s v w h = go (given assigns m.stmts s) h
   where
     go : (o : Option ℕ) → ((y : ℕ) → Mem y (reads_by (reads_all [] m.exprs) o) → v y ≡ w y) → become (eval_all v [] m.exprs) o (get_or old s []) ≡ become (eval_all w [] m.exprs) o (get_or old s [])
-    go none g = refl
-    go (some e) g = values_respect v w m.exprs e g
+    go None g = refl
+    go (Some e) g = values_respect v w m.exprs e g
 
 pub settle_length : (m : Model) (old : List Bits) → length old ≡ length m.signals → length (settle m old) ≡ length m.signals
 unfolding settle

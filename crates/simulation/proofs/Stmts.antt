@@ -3,7 +3,7 @@ use Prim.Native.Nat.{ℕ, zero, suc, ◌+◌, ◌-◌, ◌≤◌, ◌<◌}
 use mathlib.Core.Path.{◌≡◌, refl, sym, ◌∙◌, ap}
 use mathlib.Core.Bool.{Bool, true, false, ◌&&◌}
 use mathlib.Core.List.{List, [], ◌∷◌}
-use mathlib.Core.Option.{Option, none, some}
+use Rattle.std.specs.Prelude.{Option, None, Some}
 use native.Mathlib.Omega.{arith}
 use lib.Dec.{eqb, leb}
 use lib.ListN.{length, get_or, drop, length-drop, drop_of_length-le}
@@ -53,7 +53,7 @@ module _ (sw ew : List ℕ) where
   plain_l : (t n c d : ℕ) (e : List ℕ) → T (1 ∷ t ∷ n ∷ c ∷ d ∷ zero ∷ e) ≡ reg_test sw ew (1 ∷ t ∷ n ∷ c ∷ d ∷ zero ∷ e)
   plain_l t n c d [] = refl
   plain_l t n c d (g ∷ e) =
-      enable_l t n c d none (g ∷ e)
+      enable_l t n c d None (g ∷ e)
       ∙ ap (λ (b : Bool). b && enable_test sw (g ∷ e)) (and_true (suits sw ew t n && broad sw c 1 && leb d 1))
       ∙ ap (λ (b : Bool). b && ((suits sw ew t n && broad sw c 1 && leb d 1) && enable_test sw (g ∷ e))) (sym (le-leb 7 (suc (suc (suc (suc (suc (suc (suc (length e)))))))) (omega arith)))
 
@@ -66,7 +66,7 @@ module _ (sw ew : List ℕ) where
       let h : Bool = suits sw ew t n && broad sw c 1 && leb d 1 in
       let r : Bool = broad sw s 1 && leb a 1 && suits sw ew t v in
       let k : ℕ = suc (suc (suc (suc (suc (suc (suc (suc (suc (suc (length e)))))))))) in
-      enable_l t n c d (some (record { signal = s; active = a; value = v })) (g ∷ e)
+      enable_l t n c d (Some (record { signal = s; active = a; value = v })) (g ∷ e)
       ∙ and_assoc h r (enable_test sw (g ∷ e))
       ∙ ap (λ (b : Bool). h && (b && (r && enable_test sw (g ∷ e)))) (sym (le-leb 10 k (omega arith)))
       ∙ ap (λ (b : Bool). b && (h && (leb 10 k && (r && enable_test sw (g ∷ e))))) (sym (le-leb 7 k (omega arith)))

@@ -5,7 +5,7 @@ use mathlib.Core.Path.{◌≡◌, refl, sym, ◌∙◌, ap, subst}
 use mathlib.Core.Logic.{◌≢◌}
 use mathlib.Core.Bool.{Bool, true, false, ◌&&◌}
 use mathlib.Core.List.{List, [], ◌∷◌}
-use mathlib.Core.Option.{Option, none, some}
+use Rattle.std.specs.Prelude.{Option, None, Some}
 use native.Mathlib.Omega.{arith}
 use native.Mathlib.Nat.{not-suc-le-zero, zero-add, add-zero}
 use lib.Dec.{eqb, leb}
@@ -21,8 +21,8 @@ use Rattle.simulation.specs.Tick.{values_in, target, given, Firing, loads, becom
 use Rattle.simulation.specs.Sound.{AllFrom, Sound, on, drivers}
 
 abbrev pub store : List Bits → Option ℕ → ℕ → List Bits → List Bits
-store vs none x t = t
-store vs (some e) x t = set t x (get_or vs e [])
+store vs None x t = t
+store vs (Some e) x t = set t x (get_or vs e [])
 
 -- one statement after the other, by a rule
 abbrev pub stores : (Stmt → Option ℕ) → List Bits → List Stmt → List Bits → List Bits
@@ -30,29 +30,29 @@ stores rule vs [] t = t
 stores rule vs (s ∷ ss) t = stores rule vs ss (store vs (rule s) (target s) t)
 
 length_store : (vs : List Bits) (o : Option ℕ) (x : ℕ) (t : List Bits) → length (store vs o x t) ≡ length t
-length_store vs none x t = refl
-length_store vs (some e) x t = length-set t x (get_or vs e [])
+length_store vs None x t = refl
+length_store vs (Some e) x t = length-set t x (get_or vs e [])
 
 pub length_stores : (rule : Stmt → Option ℕ) (vs : List Bits) (ss : List Stmt) (t : List Bits) → length (stores rule vs ss t) ≡ length t
 length_stores rule vs [] t = refl
 length_stores rule vs (s ∷ ss) t = length_stores rule vs ss (store vs (rule s) (target s) t) ∙ length_store vs (rule s) (target s) t
 
 -- no statement on a signal gives it nothing
-given_none : (rule : Stmt → Option ℕ) (ss : List Stmt) (i : ℕ) → count_of (on i) ss ≤ 0 → given rule ss i ≡ none
+given_none : (rule : Stmt → Option ℕ) (ss : List Stmt) (i : ℕ) → count_of (on i) ss ≤ 0 → given rule ss i ≡ None
 given_none rule [] i h = refl
 given_none rule (s ∷ ss) i h = go (eqb (target s) i) (given_none rule ss i) h
   where
-    go : (b : Bool) → (count_of (on i) ss ≤ 0 → given rule ss i ≡ none) → (pick b (suc (count_of (on i) ss)) (count_of (on i) ss)) ≤ 0 → ◌≡◌ {A = Option ℕ} (pick b (or_else (rule s) (given rule ss i)) (given rule ss i)) none
+    go : (b : Bool) → (count_of (on i) ss ≤ 0 → given rule ss i ≡ None) → (pick b (suc (count_of (on i) ss)) (count_of (on i) ss)) ≤ 0 → ◌≡◌ {A = Option ℕ} (pick b (or_else (rule s) (given rule ss i)) (given rule ss i)) None
     go true ih k = absurd (not-suc-le-zero k)
     go false ih k = ih k
 
 store_at : (vs : List Bits) (o : Option ℕ) (x i : ℕ) (t : List Bits) → x ≡ i → i < length t → get_or (store vs o x t) i [] ≡ become vs o (get_or t i [])
-store_at vs none x i t e h = refl
-store_at vs (some k) x i t e h = ap (λ (j : ℕ). get_or (set t j (get_or vs k [])) i []) e ∙ get_or-set_same t i (get_or vs k []) [] h
+store_at vs None x i t e h = refl
+store_at vs (Some k) x i t e h = ap (λ (j : ℕ). get_or (set t j (get_or vs k [])) i []) e ∙ get_or-set_same t i (get_or vs k []) [] h
 
 store_off : (vs : List Bits) (o : Option ℕ) (x i : ℕ) (t : List Bits) → i ≢ x → get_or (store vs o x t) i [] ≡ get_or t i []
-store_off vs none x i t e = refl
-store_off vs (some k) x i t e = get_or-set_other t x i (get_or vs k []) [] e
+store_off vs None x i t e = refl
+store_off vs (Some k) x i t e = get_or-set_other t x i (get_or vs k []) [] e
 
 -- with at most one statement on a signal the order does not matter
 pub stores_at : (rule : Stmt → Option ℕ) (vs : List Bits) (ss : List Stmt) (t : List Bits) (i : ℕ) → i < length t → count_of (on i) ss ≤ 1 → get_or (stores rule vs ss t) i [] ≡ become vs (given rule ss i) (get_or t i [])
@@ -62,13 +62,13 @@ stores_at rule vs (s ∷ ss) t i h c = go (eqb (target s) i) refl (stores_at rul
     t' : List Bits
     t' = store vs (rule s) (target s) t
 
-    alone : (o : Option ℕ) → become vs o (get_or t i []) ≡ become vs (or_else o none) (get_or t i [])
-    alone none = refl
-    alone (some e) = refl
+    alone : (o : Option ℕ) → become vs o (get_or t i []) ≡ become vs (or_else o None) (get_or t i [])
+    alone None = refl
+    alone (Some e) = refl
 
     go : (b : Bool) → eqb (target s) i ≡ b → (count_of (on i) ss ≤ 1 → get_or (stores rule vs ss t') i [] ≡ become vs (given rule ss i) (get_or t' i [])) → (pick b (suc (count_of (on i) ss)) (count_of (on i) ss)) ≤ 1 → get_or (stores rule vs ss t') i [] ≡ become vs (pick b (or_else (rule s) (given rule ss i)) (given rule ss i)) (get_or t i [])
     go true e ih k =
-        let rest : given rule ss i ≡ none = given_none rule ss i (omega arith) in
+        let rest : given rule ss i ≡ None = given_none rule ss i (omega arith) in
         ih (omega arith)
         ∙ ap (λ (o : Option ℕ). become vs o (get_or t' i [])) rest
         ∙ store_at vs (rule s) (target s) i t (eqb-true (target s) i e) h

@@ -3,7 +3,7 @@ use Prim.Native.Nat.{ℕ, zero, suc, ◌+◌, ◌-◌, ◌≤◌, ◌<◌, min}
 use mathlib.Core.Path.{◌≡◌, refl, sym, ◌∙◌, ap}
 use mathlib.Core.Bool.{Bool, true, false}
 use mathlib.Core.List.{List, [], ◌∷◌}
-use mathlib.Core.Option.{Option, none, some}
+use Rattle.std.specs.Prelude.{Option, None, Some}
 use native.Mathlib.Omega.{arith}
 use native.Mathlib.Numerals.{add-one}
 use native.Mathlib.Nat.{not-suc-le-zero}
@@ -100,10 +100,10 @@ pub indexed_read : {ws table : List ℕ} → Indexed ws table → (k : ℕ) → 
 indexed_read s k h q w = let e = s.offset_at k h q in omega arith
 
 pub coded_is : (w : ℕ) (o : Option ℕ) → w ≡ coded o → w < 4294967295 → uncoded w ≡ o
-coded_is zero none e h = refl
-coded_is (suc w) none e h = absurd (omega arith)
-coded_is zero (some x) e h = absurd (omega arith)
-coded_is (suc w) (some x) e h = let z : w ≡ x = omega arith in ap some z
+coded_is zero None e h = refl
+coded_is (suc w) None e h = absurd (omega arith)
+coded_is zero (Some x) e h = absurd (omega arith)
+coded_is (suc w) (Some x) e h = let z : w ≡ x = omega arith in ap Some z
 
 module _ {A : Type 0} (t : List ℕ) (k : ℕ) (said : ℕ → A) (found : A) (w : ℕ) (e : w ≡ get_or t k 4294967295) where
   tabled_said : w < 4294967295 → said w ≡ tabled t k said found
@@ -155,17 +155,17 @@ module _ (l t : List ℕ) (k : ℕ) {w : ℕ} (e : w ≡ get_or t k 4294967295) 
   unfolding offset_by
   offset_found = tabled_found t k (λ (v : ℕ). v) (min (offset (widths_in l) k) 18446744073709551615) w e
 
-  pub driver_none : w ≡ 0 → none ≡ driver_by l t k
+  pub driver_none : w ≡ 0 → None ≡ driver_by l t k
   unfolding driver_by
   driver_none z = ap uncoded (sym z) ∙ tabled_said t k uncoded (given assigns (stmts_in l) k) w e (omega arith)
 
-  pub driver_said : (w ≡ 0 → ⊥) → w < 4294967295 → some (w - 1) ≡ driver_by l t k
+  pub driver_said : (w ≡ 0 → ⊥) → w < 4294967295 → Some (w - 1) ≡ driver_by l t k
   unfolding driver_by
   driver_said d h = one w d ∙ tabled_said t k uncoded (given assigns (stmts_in l) k) w e h
     where
-      one : (v : ℕ) → (v ≡ 0 → ⊥) → some (v - 1) ≡ uncoded v
+      one : (v : ℕ) → (v ≡ 0 → ⊥) → Some (v - 1) ≡ uncoded v
       one zero d = absurd (d refl)
-      one (suc v) d = let z : suc v - 1 ≡ v = omega arith in ap some z
+      one (suc v) d = let z : suc v - 1 ≡ v = omega arith in ap Some z
 
   pub driver_found : 4294967295 ≤ w → given assigns (stmts_in l) k ≡ driver_by l t k
   unfolding driver_by

@@ -9,7 +9,7 @@ use lib.Dec.{eqb, leb}
 use lib.ListN.{length, get_or, set, replicate, length-set}
 use lib.Seq.{get_or-set_same, get_or-set_other, set_out}
 use borrow.Author.Tests.{le-leb, lt-leb, eq-eqb, ne_eqb}
-use mathlib.Core.Option.{Option, some}
+use Rattle.std.specs.Prelude.{Option, Some}
 use Rattle.bits.specs.Bits.{pick}
 use Rattle.recorder.specs.Read.{Cut}
 use Rattle.simulation.specs.Wellformed.{drives, count_of, unsplit, behind}
@@ -90,8 +90,8 @@ tallying_end {rs} {left} {table} w e = record { tally_at = λ i h. let q = w.so_
 -- WHOLE LISTS
 
 module _ (c : Cut) (o : Option ℕ) (n : ℕ) (b : Bool) (s : n ≡ length c.records) (w : b ≡ c.whole) where
-  pub unsplit_not : b ≡ false → some n ≡ unsplit c o
-  unsplit_not f = sym (ap (λ (x : Bool). pick x (behind (length c.records) o) (some (length c.records))) (sym w ∙ f) ∙ ap some (sym s))
+  pub unsplit_not : b ≡ false → Some n ≡ unsplit c o
+  unsplit_not f = sym (ap (λ (x : Bool). pick x (behind (length c.records) o) (Some (length c.records))) (sym w ∙ f) ∙ ap Some (sym s))
 
   pub unsplit_so : {p : Option ℕ} → b ≡ true → p ≡ o → behind n p ≡ unsplit c o
-  unsplit_so {p} f q = sym (ap (λ (x : Bool). pick x (behind (length c.records) o) (some (length c.records))) (sym w ∙ f) ∙ ap (λ (k : ℕ). behind k o) (sym s) ∙ ap (behind n) (sym q))
+  unsplit_so {p} f q = sym (ap (λ (x : Bool). pick x (behind (length c.records) o) (Some (length c.records))) (sym w ∙ f) ∙ ap (λ (k : ℕ). behind k o) (sym s) ∙ ap (behind n) (sym q))

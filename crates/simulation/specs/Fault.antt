@@ -1,6 +1,6 @@
 -- What the code's tests say, from the records' fields; what refuses a call before any loop is looked for.
 use Rattle.std.specs.Prelude.{ℕ, ◌+◌, ◌^◌, ◌<◌, min, ◌≡◌, Bool, true, ◌&&◌, List, [], ◌∷◌, eqb, leb, ltb, length, get_or, take, drop}
-use Rattle.std.proofs.Math.Option.{Option, none, some}
+use Rattle.std.specs.Prelude.{Option, None, Some}
 use Rattle.bits.specs.Bits.{pick}
 use Rattle.recorder.specs.Read.{read_signal, read_expr, read_stmt}
 use Rattle.recorder.specs.Record.{Model}
@@ -13,8 +13,8 @@ use Rattle.simulation.specs.Run.{Call, call_model, total, short, no_bit, wrong_c
 
 -- the first faulty record
 abbrev pub fault_of : Fault → Option ℕ
-fault_of Fine = none
-fault_of (At n) = some n
+fault_of Fine = None
+fault_of (At n) = Some n
 
 -- a record that counts as a statement
 abbrev pub stands : List ℕ → Bool
@@ -137,8 +137,8 @@ call_of l bytes ticks fired work_bits work_exprs work_signals =
 
 -- refusals 12, 1 and 14: all causes but the last, which is a loop
 abbrev pub checked : Model → Call → Option ℕ → Option (ℕ × ℕ)
-checked m c (some n) = some (12, n)
-checked m c none = first_of (take 8 (causes m c))
+checked m c (Some n) = Some (12, n)
+checked m c None = first_of (take 8 (causes m c))
 
 unfoldable pub checked_by : ℕ → Call → Option (ℕ × ℕ)
 checked_by widest c = checked (call_model c) c (malformed widest c.lists)

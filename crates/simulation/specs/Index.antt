@@ -1,12 +1,12 @@
 -- Where signals and expressions stand: their widths, offsets, words and drivers, and the tables that the code keeps of them.
 use Rattle.std.specs.Prelude.{ℕ, zero, suc, ◌+◌, ◌≤◌, ◌<◌, min, ◌≡◌, List, [], ◌∷◌, map, Bool, ◌&&◌, eqb, ltb, length, get_or, set}
-use Rattle.std.proofs.Math.Option.{Option, none, some}
+use Rattle.std.specs.Prelude.{Option, None, Some}
 use Rattle.bits.specs.Bits.{pick}
 use Rattle.recorder.specs.Record.{Stmt}
 use Rattle.recorder.specs.Read.{split, read_stmt, read_all}
 pub use Rattle.recorder.specs.Standing.{size_of, size_at, fields_at}
 use Rattle.simulation.specs.declared.Driver.{Driver}
-use Rattle.simulation.specs.declared.Driver.TheVariants.{None, By}
+use Rattle.simulation.specs.declared.Driver.TheVariants.{None as Undriven, By}
 use Rattle.simulation.specs.Wellformed.{widths}
 use Rattle.simulation.specs.Tick.{given, assigns}
 
@@ -89,17 +89,17 @@ abbrev pub stmts_in : List ℕ → List Stmt
 stmts_in list = read_all read_stmt (records_in list)
 
 abbrev pub driver_of : Driver → Option ℕ
-driver_of None = none
-driver_of (By e) = some e
+driver_of Undriven = None
+driver_of (By e) = Some e
 
 -- none is 0, expression e is e + 1
 abbrev pub coded : Option ℕ → ℕ
-coded none = 0
-coded (some e) = clipped (e + 1)
+coded None = 0
+coded (Some e) = clipped (e + 1)
 
 abbrev pub uncoded : ℕ → Option ℕ
-uncoded zero = none
-uncoded (suc e) = some e
+uncoded zero = None
+uncoded (suc e) = Some e
 
 pub record Driven (list table : List ℕ) : Type 0 where
   pub driver_at : (s : ℕ) → s < length table → get_or table s 0 ≡ coded (given assigns (stmts_in list) s)

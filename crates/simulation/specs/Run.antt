@@ -1,6 +1,6 @@
 -- One call of the run, as a value: the answer, the signal bytes and the three works afterwards.
 use Rattle.std.specs.Prelude.{ℕ, suc, ◌+◌, min, Bool, false, ◌&&◌, List, [], ◌∷◌, ◌++◌, map, eqb, leb, ltb, length, take, drop}
-use Rattle.std.proofs.Math.Option.{Option, none, some}
+use Rattle.std.specs.Prelude.{Option, None, Some}
 use Rattle.bits.specs.Bits.{pick, Bits, digit}
 pub use Rattle.bits.specs.Bits.{flat}
 use Rattle.refusal.specs.Refusal.{number_of, place_of}
@@ -19,17 +19,17 @@ use Rattle.simulation.specs.Tick.{Firing, tick, looped}
 
 -- a refusal's number and place, none for a run that is accepted
 abbrev pub answer_of : Ran → Option (ℕ × ℕ)
-answer_of Done = none
-answer_of (Refused x) = some (number_of x, place_of x)
+answer_of Done = None
+answer_of (Refused x) = Some (number_of x, place_of x)
 
 abbrev pub fired_of : Fired → Option (ℕ × ℕ)
-fired_of Nothing = none
-fired_of (Edge s d) = some (s.0, d)
+fired_of Nothing = None
+fired_of (Edge s d) = Some (s.0, d)
 
 -- nothing fires, or one edge of one signal
 abbrev pub firing : Option (ℕ × ℕ) → Firing
-firing none c d = false
-firing (some f) c d = eqb f.0 c && eqb f.1 d
+firing None c d = false
+firing (Some f) c d = eqb f.0 c && eqb f.1 d
 
 -- what a caller hands over
 pub record Call : Type 0 where
@@ -87,27 +87,27 @@ tick_bits m = total input_width m.signals
 
 -- a buffer shorter than n. No buffer has more than 2^64 - 1 bytes, and no answer can ask for more
 abbrev pub short : ℕ → List ℕ → Option (ℕ × ℕ)
-short n buffer = only (ltb (length buffer) n) (some (1, min n 18446744073709551615))
+short n buffer = only (ltb (length buffer) n) (Some (1, min n 18446744073709551615))
 
 -- the first byte that is no bit, counted from n
 abbrev pub no_bit : ℕ → List ℕ → Option (ℕ × ℕ)
-no_bit n [] = none
-no_bit n (b ∷ bs) = pick (leb b 1) (no_bit (suc n) bs) (some (14, n))
+no_bit n [] = None
+no_bit n (b ∷ bs) = pick (leb b 1) (no_bit (suc n) bs) (Some (14, n))
 
 abbrev pub wrong_count : ℕ → List ℕ → Option (ℕ × ℕ)
-wrong_count n ticks = pick (eqb (length ticks) n) none (some (14, n))
+wrong_count n ticks = pick (eqb (length ticks) n) None (Some (14, n))
 
 abbrev pub wrong_fired : ℕ → Option (ℕ × ℕ) → Option (ℕ × ℕ)
-wrong_fired signals none = none
-wrong_fired signals (some f) = pick (ltb f.0 signals && leb f.1 1) none (some (14, 0))
+wrong_fired signals None = None
+wrong_fired signals (Some f) = pick (ltb f.0 signals && leb f.1 1) None (Some (14, 0))
 
 abbrev pub on_loop : Option ℕ → Option (ℕ × ℕ)
-on_loop none = none
-on_loop (some s) = some (13, s)
+on_loop None = None
+on_loop (Some s) = Some (13, s)
 
 -- the first of some answers
 abbrev pub first_of : List (Option (ℕ × ℕ)) → Option (ℕ × ℕ)
-first_of [] = none
+first_of [] = None
 first_of (o ∷ os) = or_else o (first_of os)
 
 -- the refusals of a well-formed model's call, in their order
@@ -151,13 +151,13 @@ ticked c = map digit (flat (state_after c)) ++ drop (signal_bytes (call_model c)
 -- THE CALL
 
 abbrev pub bytes_after : Call → Option (ℕ × ℕ) → List ℕ
-bytes_after c none = ticked c
-bytes_after c (some r) = c.bytes
+bytes_after c None = ticked c
+bytes_after c (Some r) = c.bytes
 
 -- 12 comes first
 abbrev pub verdict : Model → Call → Option ℕ → Option (ℕ × ℕ)
-verdict m c (some n) = some (12, n)
-verdict m c none = refusal m c
+verdict m c (Some n) = Some (12, n)
+verdict m c None = refusal m c
 
 unfoldable pub answer : ℕ → Call → Option (ℕ × ℕ)
 answer widest c = verdict (call_model c) c (malformed widest c.lists)

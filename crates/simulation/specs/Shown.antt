@@ -1,6 +1,6 @@
 -- A list of calls on one model: what each answers, and what the output signals show after it.
 use Rattle.std.specs.Prelude.{List, [], ◌∷◌, ℕ, eqb, take, drop}
-use Rattle.std.proofs.Math.Option.{Option}
+use Rattle.std.specs.Prelude.{Option}
 use Rattle.bits.specs.Bits.{pick}
 use Rattle.recorder.specs.Record.{Signal}
 use Rattle.recorder.specs.Lists.{Lists}

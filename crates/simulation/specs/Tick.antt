@@ -1,6 +1,6 @@
 -- What a tick does to the signals, and which signals are on a loop.
 use Rattle.std.specs.Prelude.{ℕ, Bool, true, ◌&&◌, List, [], ◌∷◌, ◌++◌, eqb, length, get_or, take, drop}
-use Rattle.std.proofs.Math.Option.{Option, none, some}
+use Rattle.std.specs.Prelude.{Option, None, Some}
 use Rattle.bits.specs.Bits.{pick, Bits, digit, lowest}
 use Rattle.settle.specs.Settle.{iterate}
 use Rattle.settle.specs.Table.{at, tab_from}
@@ -20,24 +20,24 @@ values_in m now = eval_all (at [] now) [] m.exprs
 
 -- the expression that the statements on signal s give it, by a rule for each statement
 abbrev pub given : (Stmt → Option ℕ) → List Stmt → ℕ → Option ℕ
-given rule [] s = none
+given rule [] s = None
 given rule (t ∷ ts) s = pick (eqb (target t) s) (or_else (rule t) (given rule ts s)) (given rule ts s)
 
 abbrev pub assigns : Stmt → Option ℕ
-assigns (assign t e) = some e
-assigns (reg t n c d r e) = none
+assigns (assign t e) = Some e
+assigns (reg t n c d r e) = None
 
 -- signal s has the level that a control asks for
 abbrev pub asserted : Signals → ℕ → ℕ → Bool
 asserted v s active = eqb (digit (lowest (v s))) active
 
 abbrev pub reset_loads : Signals → Option RegReset → Option ℕ
-reset_loads v none = none
-reset_loads v (some r) = only (asserted v r.signal r.active) (some r.value)
+reset_loads v None = None
+reset_loads v (Some r) = only (asserted v r.signal r.active) (Some r.value)
 
 abbrev pub enabled : Signals → Option RegEnable → Bool
-enabled v none = true
-enabled v (some e) = asserted v e.signal e.active
+enabled v None = true
+enabled v (Some e) = asserted v e.signal e.active
 
 -- which edges fire: a test of a clock signal and an edge
 abbrev pub Firing : Type 0
@@ -45,12 +45,12 @@ Firing = ℕ → ℕ → Bool
 
 -- a register loads its reset's value if that is asserted, else the next value if its clock and edge fire and it is enabled
 abbrev pub loads : Firing → Signals → Stmt → Option ℕ
-loads f v (assign t e) = none
-loads f v (reg t n c d r e) = or_else (reset_loads v r) (only (f c d && enabled v e) (some n))
+loads f v (assign t e) = None
+loads f v (reg t n c d r e) = or_else (reset_loads v r) (only (f c d && enabled v e) (Some n))
 
 abbrev pub become : List Bits → Option ℕ → Bits → Bits
-become vs none old = old
-become vs (some e) old = get_or vs e []
+become vs None old = old
+become vs (Some e) old = get_or vs e []
 
 -- all together: a signal to which `choice` gives an expression takes its value, with the signals at `now`; the others take `old`
 abbrev pub set_by : Model → (ℕ → Option ℕ) → List Bits → List Bits → List Bits
@@ -102,8 +102,8 @@ reads_all rs (x ∷ xs) = reads_all (rs ++ (reads_expr rs x ∷ [])) xs
 
 -- an assigned signal depends on those that its expression reads
 abbrev pub reads_by : List (List ℕ) → Option ℕ → List ℕ
-reads_by rs none = []
-reads_by rs (some e) = get_or rs e []
+reads_by rs None = []
+reads_by rs (Some e) = get_or rs e []
 
 abbrev pub depends : Model → ℕ → List ℕ
 depends m = let rs = reads_all [] m.exprs in λ s. reads_by rs (given assigns m.stmts s)

@@ -1,6 +1,6 @@
 -- Refusal 12: the first faulty record, counted through signals, expressions, statements.
 use Rattle.std.specs.Prelude.{ℕ, zero, suc, ◌+◌, ◌^◌, Bool, true, false, ◌&&◌, List, [], ◌∷◌, map, eqb, leb, ltb, length, get_or}
-use Rattle.std.proofs.Math.Option.{Option, none, some}
+use Rattle.std.specs.Prelude.{Option, None, Some}
 use Rattle.bits.specs.Bits.{pick}
 use Rattle.recorder.specs.Record.{Signal, Expr, RegReset, RegEnable, Stmt}
 use Rattle.recorder.specs.Record.{const, read, concat, not, and, or, xor, mux, eq, mul, assign, reg}
@@ -74,12 +74,12 @@ abbrev pub suits : List ℕ → List ℕ → ℕ → ℕ → Bool
 suits sw ew t e = ltb t (length sw) && wide ew (length ew) e (get_or sw t 0)
 
 abbrev pub reset_fits : List ℕ → List ℕ → ℕ → Option RegReset → Bool
-reset_fits sw ew t none = true
-reset_fits sw ew t (some r) = broad sw r.signal 1 && leb r.active 1 && suits sw ew t r.value
+reset_fits sw ew t None = true
+reset_fits sw ew t (Some r) = broad sw r.signal 1 && leb r.active 1 && suits sw ew t r.value
 
 abbrev pub enable_fits : List ℕ → Option RegEnable → Bool
-enable_fits sw none = true
-enable_fits sw (some e) = broad sw e.signal 1 && leb e.active 1
+enable_fits sw None = true
+enable_fits sw (Some e) = broad sw e.signal 1 && leb e.active 1
 
 abbrev pub stmt_fits : List ℕ → List ℕ → Stmt → Bool
 stmt_fits sw ew (assign t e) = suits sw ew t e
@@ -87,21 +87,21 @@ stmt_fits sw ew (reg t n c d r e) = suits sw ew t n && broad sw c 1 && leb d 1 &
 
 -- a record that cannot be read is a fault
 abbrev pub fits : {A : Type 0} → (A → Bool) → Option A → Bool
-fits p none = false
-fits p (some a) = p a
+fits p None = false
+fits p (Some a) = p a
 
 -- the first record, counted from n, that fails a test of its number and its fields
 abbrev pub first_failing : (ℕ → List ℕ → Bool) → ℕ → List (List ℕ) → Option ℕ
-first_failing p n [] = none
-first_failing p n (r ∷ rs) = pick (p n r) (first_failing p (suc n) rs) (some n)
+first_failing p n [] = None
+first_failing p n (r ∷ rs) = pick (p n r) (first_failing p (suc n) rs) (Some n)
 
 abbrev pub or_else : {A : Type 0} → Option A → Option A → Option A
-or_else (some a) o = some a
-or_else none o = o
+or_else (Some a) o = Some a
+or_else None o = o
 
 abbrev pub behind : ℕ → Option ℕ → Option ℕ
-behind k none = none
-behind k (some n) = some (k + n)
+behind k None = None
+behind k (Some n) = Some (k + n)
 
 abbrev pub signal_fault : ℕ → Raw → Option ℕ
 signal_fault widest c = first_failing (λ n r. fits (signal_fits widest (count_of (drives n) c.stmts)) (read_signal r)) 0 c.signals
@@ -118,10 +118,10 @@ first_fault widest c =
 
 -- the first record of three lists that does not stand whole
 abbrev pub unsplit : Cut → Option ℕ → Option ℕ
-unsplit c o = pick c.whole (behind (length c.records) o) (some (length c.records))
+unsplit c o = pick c.whole (behind (length c.records) o) (Some (length c.records))
 
 abbrev pub unsplit_all : Lists → Option ℕ
-unsplit_all l = unsplit (split l.signals) (unsplit (split l.exprs) (unsplit (split l.stmts) none))
+unsplit_all l = unsplit (split l.signals) (unsplit (split l.exprs) (unsplit (split l.stmts) None))
 
 -- three lists of words: that they split is checked first
 unfoldable pub malformed : ℕ → Lists → Option ℕ

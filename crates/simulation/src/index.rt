@@ -57,7 +57,6 @@ pub fn field(list: &[u32], at: usize, size: usize, j: usize) -> u32
     list[at + 1 + j]
 }
 
-#[derive(Drop)]
 #[derive(Clone, Copy)]
 pub struct Counted {
     pub count: usize,

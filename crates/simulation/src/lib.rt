@@ -9,7 +9,6 @@ use recorder::SignalId;
 use refusal::Refusal;
 
 // What fires in a tick: nothing, or an edge (0 rises, 1 falls) of a signal.
-#[derive(Drop)]
 #[derive(Clone, Copy)]
 pub enum Fired {
     Nothing,
@@ -17,7 +16,6 @@ pub enum Fired {
 }
 
 // How a run ends.
-#[derive(Drop)]
 #[derive(Clone, Copy)]
 pub enum Ran {
     Done,
@@ -25,7 +23,6 @@ pub enum Ran {
 }
 
 // A model's first faulty record, counted through its three lists.
-#[derive(Drop)]
 #[derive(Clone, Copy)]
 pub enum Fault {
     Fine,
@@ -33,7 +30,6 @@ pub enum Fault {
 }
 
 // What is assigned to a signal: nothing, or an expression.
-#[derive(Drop)]
 #[derive(Clone, Copy)]
 pub enum Driver {
     None,

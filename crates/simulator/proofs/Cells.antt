@@ -2,7 +2,7 @@
 use mathlib.Core.Path.{◌≡◌, refl, sym, ◌∙◌, ap, subst}
 use mathlib.Core.Bool.{Bool, true, false}
 use mathlib.Core.List.{List, map}
-use mathlib.Core.Option.{Option, none, some}
+use Rattle.std.specs.Prelude.{Option, None, Some}
 use Prim.Native.Nat.{ℕ, ◌≤◌}
 use native.Mathlib.Omega.{arith}
 use lib.ListN.{length, length-replicate}
@@ -30,6 +30,7 @@ use Rattle.converter.specs.Entry.{any_short}
 use Rattle.runner.specs.Calls.{ListCall, entries, list_model, list_causes, list_verdict, list_answer, answers_of, outputs_of, filled, list_outcome, run_list}
 use Rattle.simulator.specs.Entry.{Simulation, Simulated, ShowsCells, entries_of, ticks_on, ran, simulate_call}
 use Rattle.simulator.specs.Entry.{lowered as lowered_to}
+use Rattle.bits.proofs.Options.{some_ne_none}
 
 abbrev pub IsAccepted : Lowered → Type 0
 IsAccepted (Accepted t) = Unit {0}
@@ -39,13 +40,13 @@ pub room : Roomy base largest
 room = record { ports = omega arith; banks = omega arith; products = omega arith }
 
 -- a list is accepted only if the signal bytes are long enough
-bytes_long : (c : ListCall) → list_answer largest c ≡ none → signal_bytes (list_model c) ≤ length c.bytes
+bytes_long : (c : ListCall) → list_answer largest c ≡ None → signal_bytes (list_model c) ≤ length c.bytes
 unfolding list_answer
 bytes_long c = go (malformed largest c.lists)
   where
-    go : (o : Option ℕ) → list_verdict (list_model c) c o ≡ none → signal_bytes (list_model c) ≤ length c.bytes
-    go (some n) h = absurd (mathlib.Core.Option.some-ne-none (12, n) h)
-    go none h = short_none (signal_bytes (list_model c)) c.bytes (all_none (list_causes (list_model c) c) h).0
+    go : (o : Option ℕ) → list_verdict (list_model c) c o ≡ None → signal_bytes (list_model c) ≤ length c.bytes
+    go (Some n) h = absurd (some_ne_none (12, n) h)
+    go None h = short_none (signal_bytes (list_model c)) c.bytes (all_none (list_causes (list_model c) c) h).0
 
 module _ (x : Simulation) (n : Netlist) (q : read_words base x.words ≡ netlist n) (loopless : NoWireLoop n) where
   abbrev s : ℕ
@@ -58,7 +59,7 @@ module _ (x : Simulation) (n : Netlist) (q : read_words base x.words ≡ netlist
   m = length x.lists.stmts
 
   -- lowered, and the list accepted
-  shows : (t : Tapes) (l : Lists) → lower_words base x.words s e m ≡ record { answer = Accepted t; lists = l } → list_answer largest (ticks_on x l t) ≡ none
+  shows : (t : Tapes) (l : Lists) → lower_words base x.words s e m ≡ record { answer = Accepted t; lists = l } → list_answer largest (ticks_on x l t) ≡ None
       → ShowsCells base.wires n x (run_list largest (ticks_on x l t)).answers (run_list largest (ticks_on x l t)).shown
   unfolding run_list
   shows t l h a = record {
@@ -93,8 +94,8 @@ module _ (x : Simulation) (n : Netlist) (q : read_words base x.words ≡ netlist
   by_answer t l h = go (list_answer largest (ticks_on x l t)) refl
     where
       go : (o : Option (ℕ × ℕ)) → list_answer largest (ticks_on x l t) ≡ o → Shown (ran x l t (list_outcome largest (ticks_on x l t) o).answer (list_outcome largest (ticks_on x l t) o))
-      go (some r) a y = absurd y
-      go none a y = subst (λ (o : Option (ℕ × ℕ)). ShowsCells base.wires n x (list_outcome largest (ticks_on x l t) o).answers (list_outcome largest (ticks_on x l t) o).shown) a (shows t l h a)
+      go (Some r) a y = absurd y
+      go None a y = subst (λ (o : Option (ℕ × ℕ)). ShowsCells base.wires n x (list_outcome largest (ticks_on x l t) o).answers (list_outcome largest (ticks_on x l t) o).shown) a (shows t l h a)
 
   by_lowering : (r : Lowering) → lower_words base x.words s e m ≡ r → Shown (lowered_to x r.lists r.answer)
   by_lowering r h = go r.answer r.lists h

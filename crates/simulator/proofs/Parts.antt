@@ -2,7 +2,7 @@
 use mathlib.Core.Path.{◌≡◌, refl, sym, ◌∙◌, ap, subst}
 use mathlib.Core.Bool.{Bool, true, false}
 use mathlib.Core.List.{List, map}
-use mathlib.Core.Option.{Option, none, some}
+use Rattle.std.specs.Prelude.{Option, None, Some}
 use Prim.Native.Nat.{ℕ}
 use native.Mathlib.Omega.{arith}
 use lib.ListN.{length}
@@ -32,8 +32,8 @@ Blanks s e m r = (number place : ℕ) → r.answer ≡ Refused number place → 
 
 module _ (s e m : ℕ) where
   ended_blank : (a : Answer (Unit {0})) (o : Option ℕ) (l : Lists) → Blanks s e m (ended a o l (blank s e m))
-  ended_blank (Done a t) none l number place h = absurd (let z : ◌≡◌ {A = ℕ} 0 1 = cc in omega arith)
-  ended_blank (Done a t) (some k) l number place h = refl
+  ended_blank (Done a t) None l number place h = absurd (let z : ◌≡◌ {A = ℕ} 0 1 = cc in omega arith)
+  ended_blank (Done a t) (Some k) l number place h = refl
   ended_blank (Failed n p) o l number place h = refl
 
   lowered_blank : (shared : ℕ) (n : Netlist) → Blanks s e m (lowered shared n s e m)
@@ -62,8 +62,8 @@ module _ (x : Simulation) (l : Lists) (lengths : blank_of l ≡ blank_of x.lists
   ticks_follow t = go (list_answer largest (ticks_on x l t))
     where
       go : (o : Option (ℕ × ℕ)) → ends k t (list_outcome largest (ticks_on x l t) o) ≡ ran_to x l t (list_outcome largest (ticks_on x l t) o).answer (list_outcome largest (ticks_on x l t) o)
-      go none = refl
-      go (some r) = ap (λ (y : Lists). record { answer = Refused r.0 r.1; lists = y; answers = zeroed x.answers; shown = zeroed x.shown }) lengths
+      go None = refl
+      go (Some r) = ap (λ (y : Lists). record { answer = Refused r.0 r.1; lists = y; answers = zeroed x.answers; shown = zeroed x.shown }) lengths
 
   all_follow : (a : Lowered) → ((number place : ℕ) → a ≡ Refused number place → l ≡ blank_of x.lists) → follows k a ≡ lowered_to x l a
   all_follow (Accepted t) h = ticks_follow t

@@ -2,7 +2,7 @@
 use mathlib.Core.Path.{◌≡◌, sym, ◌∙◌, ap, subst}
 use mathlib.Core.Bool.{Bool, true, false}
 use mathlib.Core.List.{List, map}
-use mathlib.Core.Option.{Option, none, some}
+use Rattle.std.specs.Prelude.{Option, None, Some}
 use Prim.Native.Nat.{ℕ}
 use native.Mathlib.Omega.{arith}
 use lib.Dec.{ltb}
@@ -30,8 +30,8 @@ use Rattle.simulator.proofs.Cells.{room}
 
 -- 1, if anything
 data One : Option (ℕ × ℕ) → Type 0 where
-  nothing : One none
-  one : (place : ℕ) → One (some (1, place))
+  nothing : One None
+  one : (place : ℕ) → One (Some (1, place))
 
 one_then : {a b : Option (ℕ × ℕ)} → One a → One b → One (or_else a b)
 one_then nothing q = q
@@ -40,7 +40,7 @@ one_then (one place) q = one place
 short_one : (n : ℕ) (buffer : List ℕ) → One (short n buffer)
 short_one n buffer = go (ltb (length buffer) n)
   where
-    go : (b : Bool) → One (only b (some (1, Prim.Native.Nat.min n 18446744073709551615)))
+    go : (b : Bool) → One (only b (Some (1, Prim.Native.Nat.min n 18446744073709551615)))
     go true = one _
     go false = nothing
 
@@ -80,8 +80,8 @@ module _ (x : Simulation) (n : Netlist) (q : read_words base x.words ≡ netlist
     ran_one = go (list_answer largest (ticks_on x l t)) list_one
       where
         go : (o : Option (ℕ × ℕ)) → One o → (number place : ℕ) → (ran x l t (list_outcome largest (ticks_on x l t) o).answer (list_outcome largest (ticks_on x l t) o)).answer ≡ Refused number place → number ≡ 1
-        go none nothing number place h = absurd (let z : ◌≡◌ {A = ℕ} 0 1 = cc in omega arith)
-        go (some r) (one p) number place h = cc
+        go None nothing number place h = absurd (let z : ◌≡◌ {A = ℕ} 0 1 = cc in omega arith)
+        go (Some r) (one p) number place h = cc
 
   pub refused_short : (t : Tapes) (l : Lists) → call_of base x.words x.lists x.works ≡ record { answer = Accepted t; lists = l } → (number place : ℕ) → (simulate_call base x).answer ≡ Refused number place → number ≡ 1
   unfolding simulate_call

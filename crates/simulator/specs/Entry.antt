@@ -1,6 +1,6 @@
 -- The call of `simulate` as a value, and what it says of the netlist's own cells.
 use Rattle.std.specs.Prelude.{◌≡◌, List, map, ℕ, ◌≤◌, length, take}
-use Rattle.std.proofs.Math.Option.{Option, none, some}
+use Rattle.std.specs.Prelude.{Option, None, Some}
 use Rattle.netlist.specs.declared.Limits.{Limits}
 use Rattle.netlist.specs.Netlist.{Netlist}
 use Rattle.netlist.specs.Reader.{netlist, read_words}
@@ -63,8 +63,8 @@ ticks_on x l t = record {
 }
 
 abbrev pub ran : Simulation → Lists → Tapes → Option (ℕ × ℕ) → ListOutcome → Simulated
-ran x l t (some r) o = refused_by x r.0 r.1
-ran x l t none o = record { answer = Accepted t; lists = l; answers = o.answers; shown = o.shown }
+ran x l t (Some r) o = refused_by x r.0 r.1
+ran x l t None o = record { answer = Accepted t; lists = l; answers = o.answers; shown = o.shown }
 
 abbrev pub lowered : Simulation → Lists → Lowered → Simulated
 lowered x l (Refused number place) = refused_by x number place
@@ -116,8 +116,8 @@ on_used k t = list_call (used_lists k.lists t) k.heads k.bits k.bytes k.work_bit
 
 -- how the ticks' answer ends the whole
 abbrev pub concluded : Lists → Tapes → Option (ℕ × ℕ) → Lowering
-concluded l t none = record { answer = Accepted t; lists = l }
-concluded l t (some r) = record { answer = Refused r.0 r.1; lists = blank_of l }
+concluded l t None = record { answer = Accepted t; lists = l }
+concluded l t (Some r) = record { answer = Refused r.0 r.1; lists = blank_of l }
 
 pub record Concludes (l : Lists) (t : Tapes) (a : Ran) (r : c.Lowered) (l' : Lists) : Type 0 where
   pub value : record { answer = answer_of r; lists = l' } ≡ concluded l t (s.answer_of a)

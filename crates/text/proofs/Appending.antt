@@ -3,7 +3,7 @@
 use mathlib.Core.Path.{◌≡◌, refl, ap, ap₂, sym, ◌∙◌, subst}
 use mathlib.Core.Bool.{Bool, true, false, cond}
 use mathlib.Core.List.{List, [], ◌∷◌, ◌++◌}
-use mathlib.Core.Option.{none, some}
+use Rattle.std.specs.Prelude.{None, Some}
 use Prim.Native.Nat.{ℕ, suc, ◌+◌, ◌≤◌, ◌<◌}
 use native.Mathlib.Nat.{add-zero, add-suc, suc-add}
 use native.Mathlib.Numerals.{add-one}
@@ -16,31 +16,31 @@ use Rattle.text.specs.declared.Place.{Place}
 use Rattle.text.specs.declared.Place.TheVariants.{At, Full}
 use Rattle.text.specs.Text.{end_of, end_in, text_in, Appended, Flushed}
 
-pub end_at : (len at n : ℕ) → at + n ≤ len → some (at + n) ≡ end_in len at n
+pub end_at : (len at n : ℕ) → at + n ≤ len → Some (at + n) ≡ end_in len at n
 unfolding end_in
-end_at len at n h = sym (ap (λ (b : Bool). cond b (some (at + n)) none) (le-leb (at + n) len h))
+end_at len at n h = sym (ap (λ (b : Bool). cond b (Some (at + n)) None) (le-leb (at + n) len h))
 
-pub end_none : (len at n : ℕ) → len < at + n → none ≡ end_in len at n
+pub end_none : (len at n : ℕ) → len < at + n → None ≡ end_in len at n
 unfolding end_in
-end_none len at n h = sym (ap (λ (b : Bool). cond b (some (at + n)) none) (lt-leb (at + n) len h))
+end_none len at n h = sym (ap (λ (b : Bool). cond b (Some (at + n)) None) (lt-leb (at + n) len h))
 
 end_same : (len a m b n : ℕ) → a + m ≡ b + n → end_in len a m ≡ end_in len b n
 unfolding end_in
-end_same len a m b n e = ap (λ (k : ℕ). cond (leb k len) (some k) none) e
+end_same len a m b n e = ap (λ (k : ℕ). cond (leb k len) (Some k) None) e
 
-pub at_end : (len at n : ℕ) {m : ℕ} → some m ≡ end_in len at n → (m ≡ at + n) × (at + n ≤ len)
+pub at_end : (len at n : ℕ) {m : ℕ} → Some m ≡ end_in len at n → (m ≡ at + n) × (at + n ≤ len)
 unfolding end_in
 at_end len at n {m} q = go (leb (at + n) len) refl q
   where
-    go : (b : Bool) → leb (at + n) len ≡ b → some m ≡ cond b (some (at + n)) none → (m ≡ at + n) × (at + n ≤ len)
+    go : (b : Bool) → leb (at + n) len ≡ b → Some m ≡ cond b (Some (at + n)) None → (m ≡ at + n) × (at + n ≤ len)
     go true e q = (cc, leb-true (at + n) len e)
     go false e q = let z : ◌≡◌ {A = ℕ} 0 1 = cc in absurd (omega arith)
 
-pub at_none : (len at n : ℕ) → none ≡ end_in len at n → len < at + n
+pub at_none : (len at n : ℕ) → None ≡ end_in len at n → len < at + n
 unfolding end_in
 at_none len at n q = go (leb (at + n) len) refl q
   where
-    go : (b : Bool) → leb (at + n) len ≡ b → none ≡ cond b (some (at + n)) none → len < at + n
+    go : (b : Bool) → leb (at + n) len ≡ b → None ≡ cond b (Some (at + n)) None → len < at + n
     go true e q = let z : ◌≡◌ {A = ℕ} 0 1 = cc in absurd (omega arith)
     go false e q = leb-false (at + n) len e
 
@@ -66,7 +66,7 @@ pub appended_none : {out : List ℕ} {at : ℕ} → at ≤ length out → Append
 unfolding text_in
 appended_none {out} {at} h =
     let z : at ≡ at + 0 = omega arith in
-    record { said = ap some z ∙ end_at (length out) at 0 (omega arith); held = refl }
+    record { said = ap Some z ∙ end_at (length out) at 0 (omega arith); held = refl }
 
 module _ {out : List ℕ} {at : ℕ} {bs : List ℕ} {r : Place} {out₁ : List ℕ} (first : Appended out at bs r out₁) where
   -- all of the first fitted: the second goes behind it

@@ -10,7 +10,6 @@ ghost use Rattle.text.specs.Decimal.{decimal};
 use std::io::Write;
 
 // The place behind what was put, or that not all of it fitted.
-#[derive(Drop)]
 #[derive(Clone, Copy)]
 pub enum Place {
     At(usize),

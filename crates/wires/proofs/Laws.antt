@@ -2,7 +2,7 @@
 use mathlib.Core.Path.{◌≡◌, refl, ap, ap₂, sym, ◌∙◌, subst}
 use mathlib.Core.Bool.{Bool, true, false, ◌&&◌}
 use mathlib.Core.List.{List, [], ◌∷◌, ◌++◌}
-use mathlib.Core.Option.{Option, none, some}
+use Rattle.std.specs.Prelude.{Option, None, Some}
 use Prim.Native.Nat.{ℕ, suc, ◌+◌, ◌-◌, ◌/◌, ◌%◌, ◌≤◌, ◌<◌}
 use native.Mathlib.Omega.{arith}
 use lib.Dec.{eqb}
@@ -25,11 +25,11 @@ use Rattle.wires.specs.Expressions.{bit_once, vector_once, ref_of, wire_ref, rea
 
 -- THE TABLES
 
-pub wire_missing : (ss ps : List ℕ) (w : ℕ) {s : ℕ} → s ≡ get_or ss w 0 → s ≡ 0 → none ≡ wires_of ss ps w
+pub wire_missing : (ss ps : List ℕ) (w : ℕ) {s : ℕ} → s ≡ get_or ss w 0 → s ≡ 0 → None ≡ wires_of ss ps w
 unfolding wires_of
 wire_missing ss ps w e z = sym (ap (λ (k : ℕ). entry k (get_or ps w 0)) (sym e ∙ z))
 
-pub wire_held : (ss ps : List ℕ) (w : ℕ) {s p : ℕ} → s ≡ get_or ss w 0 → p ≡ get_or ps w 0 → (s ≡ 0 → ⊥) → some (record { signal = s - 1; lsb = p / 65536; width = p % 65536 }) ≡ wires_of ss ps w
+pub wire_held : (ss ps : List ℕ) (w : ℕ) {s p : ℕ} → s ≡ get_or ss w 0 → p ≡ get_or ps w 0 → (s ≡ 0 → ⊥) → Some (record { signal = s - 1; lsb = p / 65536; width = p % 65536 }) ≡ wires_of ss ps w
 unfolding wires_of
 wire_held ss ps w {s} {p} e f h =
     let i : s ≡ suc (s - 1) = omega (arith, h) in
@@ -38,49 +38,49 @@ wire_held ss ps w {s} {p} e f h =
 -- A WIRE
 
 module _ (m : Wires) where
-  pub ref_held : {w : ℕ} {r : WireRef} → m w ≡ some r → wire_ref m w ≡ pure r
+  pub ref_held : {w : ℕ} {r : WireRef} → m w ≡ Some r → wire_ref m w ≡ pure r
   unfolding wire_ref
   ref_held {w} h = ap (λ (o : Option WireRef). ref_of o w) h
 
-  pub ref_missing : {w : ℕ} → m w ≡ none → wire_ref m w ≡ refuse 8 w
+  pub ref_missing : {w : ℕ} → m w ≡ None → wire_ref m w ≡ refuse 8 w
   unfolding wire_ref
   ref_missing {w} h = ap (λ (o : Option WireRef). ref_of o w) h
 
-  pub bit_held : {w : ℕ} {r : WireRef} → m w ≡ some r → bit_expression m (Wire w) ≡ read_ref r
+  pub bit_held : {w : ℕ} {r : WireRef} → m w ≡ Some r → bit_expression m (Wire w) ≡ read_ref r
   unfolding bit_expression
   bit_held {w} {r} h = ap (λ (x : Writer WireRef). x >>= read_ref) (ref_held h) ∙ bind_pure r read_ref
 
-  pub bit_missing : {w : ℕ} → m w ≡ none → bit_expression m (Wire w) ≡ refuse 8 w
+  pub bit_missing : {w : ℕ} → m w ≡ None → bit_expression m (Wire w) ≡ refuse 8 w
   unfolding bit_expression
   bit_missing {w} h = ap (λ (x : Writer WireRef). x >>= read_ref) (ref_missing h) ∙ bind_refuse 8 w read_ref
 
-  pub assign_held : {w : ℕ} (e : ℕ) {r : WireRef} → m w ≡ some r → assign_wire m w e ≡ state (assign r.signal e)
+  pub assign_held : {w : ℕ} (e : ℕ) {r : WireRef} → m w ≡ Some r → assign_wire m w e ≡ state (assign r.signal e)
   unfolding assign_wire
   assign_held {w} e {r} h = ap (λ (x : Writer WireRef). x >>= λ q. state (assign q.signal e)) (ref_held h) ∙ bind_pure r (λ q. state (assign q.signal e))
 
-  pub assign_missing : {w : ℕ} (e : ℕ) → m w ≡ none → assign_wire m w e ≡ refuse 8 w
+  pub assign_missing : {w : ℕ} (e : ℕ) → m w ≡ None → assign_wire m w e ≡ refuse 8 w
   unfolding assign_wire
   assign_missing {w} e h = ap (λ (x : Writer WireRef). x >>= λ q. state (assign q.signal e)) (ref_missing h) ∙ bind_refuse 8 w (λ q. state (assign q.signal e))
 
   abbrev judged : ℕ → WireRef → Writer ℕ
   judged w r = pick (whole r) (pure r.signal) (refuse 9 w)
 
-  signal_held : (z : Constants) {w : ℕ} {r : WireRef} → m w ≡ some r → bit_signal m z (Wire w) ≡ judged w r
+  signal_held : (z : Constants) {w : ℕ} {r : WireRef} → m w ≡ Some r → bit_signal m z (Wire w) ≡ judged w r
   unfolding bit_signal
   signal_held z {w} {r} h = ap (λ (x : Writer WireRef). x >>= judged w) (ref_held h) ∙ bind_pure r (judged w)
 
-  signal_missing : (z : Constants) {w : ℕ} → m w ≡ none → bit_signal m z (Wire w) ≡ refuse 8 w
+  signal_missing : (z : Constants) {w : ℕ} → m w ≡ None → bit_signal m z (Wire w) ≡ refuse 8 w
   unfolding bit_signal
   signal_missing z {w} h = ap (λ (x : Writer WireRef). x >>= judged w) (ref_missing h) ∙ bind_refuse 8 w (judged w)
 
-  pub reads_held : (z : Constants) {w : ℕ} {r : WireRef} {q : Controlled} → m w ≡ some r → controlled q ≡ pick (whole r) (ok r.signal) (no 9 w) → Reads (bit_signal m z (Wire w)) q
+  pub reads_held : (z : Constants) {w : ℕ} {r : WireRef} {q : Controlled} → m w ≡ Some r → controlled q ≡ pick (whole r) (ok r.signal) (no 9 w) → Reads (bit_signal m z (Wire w)) q
   reads_held z {w} {r} {q} h e = record { reads = λ n. ap (λ (x : Writer ℕ). x n) (signal_held z h) ∙ go n (whole r) ∙ ap (λ (x : End ℕ). record { events = []; end = x }) (sym e) }
     where
       go : (n : Count) (b : Bool) → pick b (pure r.signal) (refuse 9 w) n ≡ record { events = []; end = pick b (ok r.signal) (no 9 w) }
       go n true = refl
       go n false = refl
 
-  pub reads_missing : (z : Constants) {w : ℕ} {q : Controlled} → m w ≡ none → controlled q ≡ no 8 w → Reads (bit_signal m z (Wire w)) q
+  pub reads_missing : (z : Constants) {w : ℕ} {q : Controlled} → m w ≡ None → controlled q ≡ no 8 w → Reads (bit_signal m z (Wire w)) q
   reads_missing z h e = record { reads = λ n. ap (λ (x : Writer ℕ). x n) (signal_missing z h) ∙ ap (λ (x : End ℕ). record { events = []; end = x }) (sym e) }
 
 -- whether it is a whole signal of one bit

@@ -3,7 +3,7 @@ use mathlib.Core.Path.{◌≡◌, refl, ap, sym, ◌∙◌, subst}
 use Rattle.std.specs.Prelude.{Bool, true, false, List, [], ◌∷◌, ◌⊎◌, ◌+◌, ◌-◌, ◌≤◌, ◌<◌, ℕ, zero, suc, leb, length, get_or}
 use Rattle.std.proofs.Common.{arith, inl, inr, replicate}
 use Rattle.std.proofs.Math.ListN.{set}
-use Rattle.std.proofs.Math.Option.{Option, none, some}
+use Rattle.std.specs.Prelude.{Option, None, Some}
 use borrow.Author.Tests.{le-leb, lt-leb}
 use Rattle.bits.specs.Bits.{pick}
 use Rattle.recorder.specs.declared.Tapes.{Tapes}
@@ -36,13 +36,13 @@ seen_noted first (y ∷ ys) zero e x h q =
     rw (b, k)
 seen_noted first (y ∷ ys) (suc w) e x h q = ap (λ (s : Seen). seen_by first y ∷ s) (seen_noted first ys w e x h q)
 
-pub seen_known : (first : ℕ) (table : List ℕ) (w : ℕ) → first < get_or table w 0 → standing (seen_of first table) w ≡ some (get_or table w 0 - 1)
+pub seen_known : (first : ℕ) (table : List ℕ) (w : ℕ) → first < get_or table w 0 → standing (seen_of first table) w ≡ Some (get_or table w 0 - 1)
 unfolding seen_by
 seen_known first table w h =
     let b : leb (get_or table w 0) first ≡ false = lt-leb (get_or table w 0) first h in
     seen_at first table w ∙ (rw b)
 
-pub seen_unknown : (first : ℕ) (table : List ℕ) (w : ℕ) → get_or table w 0 ≤ first → standing (seen_of first table) w ≡ none
+pub seen_unknown : (first : ℕ) (table : List ℕ) (w : ℕ) → get_or table w 0 ≤ first → standing (seen_of first table) w ≡ None
 unfolding seen_by
 seen_unknown first table w h =
     let b : leb (get_or table w 0) first ≡ true = le-leb (get_or table w 0) first h in
@@ -193,7 +193,7 @@ module _ {A : Type 0} {l₀ : Lists} {t₀ : Tapes} {first : ℕ} {table₀ : Li
 module _ (m : Wires) (f : ℕ) (table : List ℕ) (w : ℕ) {x : ℕ} (is : x ≡ get_or table w 0) where
   pub wire_known : f < x → bit_once m (seen_of f table) (Wire w) ≡ pure (with_seen (x - 1) (seen_of f table))
   unfolding bit_once
-  wire_known h = ap (λ (o : Option ℕ). read_once o m (seen_of f table) w) (seen_known f table w (subst (λ (k : ℕ). f < k) is h) ∙ ap (λ (k : ℕ). some (k - 1)) (sym is))
+  wire_known h = ap (λ (o : Option ℕ). read_once o m (seen_of f table) w) (seen_known f table w (subst (λ (k : ℕ). f < k) is h) ∙ ap (λ (k : ℕ). Some (k - 1)) (sym is))
 
   pub wire_new : x ≤ f → bit_once m (seen_of f table) (Wire w) ≡ (bit_expression m (Wire w) >>= λ e. pure (with_seen e (noted (seen_of f table) w e)))
   unfolding bit_once
@@ -205,8 +205,8 @@ unfolding bit_expression wire_ref ◌>>=◌
 read_next m w n {e} h = go (m w) h
   where
     go : (o : Option WireRef) → ((ref_of o w >>= read_ref) n).end ≡ ok e → (e ≡ n.exprs) × (length (exprs_of ((ref_of o w >>= read_ref) n).events) ≡ 1)
-    go none h = let x : End ℕ = no 8 w in let z : x ≡ ok e = h in cc
-    go (some r) h = let z : ok (n.exprs + 0) ≡ ok e = h in (let k : n.exprs + 0 ≡ e = cc in omega arith, refl)
+    go None h = let x : End ℕ = no 8 w in let z : x ≡ ok e = h in cc
+    go (Some r) h = let z : ok (n.exprs + 0) ≡ ok e = h in (let k : n.exprs + 0 ≡ e = cc in omega arith, refl)
 
 noted_ages : (f c w : ℕ) (table : List ℕ) → f < c → Aged f c table (set table w c)
 noted_ages f c w table h v = go table w v

@@ -1,6 +1,6 @@
 -- Reading wires: a definition for each function of lib.rs that reads through the wire map.
 use Rattle.std.specs.Prelude.{Bool, ◌&&◌, List, [], ◌∷◌, ◌++◌, ◌≡◌, ℕ, zero, suc, ◌+◌, eqb, leb, length, get_or}
-use Rattle.std.proofs.Math.Option.{Option, none, some}
+use Rattle.std.specs.Prelude.{Option, None, Some}
 use Rattle.bits.specs.Bits.{pick}
 use Rattle.refusal.specs.Refusal.{number_of, place_of}
 use Rattle.netlist.specs.declared.Bit.{Bit}
@@ -15,8 +15,8 @@ use Rattle.wires.specs.Wires.{WireRef, Wires}
 use Rattle.wires.specs.Seen.{Seen, standing, noted, Reading, with_seen, keeping, forgetting}
 
 abbrev pub ref_of : Option WireRef → ℕ → Writer WireRef
-ref_of none w = refuse 8 w
-ref_of (some r) w = pure r
+ref_of None w = refuse 8 w
+ref_of (Some r) w = pure r
 
 unfoldable pub wire_ref : Wires → ℕ → Writer WireRef
 wire_ref m w = ref_of (m w) w
@@ -56,8 +56,8 @@ asserted_expression m c = do
 
 -- the read that stands; or a new one, which stands from then on
 abbrev pub read_once : Option ℕ → Wires → Seen → ℕ → Writer (Reading ℕ)
-read_once (some e) m seen w = pure (with_seen e seen)
-read_once none m seen w = bit_expression m (Wire w) >>= λ e. pure (with_seen e (noted seen w e))
+read_once (Some e) m seen w = pure (with_seen e seen)
+read_once None m seen w = bit_expression m (Wire w) >>= λ e. pure (with_seen e (noted seen w e))
 
 unfoldable pub bit_once : Wires → Seen → Bit → Writer (Reading ℕ)
 bit_once m seen Zero = pure (with_seen 0 seen)

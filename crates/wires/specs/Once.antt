@@ -1,6 +1,6 @@
 -- What a cell has read, in a table by wire; and what a call that may read writes and leaves there.
 use Rattle.std.specs.Prelude.{List, [], ◌∷◌, ◌≡◌, ◌⊎◌, ◌<◌, ◌≤◌, ◌-◌, ℕ, leb, min, get_or}
-use Rattle.std.proofs.Math.Option.{Option, none, some}
+use Rattle.std.specs.Prelude.{Option, None, Some}
 use Rattle.bits.specs.Bits.{pick}
 use Rattle.recorder.specs.declared.Tapes.{Tapes}
 use Rattle.recorder.specs.Writer.{Writer}
@@ -10,7 +10,7 @@ use Rattle.wires.specs.Seen.{Seen, Reading, with_seen}
 
 -- a word of the table is an expression's number plus 1, or 0; of this cell are those above the number of its first expression
 unfoldable pub seen_by : ℕ → ℕ → Option ℕ
-seen_by first x = pick (leb x first) none (some (x - 1))
+seen_by first x = pick (leb x first) None (Some (x - 1))
 
 unfoldable pub seen_of : ℕ → List ℕ → Seen
 seen_of first [] = []

@@ -1,6 +1,6 @@
 -- The wire map, and the two tables that hold it.
 use Rattle.std.specs.Prelude.{List, ℕ, zero, suc, ◌/◌, ◌%◌, eqb, get_or}
-use Rattle.std.proofs.Math.Option.{Option, none, some}
+use Rattle.std.specs.Prelude.{Option, None, Some}
 use Rattle.bits.specs.Bits.{pick}
 use Rattle.wires.specs.declared.Found.{Found}
 use Rattle.wires.specs.declared.Found.TheVariants.{At, Missing}
@@ -15,20 +15,20 @@ abbrev pub Wires : Type 0
 Wires = ℕ → Option WireRef
 
 abbrev pub no_wires : Wires
-no_wires w = none
+no_wires w = None
 
 abbrev pub put : Wires → ℕ → WireRef → Wires
-put m w r v = pick (eqb v w) (some r) (m v)
+put m w r v = pick (eqb v w) (Some r) (m v)
 
 -- the tables, by wire: the signal's number plus 1, or 0; the place times 65,536 plus the width
 abbrev pub entry : ℕ → ℕ → Option WireRef
-entry zero p = none
-entry (suc s) p = some (record { signal = s; lsb = p / 65536; width = p % 65536 })
+entry zero p = None
+entry (suc s) p = Some (record { signal = s; lsb = p / 65536; width = p % 65536 })
 
 unfoldable pub wires_of : List ℕ → List ℕ → Wires
 wires_of wires places w = entry (get_or wires w 0) (get_or places w 0)
 
 -- what the code finds
 abbrev pub found_of : Found → Option WireRef
-found_of (At r) = some (record { signal = r.signal.0; lsb = r.lsb; width = r.width })
-found_of Missing = none
+found_of (At r) = Some (record { signal = r.signal.0; lsb = r.lsb; width = r.width })
+found_of Missing = None

@@ -10,7 +10,6 @@ use recorder::SignalId;
 use refusal::Refusal;
 
 // Where a wire's bit is.
-#[derive(Drop)]
 #[derive(Clone, Copy)]
 pub struct WireRef {
     pub signal: SignalId,
@@ -18,7 +17,6 @@ pub struct WireRef {
     pub width: u32,
 }
 
-#[derive(Drop)]
 #[derive(Clone, Copy)]
 pub enum Found {
     At(WireRef),
@@ -26,7 +24,6 @@ pub enum Found {
 }
 
 // The signals of the constants.
-#[derive(Drop)]
 #[derive(Clone, Copy)]
 pub struct Constants {
     pub zero: SignalId,
@@ -34,7 +31,6 @@ pub struct Constants {
 }
 
 // The signal of a control.
-#[derive(Drop)]
 #[derive(Clone, Copy)]
 pub enum Controlled {
     Signal(SignalId),

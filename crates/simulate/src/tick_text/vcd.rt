@@ -5,7 +5,6 @@ use std::io::Write;
 use text::{Place, decimal, flush, put_text};
 
 // Where the next byte goes, and the next byte of the tick's bits and of what is shown.
-#[derive(Drop)]
 #[derive(Clone, Copy)]
 struct Spots {
     at: usize,

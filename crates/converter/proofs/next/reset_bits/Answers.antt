@@ -1,6 +1,6 @@
 use Rattle.std.proofs.Common.{ap, ◌∙◌}
 use Rattle.std.proofs.Math.ListN.{length-set}
-use mathlib.Core.Option.{Option}
+use Rattle.std.specs.Prelude.{Option}
 use Rattle.netlist.specs.declared.Reset.{Reset}
 use Rattle.lowering.specs.Emit.{reset_bit}
 use Rattle.converter.proofs.NextBits.{counting_some, counting_step, counting_index, loading_step, loading_end}

@@ -1,5 +1,5 @@
 use Rattle.std.proofs.Common.{sym, refl}
-use Rattle.std.proofs.Math.Option.{none}
+use Rattle.std.specs.Prelude.{None}
 use Rattle.recorder.proofs.Wrote.{wrote_as}
 use Rattle.netlist.specs.Fields.{records_at}
 use Rattle.wires.specs.Wires.{wires_of}
@@ -16,7 +16,7 @@ use Rattle.memories.proofs.distributed_ram.dram_cell.Goals as goal
 
 pub returns-in-Signal : goal.returns-in-Signal
 unfolding records_at
-returns-in-Signal c = once_here (λ (s : Seen). emit_distributed_ram (wires_of c.args.wires.now c.args.places.now) c.args.constants s c.args.owner (dram_addressed (dram_at c.args.words.now c.args.at) c.args.write_address c.args.read_address)) (once_as (dram_split (wires_of c.args.wires.now c.args.places.now) c.args.constants (seen_of c.args.t.exprs.count c.args.seen.now) c.args.owner (dram_addressed (dram_at c.args.words.now c.args.at) c.args.write_address c.args.read_address)) (once_done (c.in-Done.ensures.wrote _ _) _ refl (once_as (signal_known (reads_as (wires_of c.args.wires.now c.args.places.now) c.args.constants _ (sym c.bit_at-bit.ensures) c.in-Signal.ensures) _ refl) (once_keep (wrote_as (dram_body_writing (wires_of c.args.wires.now c.args.places.now) (dram_at c.args.words.now c.args.at).output none c.in-Done.port c.args.owner c.in-Signal.clock.0 c.field-edge.ensures c.field-output.ensures) c.dram_body.ensures)))))
+returns-in-Signal c = once_here (λ (s : Seen). emit_distributed_ram (wires_of c.args.wires.now c.args.places.now) c.args.constants s c.args.owner (dram_addressed (dram_at c.args.words.now c.args.at) c.args.write_address c.args.read_address)) (once_as (dram_split (wires_of c.args.wires.now c.args.places.now) c.args.constants (seen_of c.args.t.exprs.count c.args.seen.now) c.args.owner (dram_addressed (dram_at c.args.words.now c.args.at) c.args.write_address c.args.read_address)) (once_done (c.in-Done.ensures.wrote _ _) _ refl (once_as (signal_known (reads_as (wires_of c.args.wires.now c.args.places.now) c.args.constants _ (sym c.bit_at-bit.ensures) c.in-Signal.ensures) _ refl) (once_keep (wrote_as (dram_body_writing (wires_of c.args.wires.now c.args.places.now) (dram_at c.args.words.now c.args.at).output None c.in-Done.port c.args.owner c.in-Signal.clock.0 c.field-edge.ensures c.field-output.ensures) c.dram_body.ensures)))))
 
 pub returns-in-Refused-bit_signal : goal.returns-in-Refused-bit_signal
 returns-in-Refused-bit_signal c = once_here (λ (s : Seen). emit_distributed_ram (wires_of c.args.wires.now c.args.places.now) c.args.constants s c.args.owner (dram_addressed (dram_at c.args.words.now c.args.at) c.args.write_address c.args.read_address)) (once_as (dram_split (wires_of c.args.wires.now c.args.places.now) c.args.constants (seen_of c.args.t.exprs.count c.args.seen.now) c.args.owner (dram_addressed (dram_at c.args.words.now c.args.at) c.args.write_address c.args.read_address)) (once_done (c.in-Done.ensures.wrote _ _) _ refl (once_as (signal_refused (reads_as (wires_of c.args.wires.now c.args.places.now) c.args.constants _ (sym c.bit_at-bit.ensures) c.in-Refused-bit_signal.ensures) _ refl) once_refuse)))
