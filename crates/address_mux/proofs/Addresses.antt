@@ -1,18 +1,16 @@
--- Bits of an address, and counts that are limited.
-use mathlib.Core.Path.{◌≡◌, sym}
-use mathlib.Core.List.{List}
+-- Parts of an address, and counts that are limited.
+use mathlib.Core.Path.{◌≡◌}
+use mathlib.Core.List.{List, ◌++◌}
 use Prim.Native.Nat.{ℕ, ◌≤◌, ◌<◌}
 use borrow.Author.Tests.{le-leb, lt-leb}
 use native.Mathlib.Omega.{arith}
-use lib.ListN.{length, get_or-eq_default}
-use Rattle.netlist.specs.declared.Bit.{Bit}
-use Rattle.netlist.specs.declared.Bit.TheVariants.{Zero}
+use lib.ListN.{length}
+use Rattle.std.proofs.lemmas.List.{length-append}
 use Rattle.recorder.specs.Writer.{Writer, refuse}
-use Rattle.wires.specs.Expressions.{vector_bit}
 use Rattle.address_mux.specs.Address.{at_most}
 
-pub bit_past : (bits : List Bit) (i : ℕ) → length bits ≡ 14 → 14 ≤ i → Zero ≡ vector_bit bits i
-bit_past bits i e h = sym (get_or-eq_default bits Zero (omega arith))
+pub long_enough : (parts rest : List ℕ) {n : ℕ} → length parts ≡ n → n ≤ length (parts ++ rest)
+long_enough parts rest q = omega (arith, q, length-append parts rest)
 
 pub at_most_yes : {A : Type 0} (most n : ℕ) (w : Writer A) → n ≤ most → at_most most n w ≡ w
 unfolding at_most

@@ -1,22 +1,26 @@
 -- Levels of an address mux, worked in place in two slices.
 use mathlib.Core.Path.{◌≡◌, refl, ap, ap₂, sym, ◌∙◌, subst}
 use mathlib.Core.List.{List, [], ◌∷◌, ◌++◌}
-use Prim.Native.Nat.{ℕ, zero, suc, ◌+◌, ◌-◌, ◌/◌, ◌≤◌, ◌<◌}
+use Prim.Native.Nat.{ℕ, zero, suc, ◌+◌, ◌-◌, ◌/◌, ◌%◌, ◌≤◌, ◌<◌}
 use native.Mathlib.Nat.{add-zero, zero-add}
 use native.Mathlib.Numerals.{add-one}
 use native.Mathlib.Omega.{arith}
 use lib.ListN.{length, get_or, set}
 use lib.Seq.{get_or-set_same, get_or-set_other}
-use Rattle.recorder.specs.declared.Tapes.{Tapes}
 use Rattle.recorder.specs.Record.{Expr.mux}
-use Rattle.recorder.specs.Writer.{Writer, pure, refuse, emit, ◌>>=◌}
-use Rattle.recorder.specs.Lists.{lists, WroteExprs, Answer, Answer.Done, Answer.Failed}
-use Rattle.recorder.proofs.Wrote.{wrote_pure, Going, going_start, going_step, going_stop, going_end}
+use Rattle.recorder.specs.Writer.{Writer, End, End.ok, End.no, pure, refuse, emit, ◌>>=◌}
+use Rattle.std.specs.Prelude.{Result, IsErrAnd}
+use Rattle.refusal.specs.declared.Refusal.{Refusal}
+use Rattle.refusal.specs.Refusal.{number_of, place_of}
+use Rattle.recorder.specs.declared.Recorder.{Recorder}
+use Rattle.recorder.specs.Calls.{ended, Writes}
+use Rattle.recorder.proofs.Calls.{writes_pure, Underway, underway_start, underway_step, underway_end}
 use Rattle.wires.specs.Expressions.{roomy}
 use Rattle.wires.proofs.Laws.{roomy_yes, roomy_no}
 use Rattle.address_mux.specs.AddressMux.{Node, mux_level, mux_levels}
-use Rattle.address_mux.specs.Candidates.{node_at, nodes_from, join_nodes}
-use Rattle.address_mux.proofs.Binds.{bind_two}
+use Rattle.address_mux.specs.declared.Works.{Works}
+use Rattle.address_mux.specs.Candidates.{node_at, nodes_from, candidates_in, join_nodes, Puts, SameWorks}
+use Rattle.address_mux.proofs.Binds.{bind_two, underway_err}
 
 -- CANDIDATES
 
@@ -88,50 +92,62 @@ module _ (width : ℕ) (ms vs : List ℕ) where
   unfolding nodes_from mux_level
   level_none i left next e = ap (λ (k : ℕ). mux_level width (nodes_from ms vs i k) next) e
 
--- of n candidates those from i on are left; the first `at` are the next level's
-pub record Levelling (width n : ℕ) (whole : Writer (List Node)) (e₀ : List ℕ) (t₀ : Tapes) (e : List ℕ) (t : Tapes) (ms vs : List ℕ) (at i : ℕ) : Type 0 where
-  pub does : (s k : List ℕ) → Going (lists s e₀ k) t₀ whole (lists s e k) t (mux_level width (nodes_from ms vs i (n - i)) (nodes_from ms vs 0 at))
+-- of n candidates those from at + at on are left; the first `at` are the next level's
+pub record Levelling (width n : ℕ) (whole : Writer (List Node)) (r₀ r : Recorder) (w : Works) (at : ℕ) : Type 0 where
+  pub does : Underway r₀ whole r (mux_level width (nodes_from w.parts.now w.values.now (at + at) (n - (at + at))) (candidates_in w at))
 
-module _ {width n : ℕ} {whole : Writer (List Node)} {e₀ : List ℕ} {t₀ : Tapes} where
-  pub levelling_start : (ms vs : List ℕ) → whole ≡ mux_level width (nodes_from ms vs 0 n) [] → Levelling width n whole e₀ t₀ e₀ t₀ ms vs 0 0
+module _ {width n : ℕ} {whole : Writer (List Node)} {r₀ : Recorder} where
+  pub levelling_start : (w : Works) → whole ≡ mux_level width (candidates_in w n) [] → Levelling width n whole r₀ r₀ w 0
   unfolding nodes_from
-  levelling_start ms vs w = record { does = λ s k. let j : n ≡ n - 0 = omega arith in going_start (w ∙ ap (λ (j : ℕ). mux_level width (nodes_from ms vs 0 j) []) j) }
+  levelling_start w q = let j : n ≡ n - 0 = omega arith in record { does = underway_start (q ∙ ap (λ (j : ℕ). mux_level width (candidates_in w j) []) j) }
 
-  module _ {e : List ℕ} {t : Tapes} {ms vs : List ℕ} {at i : ℕ} (doing : Levelling width n whole e₀ t₀ e t ms vs at i) where
-    module _ (more : i + 1 < n) {a : Answer Node} {e₁ : List ℕ} (h : WroteExprs e t (join_nodes width (node_at ms vs i) (node_at ms vs (i + 1))) a e₁) where
-      pub levelling_step : at + at ≡ i → n ≤ length ms → n ≤ length vs → {x y : ℕ} {u : Tapes} → a ≡ Done (record { matched = x; value = y }) u
-          → Levelling width n whole e₀ t₀ e₁ u (set ms at x) (set vs at y) (at + 1) (i + 2)
-      levelling_step q lm lv {x} {y} {u} d = record {
-        does = λ s k.
-            let j : n - i - 2 ≡ n - (i + 2) = omega arith in
-            let p : nodes_from (set ms at x) (set vs at y) (i + 2) (n - (i + 2)) ≡ nodes_from ms vs (i + 2) (n - i - 2) =
-            nodes_above ms vs at x y (i + 2) (n - (i + 2)) (omega arith) ∙ ap (λ (z : ℕ). nodes_from ms vs (i + 2) z) (sym j) in
-            let r : nodes_from (set ms at x) (set vs at y) 0 (at + 1) ≡ nodes_from ms vs 0 at ++ (record { matched = x; value = y } ∷ []) =
-            nodes_put ms vs at x y (omega arith) (omega arith) in
-            subst (λ (w : Writer (List Node)). Going (lists s e₀ k) t₀ whole (lists s e₁ k) u w) (sym (ap₂ (λ (l m : List Node). mux_level width l m) p r))
-            (going_step _ (doing.does s k) (level_more width ms vs i (n - i) (nodes_from ms vs 0 at) (omega arith)) (h s k) d);
-      }
+  module _ {r : Recorder} {w : Works} {at : ℕ} (doing : Levelling width n whole r₀ r w at) where
+    abbrev ms : List ℕ
+    ms = w.parts.now
 
-      pub levelling_stop : {number place : ℕ} → a ≡ Failed number place → WroteExprs e₀ t₀ whole (Failed number place) e₁
-      levelling_stop d s k = going_stop _ (doing.does s k) (level_more width ms vs i (n - i) (nodes_from ms vs 0 at) (omega arith)) (h s k) d
+    abbrev vs : List ℕ
+    vs = w.values.now
+
+    module _ (more : at < n / 2) {l k : Node} (is_l : l ≡ node_at ms vs (at + at)) (is_k : k ≡ node_at ms vs (at + at + 1)) where
+      two_left : mux_level width (nodes_from ms vs (at + at) (n - (at + at))) (nodes_from ms vs 0 at)
+          ≡ (join_nodes width l k >>= λ d. mux_level width (nodes_from ms vs (at + at + 2) (n - (at + at) - 2)) (nodes_from ms vs 0 at ++ (d ∷ [])))
+      two_left =
+          level_more width ms vs (at + at) (n - (at + at)) (nodes_from ms vs 0 at) (omega arith)
+          ∙ ap₂ (λ (x z : Node). join_nodes width x z >>= λ d. mux_level width (nodes_from ms vs (at + at + 2) (n - (at + at) - 2)) (nodes_from ms vs 0 at ++ (d ∷ []))) (sym is_l) (sym is_k)
+
+      pub levelling_step : n ≤ length ms → n ≤ length vs → {d : Node} {r₁ : Recorder} → Writes r (join_nodes width l k) (ok d) r₁ → {w' : Works} → Puts at d w w' → Levelling width n whole r₀ r₁ w' (at + 1)
+      levelling_step lm lv {d} {r₁} h {w'} put =
+          let i : at + 1 + (at + 1) ≡ at + at + 2 = omega arith in
+          let j : n - (at + at) - 2 ≡ n - (at + 1 + (at + 1)) = omega arith in
+          let p : nodes_from w'.parts.now w'.values.now (at + 1 + (at + 1)) (n - (at + 1 + (at + 1))) ≡ nodes_from ms vs (at + at + 2) (n - (at + at) - 2) =
+          ap₂ (λ (l k : List ℕ). nodes_from l k (at + 1 + (at + 1)) (n - (at + 1 + (at + 1)))) put.parts put.values
+          ∙ nodes_above ms vs at d.matched d.value (at + 1 + (at + 1)) (n - (at + 1 + (at + 1))) (omega arith)
+          ∙ ap₂ (λ (x z : ℕ). nodes_from ms vs x z) i (sym j) in
+          let q : candidates_in w' (at + 1) ≡ nodes_from ms vs 0 at ++ (d ∷ []) =
+          ap₂ (λ (l k : List ℕ). nodes_from l k 0 (at + 1)) put.parts put.values ∙ nodes_put ms vs at d.matched d.value (omega arith) (omega arith) in
+          record { does = subst (λ (v : Writer (List Node)). Underway r₀ whole r₁ v) (sym (ap₂ (λ (l m : List Node). mux_level width l m) p q)) (underway_step _ doing.does two_left h refl) }
+
+      pub levelling_err : {C : Type 0} (f : C → List Node) (q : Result C Refusal) (x : Refusal) → IsErrAnd q (λ y. y ≡ x) → {r₁ : Recorder} → Writes r (join_nodes width l k) (no (number_of x) (place_of x)) r₁ → Writes r₀ whole (ended f q) r₁
+      levelling_err f q x e h = underway_err _ doing.does two_left f q x e h
 
     -- an odd last one is carried over
-    pub levelling_odd : i < n → n ≤ i + 1 → at + at ≡ i → n ≤ length ms → n ≤ length vs
-        → WroteExprs e₀ t₀ whole (Done (nodes_from (set ms at (get_or ms i 0)) (set vs at (get_or vs i 0)) 0 ((n + 1) / 2)) t) e
-    levelling_odd p q z lm lv s k =
-        let j : n - i ≡ 1 = omega arith in
-        let o : (n + 1) / 2 ≡ at + 1 = omega arith in
-        going_end (doing.does s k)
-        (level_one width ms vs i (n - i) (nodes_from ms vs 0 at) j
-        ∙ ap pure (sym (nodes_put ms vs at (get_or ms i 0) (get_or vs i 0) (omega arith) (omega arith))
-        ∙ ap (λ (m : ℕ). nodes_from (set ms at (get_or ms i 0)) (set vs at (get_or vs i 0)) 0 m) (sym o)))
-        wrote_pure
+    pub levelling_odd : at ≡ n / 2 → n % 2 ≡ 1 → n ≤ length ms → n ≤ length vs → {d : Node} → d ≡ node_at ms vs (n - 1) → {w' : Works} → Puts (n / 2) d w w' → Writes r₀ whole (ok (candidates_in w' ((n + 1) / 2))) r
+    levelling_odd p z lm lv {d} is {w'} put =
+        let j : n - (at + at) ≡ 1 = omega arith in
+        let i : n - 1 ≡ at + at = omega arith in
+        let o : (n + 1) / 2 ≡ n / 2 + 1 = omega arith in
+        let e : candidates_in w' ((n + 1) / 2) ≡ nodes_from ms vs 0 at ++ (node_at ms vs (at + at) ∷ []) =
+        ap₂ (λ (l k : List ℕ). nodes_from l k 0 ((n + 1) / 2)) put.parts put.values
+        ∙ ap (λ (m : ℕ). nodes_from (set ms (n / 2) d.matched) (set vs (n / 2) d.value) 0 m) o
+        ∙ nodes_put ms vs (n / 2) d.matched d.value (omega arith) (omega arith)
+        ∙ ap₂ (λ (m : ℕ) (y : Node). nodes_from ms vs 0 m ++ (y ∷ [])) (sym p) (is ∙ ap (node_at ms vs) i) in
+        underway_end doing.does (level_one width ms vs (at + at) (n - (at + at)) (nodes_from ms vs 0 at) j ∙ ap pure (sym e)) writes_pure
 
-    pub levelling_even : n ≤ i → i ≤ n → at + at ≡ i → WroteExprs e₀ t₀ whole (Done (nodes_from ms vs 0 ((n + 1) / 2)) t) e
-    levelling_even p q z s k =
-        let j : n - i ≡ 0 = omega arith in
-        let o : (n + 1) / 2 ≡ at = omega arith in
-        going_end (doing.does s k) (level_none width ms vs i (n - i) (nodes_from ms vs 0 at) j ∙ ap (λ (m : ℕ). pure (nodes_from ms vs 0 m)) (sym o)) wrote_pure
+    pub levelling_even : at ≡ n / 2 → (n % 2 ≡ 1 → ⊥) → Writes r₀ whole (ok (candidates_in w ((n + 1) / 2))) r
+    levelling_even p z =
+        let j : n - (at + at) ≡ 0 = omega (arith, z) in
+        let o : (n + 1) / 2 ≡ at = omega (arith, z) in
+        underway_end doing.does (level_none width ms vs (at + at) (n - (at + at)) (nodes_from ms vs 0 at) j ∙ ap (λ (m : ℕ). pure (nodes_from ms vs 0 m)) (sym o)) writes_pure
 
 -- ALL LEVELS
 
@@ -155,41 +171,47 @@ module _ (width e : ℕ) (ms vs : List ℕ) where
   top_none (suc fuel) n h = ap (λ (m : ℕ). mux_levels (suc fuel) width (nodes_from ms vs 0 m) e) h
 
 -- n candidates are left, and the levels that the definition still has are enough
-pub record Muxing (width zero : ℕ) (whole : Writer ℕ) (e₀ : List ℕ) (t₀ : Tapes) (e : List ℕ) (t : Tapes) (ms vs : List ℕ) (n : ℕ) : Type 0 where
+pub record Muxing (width zero : ℕ) (whole : Writer ℕ) (r₀ r : Recorder) (w : Works) (n : ℕ) : Type 0 where
   pub fuel : ℕ
   pub enough : n ≤ fuel + 1
-  pub does : (s k : List ℕ) → Going (lists s e₀ k) t₀ whole (lists s e k) t (mux_levels fuel width (nodes_from ms vs 0 n) zero)
+  pub does : Underway r₀ whole r (mux_levels fuel width (candidates_in w n) zero)
 
-module _ {width z : ℕ} {whole : Writer ℕ} {e₀ : List ℕ} {t₀ : Tapes} where
-  pub muxing_start : (ms vs : List ℕ) (n : ℕ) → whole ≡ mux_levels (length (nodes_from ms vs 0 n)) width (nodes_from ms vs 0 n) z → Muxing width z whole e₀ t₀ e₀ t₀ ms vs n
-  muxing_start ms vs n w = record {
+module _ {width z : ℕ} {whole : Writer ℕ} {r₀ : Recorder} where
+  pub muxing_start : (w : Works) (n : ℕ) → whole ≡ mux_levels (length (candidates_in w n)) width (candidates_in w n) z → Muxing width z whole r₀ r₀ w n
+  muxing_start w n q = record {
     fuel = n;
     enough = omega arith;
-    does = λ s k. going_start (w ∙ ap (λ (f : ℕ). mux_levels f width (nodes_from ms vs 0 n) z) (nodes_length ms vs 0 n));
+    does = underway_start (q ∙ ap (λ (f : ℕ). mux_levels f width (candidates_in w n) z) (nodes_length w.parts.now w.values.now 0 n));
   }
 
-  module _ {e : List ℕ} {t : Tapes} {ms vs : List ℕ} {n : ℕ} (doing : Muxing width z whole e₀ t₀ e t ms vs n) where
-    module _ (more : 1 < n) {a : Answer (List Node)} {e₁ : List ℕ} (h : WroteExprs e t (mux_level width (nodes_from ms vs 0 n) []) a e₁) where
-      more_left : mux_levels doing.fuel width (nodes_from ms vs 0 n) z ≡ (mux_level width (nodes_from ms vs 0 n) [] >>= λ next. mux_levels (doing.fuel - 1) width next z)
-      more_left = let g = doing.enough in top_more width z ms vs doing.fuel n (omega arith) (omega arith)
+  module _ {r : Recorder} {w : Works} {n : ℕ} (doing : Muxing width z whole r₀ r w n) where
+    module _ (more : 1 < n) where
+      more_left : mux_levels doing.fuel width (candidates_in w n) z ≡ (mux_level width (candidates_in w n) [] >>= λ next. mux_levels (doing.fuel - 1) width next z)
+      more_left = let g = doing.enough in top_more width z w.parts.now w.values.now doing.fuel n (omega arith) (omega arith)
 
-      pub muxing_step : {ms' vs' : List ℕ} {u : Tapes} → a ≡ Done (nodes_from ms' vs' 0 ((n + 1) / 2)) u → Muxing width z whole e₀ t₀ e₁ u ms' vs' ((n + 1) / 2)
-      muxing_step d = record {
+      pub muxing_step : {w' : Works} {r₁ : Recorder} → Writes r (mux_level width (candidates_in w n) []) (ok (candidates_in w' ((n + 1) / 2))) r₁ → Muxing width z whole r₀ r₁ w' ((n + 1) / 2)
+      muxing_step h = record {
         fuel = doing.fuel - 1;
         enough = let g = doing.enough in omega arith;
-        does = λ s k. going_step _ (doing.does s k) more_left (h s k) d;
+        does = underway_step _ doing.does more_left h refl;
       }
 
-      pub muxing_stop : {number place : ℕ} → a ≡ Failed number place → WroteExprs e₀ t₀ whole (Failed number place) e₁
-      muxing_stop d s k = going_stop _ (doing.does s k) more_left (h s k) d
+      pub muxing_err : {C : Type 0} (f : C → ℕ) (q : Result C Refusal) (x : Refusal) → IsErrAnd q (λ y. y ≡ x) → {r₁ : Recorder} → Writes r (mux_level width (candidates_in w n) []) (no (number_of x) (place_of x)) r₁ → Writes r₀ whole (ended f q) r₁
+      muxing_err f q x e h = underway_err _ doing.does more_left f q x e h
 
-    pub muxing_one : n ≡ 1 → {a : Answer ℕ} {e₁ : List ℕ} → WroteExprs e t (emit (mux width (get_or ms 0 0) (get_or vs 0 0) z)) a e₁ → WroteExprs e₀ t₀ whole a e₁
-    muxing_one p h s k = going_end (doing.does s k) (top_one width z ms vs doing.fuel n p) (h s k)
+    pub muxing_one : n ≡ 1 → {d : Node} → d ≡ node_at w.parts.now w.values.now 0 → {a : End ℕ} {r₁ : Recorder} → Writes r (emit (mux width d.matched d.value z)) a r₁ → Writes r₀ whole a r₁
+    muxing_one p is h = underway_end doing.does (top_one width z w.parts.now w.values.now doing.fuel n p ∙ ap (λ (y : Node). emit (mux width y.matched y.value z)) (sym is)) h
 
-    pub muxing_none : n ≡ 0 → WroteExprs e₀ t₀ whole (Done z t) e
-    muxing_none p s k = going_end (doing.does s k) (top_none width z ms vs doing.fuel n p) wrote_pure
+    pub muxing_none : n ≡ 0 → Writes r₀ whole (ok z) r
+    muxing_none p = underway_end doing.does (top_none width z w.parts.now w.values.now doing.fuel n p) writes_pure
 
--- LENT WORK
+-- LENT WORKS
+
+pub works_itself : {w : Works} → SameWorks w w
+works_itself = record { parts = refl; values = refl; parts_size = refl; values_size = refl }
+
+pub same_works : {w w' w'' : Works} → SameWorks w w' → SameWorks w' w'' → SameWorks w w''
+same_works h g = record { parts = g.parts ∙ h.parts; values = g.values ∙ h.values; parts_size = g.parts_size ∙ h.parts_size; values_size = g.values_size ∙ h.values_size }
 
 -- both slices have n words, or the first that has not says so
 module _ {A : Type 0} (n : ℕ) (ms vs : List ℕ) (w : Writer A) where

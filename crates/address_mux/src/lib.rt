@@ -1,154 +1,141 @@
-// The address of a memory, and the balanced mux of its candidates, which stand in two lent slices of expression numbers.
-// (lib.rs of the Rust: balanced_address_mux.)
+// The address of a memory, and the balanced mux of its candidates. (lib.rs of the Rust: balanced_address_mux.)
 
 #![tactic(auto)]
 
 pub mod address;
 
-ghost use Rattle.std.specs.Prelude.{◌≡◌, ◌≤◌, length};
-ghost use Rattle.recorder.specs.Lists.{WroteExprs, emitted};
-ghost use Rattle.recorder.specs.Words.{zeroed};
+ghost use Rattle.std.specs.Prelude.{◌≡◌, ◌≤◌, [], length};
+ghost use Rattle.recorder.specs.Calls.{Writes, emitted};
 ghost use Rattle.wires.specs.Expressions.{roomy};
-ghost use Rattle.address_mux.specs.AddressMux.{balanced_address_mux};
-ghost use Rattle.address_mux.specs.Candidates.{node_of, nodes_from, join_nodes, joined, WroteLevel};
+ghost use Rattle.address_mux.specs.AddressMux.{balanced_address_mux, mux_level};
+ghost use Rattle.address_mux.specs.Candidates.{node_of, node_at, candidates_in, join_nodes, joined, levelled, SameWorks, Cleared, Puts, Holds};
 
-use recorder::words::zero_words;
-use recorder::{Emitted, ExprId, Stated, Tapes, builder};
+use recorder::{ExprId, Recorder};
 use refusal::Refusal;
 
 // A candidate of an address: the expression that says it is the one, and the word's.
-#[derive(Clone, Copy)]
+#[derive(Clone, Copy, Debug, PartialEq, Eq)]
 pub struct AddressMuxNode {
     pub matched: ExprId,
     pub value: ExprId,
 }
 
-#[derive(Clone, Copy)]
-pub enum Joined {
-    Done(AddressMuxNode, Tapes),
-    Refused(Refusal),
+// Two lent slices of expression numbers, in which candidates stand: what says that each is the one, and its word.
+#[derive(Drop)]
+pub struct Works<'a> {
+    pub parts: &'a mut [u32],
+    pub values: &'a mut [u32],
+}
+
+impl Works<'_> {
+    fn node(&self, i: usize) -> AddressMuxNode
+        requires { Holds self.now i }
+        ensures { node_of result ≡ node_at self.now.parts.now self.now.values.now i }
+    {
+        AddressMuxNode {
+            matched: ExprId(self.parts[i]),
+            value: ExprId(self.values[i]),
+        }
+    }
+
+    // A candidate goes to an index; a slice that has no such word stays.
+    pub fn put(&mut self, i: usize, node: AddressMuxNode)
+        ensures { Puts i (node_of node) self.old self.new }
+    {
+        if i < self.parts.len() {
+            self.parts[i] = node.matched.0;
+        }
+        if i < self.values.len() {
+            self.values[i] = node.value.0;
+        }
+    }
+
+    pub fn clear(&mut self)
+        ensures { Cleared self.old self.new }
+    {
+        self.parts.fill(0);
+        self.values.fill(0);
+    }
 }
 
 // Two neighbours become one; the later one wins.
 fn join(
-    exprs: &mut [u32],
-    t: Tapes,
+    recorder: &mut Recorder,
     width: u32,
     left: AddressMuxNode,
     right: AddressMuxNode,
-) -> Joined
-    ensures { WroteExprs exprs.old t (join_nodes width (node_of left) (node_of right)) (joined result) exprs.new }
+) -> Result<AddressMuxNode, Refusal>
+    ensures { Writes recorder.old (join_nodes width (node_of left) (node_of right)) (joined result) recorder.new }
 {
-    match builder::or(exprs, t, left.matched, right.matched) {
-        Emitted::Done(matched, next) => match builder::mux(
-            exprs,
-            next,
-            width,
-            right.matched,
-            right.value,
-            left.value,
-        ) {
-            Emitted::Done(value, last) => Joined::Done(AddressMuxNode { matched, value }, last),
-            Emitted::Refused(x) => Joined::Refused(x),
-        },
-        Emitted::Refused(x) => Joined::Refused(x),
-    }
+    let matched = recorder.or(left.matched, right.matched)?;
+    let value = recorder.mux(width, right.matched, right.value, left.value)?;
+    Ok(AddressMuxNode { matched, value })
 }
 
 // One level, in place: neighbours are joined in order, an odd last one is carried over.
 fn mux_level(
-    exprs: &mut [u32],
-    parts: &mut [u32],
-    values: &mut [u32],
-    t: Tapes,
+    recorder: &mut Recorder,
+    works: &mut Works,
     n: usize,
     width: u32,
-) -> Stated
-    requires { (n ≤ length parts.old) × (n ≤ length values.old) }
-    ensures { WroteLevel exprs.old parts.old values.old t n width result exprs.new parts.new values.new }
+) -> Result<(), Refusal>
+    requires { (n ≤ length works.old.parts.now) × (n ≤ length works.old.values.now) }
+    ensures wrote { Writes recorder.old (mux_level width (candidates_in works.old n) []) (levelled works.new n result) recorder.new }
+    ensures works { SameWorks works.old works.new }
 {
-    let mut now = t;
-    let mut at = 0;
-    let mut i = 0;
-    while i + 1 < n {
-        let left = AddressMuxNode {
-            matched: ExprId(parts[i]),
-            value: ExprId(values[i]),
-        };
-        let right = AddressMuxNode {
-            matched: ExprId(parts[i + 1]),
-            value: ExprId(values[i + 1]),
-        };
-        match join(exprs, now, width, left, right) {
-            Joined::Done(node, next) => {
-                parts[at] = node.matched.0;
-                values[at] = node.value.0;
-                now = next;
-            }
-            Joined::Refused(x) => return Stated::Refused(x),
-        }
-        at += 1;
-        i += 2;
+    for at in 0..n / 2 {
+        let node = join(
+            recorder,
+            width,
+            works.node(at + at),
+            works.node(at + at + 1),
+        )?;
+        works.put(at, node);
     }
-    if i < n {
-        parts[at] = parts[i];
-        values[at] = values[i];
-        return Stated::Done(now);
+    if n % 2 == 1 {
+        works.put(n / 2, works.node(n - 1));
     }
-    Stated::Done(now)
+    Ok(())
 }
 
 // The first n candidates; levels are joined until one is left. The later of two that match wins.
 fn mux_levels(
-    exprs: &mut [u32],
-    parts: &mut [u32],
-    values: &mut [u32],
-    t: Tapes,
+    recorder: &mut Recorder,
+    works: &mut Works,
     n: usize,
     width: u32,
     zero: ExprId,
-) -> Emitted
-    ensures { WroteExprs exprs.old t (roomy n parts.old (roomy n values.old (balanced_address_mux width (nodes_from parts.old values.old 0 n) zero.0))) (emitted result) exprs.new }
+) -> Result<ExprId, Refusal>
+    ensures wrote { Writes recorder.old (roomy n works.old.parts.now (roomy n works.old.values.now (balanced_address_mux width (candidates_in works.old n) zero.0))) (emitted result) recorder.new }
+    ensures works { SameWorks works.old works.new }
 {
-    if parts.len() < n {
-        return Emitted::Refused(Refusal::BufferTooShort(n));
+    if works.parts.len() < n || works.values.len() < n {
+        return Err(Refusal::BufferTooShort(n));
     }
-    if values.len() < n {
-        return Emitted::Refused(Refusal::BufferTooShort(n));
-    }
-    let mut now = t;
     let mut left = n;
     while left > 1 {
-        match mux_level(exprs, parts, values, now, left, width) {
-            Stated::Done(next) => {
-                now = next;
-            }
-            Stated::Refused(x) => return Emitted::Refused(x),
-        }
+        mux_level(recorder, works, left, width)?;
         left = (left + 1) / 2;
     }
     if left == 0 {
-        return Emitted::Done(zero, now);
+        return Ok(zero);
     }
-    let found = ExprId(parts[0]);
-    let word = ExprId(values[0]);
-    builder::mux(exprs, now, width, found, word, zero)
+    let root = works.node(0);
+    recorder.mux(width, root.matched, root.value, zero)
 }
 
 // The same, and zeros in the place of the candidates.
 pub fn balanced_address_mux(
-    exprs: &mut [u32],
-    parts: &mut [u32],
-    values: &mut [u32],
-    t: Tapes,
+    recorder: &mut Recorder,
+    works: &mut Works,
     n: usize,
     width: u32,
     zero: ExprId,
-) -> Emitted
-    ensures { WroteExprs exprs.old t (roomy n parts.old (roomy n values.old (balanced_address_mux width (nodes_from parts.old values.old 0 n) zero.0))) (emitted result) exprs.new × ((parts.new ≡ zeroed parts.old) × (values.new ≡ zeroed values.old)) }
+) -> Result<ExprId, Refusal>
+    ensures wrote { Writes recorder.old (roomy n works.old.parts.now (roomy n works.old.values.now (balanced_address_mux width (candidates_in works.old n) zero.0))) (emitted result) recorder.new }
+    ensures works { Cleared works.old works.new }
 {
-    let r = mux_levels(exprs, parts, values, t, n, width, zero);
-    zero_words(parts);
-    zero_words(values);
+    let r = mux_levels(recorder, works, n, width, zero);
+    works.clear();
     r
 }

@@ -1,5 +1,5 @@
 -- Refusals handed on as another kind of answer, and the cells' definitions in the form of their code.
-use mathlib.Core.Path.{◌≡◌, refl, ap, sym, ◌∙◌, subst, fun_ext}
+use mathlib.Core.Path.{◌≡◌, refl, ap, ap₂, sym, ◌∙◌, subst, fun_ext}
 use mathlib.Core.List.{List, [], ◌∷◌}
 use Prim.Native.Nat.{ℕ, zero, suc, ◌+◌, ◌≤◌, min}
 use native.Mathlib.Nat.{add-zero}
@@ -8,38 +8,21 @@ use lib.Dec.{eqb}
 use lib.ListN.{length, get_or}
 use Rattle.bits.specs.Bits.{pick}
 use Rattle.netlist.specs.declared.Bit.{Bit}
+use Rattle.netlist.specs.declared.fields.Fields.{Fields}
 use Rattle.netlist.specs.declared.Bit.TheVariants.{Zero}
 use Rattle.netlist.specs.Fields.{records_at, after, word_at, bit_at, bits_at, wires_at}
 use Rattle.netlist.proofs.WordLaws.{bit_ahead}
-use Rattle.recorder.specs.declared.Tapes.{Tapes}
 use Rattle.recorder.specs.Record.{Expr.mul}
 use Rattle.recorder.specs.Writer.{Writer, pure, emit, ◌>>=◌}
-use Rattle.recorder.specs.Lists.{Lists, Answer, Answer.Failed, Wrote}
-use Rattle.recorder.proofs.Wrote.{then_stop}
 use Rattle.optimize.specs.Rewrite.{xor_of, mux_of}
-use Rattle.optimize.specs.Lut.{lut_cofactor}
+use Rattle.optimize.specs.Lut.{lut_cofactor, numbers}
+use Rattle.recorder.specs.declared.ExprId.{ExprId}
 use Rattle.wires.specs.Wires.{Wires}
 use Rattle.wires.specs.Seen.{Seen, with_seen, keeping}
 use Rattle.wires.specs.Expressions.{bit_expression, bit_once, vector_once, read_bits, assign_wire, roomy}
 use Rattle.wires.proofs.Laws.{roomy_yes}
 use Rattle.cells.specs.Cells.{emit_multiplier, ccu_row, emit_cycle_pll, pll_clocks}
-use Rattle.cells.specs.Answers.{changed, pll_of}
-
--- ANSWERS
-
--- the first did not go well, and both answer alike
-pub then_failed : {A B : Type 0} {l : Lists} {t : Tapes} {w : Writer A} {r : Answer A} {l₁ : Lists} → Wrote l t w r l₁ → (k : A → Writer B) {q : Answer B} {number place : ℕ} → r ≡ Failed number place → q ≡ Failed number place
-    → Wrote l t (w >>= k) q l₁
-then_failed {l = l} {t = t} {w = w} {l₁ = l₁} h k d e = subst (λ (x : Answer _). Wrote l t (w >>= k) x l₁) (sym e) (then_stop h k d)
-
-pub changed_failed : {A B : Type 0} (f : A → B) {r : Answer A} {q : Answer B} {number place : ℕ} → q ≡ changed f r → r ≡ Failed number place → q ≡ Failed number place
-unfolding changed
-changed_failed f e d = e ∙ ap (changed f) d
-
--- a refusal handed on as another kind of answer
-pub then_changed : {A B : Type 0} (f : A → B) {l : Lists} {t : Tapes} {w : Writer A} {r : Answer A} {l₁ : Lists} → Wrote l t w r l₁ → (k : A → Writer B) {q : Answer B} {number place : ℕ} → r ≡ Failed number place → q ≡ changed f r
-    → Wrote l t (w >>= k) q l₁
-then_changed f h k d e = then_failed h k d (changed_failed f e d)
+use Rattle.cells.specs.Answers.{pll_of}
 
 -- FOUR INPUTS
 
@@ -77,22 +60,26 @@ first_wire words i = refl
 bind_same : {A B : Type 0} {w w' : Writer A} {k k' : A → Writer B} → w ≡ w' → ((a : A) → k a ≡ k' a) → (w >>= k) ≡ (w' >>= k')
 bind_same {A} {B} {w} {w'} {k} {k'} e f = ap (λ (x : Writer A). x >>= k) e ∙ ap (λ (g : A → Writer B). w' >>= g) (fun_ext f)
 
+-- bits of a record's fields from an offset on
+pub bits_moved : (f g : Fields) (offset : ℕ) → g ≡ record f { at = min (f.at + offset) (length f.words.now) } → (k : ℕ) → bits_at g.words.now g.at k ≡ bits_at f.words.now (f.at + offset) k
+bits_moved f g offset e k = ap (λ (x : Fields). bits_at x.words.now x.at k) e ∙ bits_ahead f.words.now (f.at + offset) (min (f.at + offset) (length f.words.now)) refl k
+
 -- the works of its two vectors are long enough
-pub multiplier_from : (m : Wires) (seen : Seen) (words : List ℕ) (at : ℕ) {lhs rhs product : ℕ} → lhs ≡ min (at + 1) (length words) → rhs ≡ min (at + 19) (length words) → product ≡ word_at words (at + 37)
+pub multiplier_from : (m : Wires) (seen : Seen) (f lhs rhs : Fields) {product : ℕ} → lhs ≡ record f { at = min (f.at + 1) (length f.words.now) } → rhs ≡ record f { at = min (f.at + 19) (length f.words.now) } → product ≡ word_at f.words.now (f.at + 37)
     → (p q : List ℕ) → length p ≡ 36 → length q ≡ 36
-    → emit_multiplier m seen (bits_at words (at + 1) 18) (bits_at words (at + 19) 18) (wires_at words (at + 37) 36)
-    ≡ (roomy 36 p (vector_once m seen (bits_at words lhs 18) 0 36) >>= λ a. roomy 36 q (vector_once m a.seen (bits_at words rhs 18) 0 36) >>= λ b. emit (mul a.value b.value) >>= λ v. keeping b.seen (assign_wire m product v))
+    → emit_multiplier m seen (bits_at f.words.now (f.at + 1) 18) (bits_at f.words.now (f.at + 19) 18) (wires_at f.words.now (f.at + 37) 36)
+    ≡ (roomy 36 p (vector_once m seen (bits_at lhs.words.now lhs.at 18) 0 36) >>= λ a. roomy 36 q (vector_once m a.seen (bits_at rhs.words.now rhs.at 18) 0 36) >>= λ b. emit (mul a.value b.value) >>= λ v. keeping b.seen (assign_wire m product v))
 unfolding emit_multiplier
-multiplier_from m seen words at {lhs} {rhs} {product} el er ep p q hp hq =
+multiplier_from m seen f lhs rhs {product} el er ep p q hp hq =
     let room : (l : List ℕ) → length l ≡ 36 → 36 ≤ length l = λ l h. omega (arith, h) in
-    let left : bits_at words lhs 18 ≡ bits_at words (at + 1) 18 = bits_ahead words (at + 1) lhs el 18 in
-    let right : bits_at words rhs 18 ≡ bits_at words (at + 19) 18 = bits_ahead words (at + 19) rhs er 18 in
-    let target : get_or (wires_at words (at + 37) 36) 0 0 ≡ product = first_wire words (at + 37) ∙ sym ep in
+    let left : bits_at lhs.words.now lhs.at 18 ≡ bits_at f.words.now (f.at + 1) 18 = bits_moved f lhs 1 el 18 in
+    let right : bits_at rhs.words.now rhs.at 18 ≡ bits_at f.words.now (f.at + 19) 18 = bits_moved f rhs 19 er 18 in
+    let target : get_or (wires_at f.words.now (f.at + 37) 36) 0 0 ≡ product = first_wire f.words.now (f.at + 37) ∙ sym ep in
     bind_same
-    (ap (λ (b : List Bit). vector_once m seen b 0 36) (sym left) ∙ sym (roomy_yes 36 p (vector_once m seen (bits_at words lhs 18) 0 36) (room p hp)))
+    (ap (λ (b : List Bit). vector_once m seen b 0 36) (sym left) ∙ sym (roomy_yes 36 p (vector_once m seen (bits_at lhs.words.now lhs.at 18) 0 36) (room p hp)))
     (λ a.
     bind_same
-    (ap (λ (b : List Bit). vector_once m a.seen b 0 36) (sym right) ∙ sym (roomy_yes 36 q (vector_once m a.seen (bits_at words rhs 18) 0 36) (room q hq)))
+    (ap (λ (b : List Bit). vector_once m a.seen b 0 36) (sym right) ∙ sym (roomy_yes 36 q (vector_once m a.seen (bits_at rhs.words.now rhs.at 18) 0 36) (room q hq)))
     (λ b. ap (λ (w : ℕ). emit (mul a.value b.value) >>= λ v. keeping b.seen (assign_wire m w v)) target))
 
 -- A ROW OF A CCU2C
@@ -102,6 +89,15 @@ pub row_from : (m : Wires) (seen : Seen) (inputs : List Bit) (init inject sum ca
     ≡ (read_bits m seen inputs [] >>= λ es. lut_cofactor es.value init >>= λ l. lut_cofactor (get_or es.value 0 0 ∷ get_or es.value 1 0 ∷ 0 ∷ 0 ∷ []) init >>= λ k. xor_of l g >>= λ s. assign_wire m sum s >>= λ x. keeping es.seen (mux_of l g k))
 unfolding ccu_row
 row_from m seen inputs init inject sum carry e = rw e
+
+-- the two inputs that its second table has
+numbers_at : (ids : List ExprId) (i : ℕ) → get_or (numbers ids) i 0 ≡ (get_or ids i (record { 0 = 0 })).0
+numbers_at [] i = refl
+numbers_at (a ∷ ids) zero = refl
+numbers_at (a ∷ ids) (suc i) = numbers_at ids i
+
+pub two_inputs : (ids : List ExprId) (table : ℕ) → lut_cofactor (get_or (numbers ids) 0 0 ∷ get_or (numbers ids) 1 0 ∷ 0 ∷ 0 ∷ []) table ≡ lut_cofactor ((get_or ids 0 (record { 0 = 0 })).0 ∷ (get_or ids 1 (record { 0 = 0 })).0 ∷ 0 ∷ 0 ∷ []) table
+two_inputs ids table = ap₂ (λ (x y : ℕ). lut_cofactor (x ∷ y ∷ 0 ∷ 0 ∷ []) table) (numbers_at ids 0) (numbers_at ids 1)
 
 -- A PLL
 

@@ -3,32 +3,17 @@ use Rattle.std.specs.Prelude.{List, [], ◌∷◌, ℕ, ◌+◌, get_or}
 use Rattle.netlist.specs.declared.Bit.{Bit}
 use Rattle.netlist.specs.Netlist.{Ccu2c, Pll}
 use Rattle.netlist.specs.Fields.{word_at, bit_at, wires_at}
+use Rattle.std.specs.Prelude.{Result, Ok, Err}
 use Rattle.refusal.specs.Refusal.{number_of, place_of}
-use Rattle.recorder.specs.Lists.{Answer, Answer.Done, Answer.Failed}
-use Rattle.cells.specs.declared.Read4.{Read4}
-use Rattle.cells.specs.declared.Read4.TheVariants as Q
+use Rattle.refusal.specs.declared.Refusal.{Refusal}
+use Rattle.recorder.specs.declared.ExprId.{ExprId}
+use Rattle.recorder.specs.Writer.{End, End.ok, End.no}
+use Rattle.optimize.specs.Lut.{numbers}
 
 -- four inputs read, as a value
-abbrev pub read_of : Read4 → Answer (List ℕ)
-read_of (Q.Done a b c d t) = Done (a.0 ∷ b.0 ∷ c.0 ∷ d.0 ∷ []) t
-read_of (Q.Refused x) = Failed (number_of x) (place_of x)
-
--- the same answer with another value; a refusal stays what it is
-unfoldable pub changed : {A B : Type 0} → (A → B) → Answer A → Answer B
-changed f (Done a t) = Done (f a) t
-changed f (Failed number place) = Failed number place
-
-abbrev pub nothing : ℕ → Unit {0}
-nothing e = tt
-
-abbrev pub nought : Unit {0} → ℕ
-nought u = 0
-
-abbrev pub first : List ℕ → ℕ
-first es = get_or es 0 0
-
-abbrev pub fourfold : ℕ → List ℕ
-fourfold e = e ∷ e ∷ e ∷ e ∷ []
+abbrev pub read_of : Result (List ExprId) Refusal → End (List ℕ)
+read_of (Ok ids) = ok (numbers ids)
+read_of (Err x) = no (number_of x) (place_of x)
 
 -- THE FIELDS OF A CELL, as a function is handed them
 

@@ -2,15 +2,4 @@
 
 #![tactic(auto)]
 
-pub mod answers;
-pub mod emit;
-
-use recorder::{ExprId, Tapes};
-use refusal::Refusal;
-
-// Four inputs, read.
-#[derive(Clone, Copy)]
-pub enum Read4 {
-    Done(ExprId, ExprId, ExprId, ExprId, Tapes),
-    Refused(Refusal),
-}
+pub mod emit; // emit.rt: a function for each kind

@@ -2,20 +2,24 @@
 use mathlib.Core.Path.{◌≡◌, refl, ap, sym, ◌∙◌, subst}
 use mathlib.Core.Bool.{◌||◌}
 use mathlib.Core.List.{List, [], ◌∷◌, ◌++◌}
-use Prim.Native.Nat.{ℕ, suc, ◌+◌, ◌<◌, min}
+use Prim.Native.Nat.{ℕ, suc, ◌+◌, ◌≤◌, ◌<◌, min}
 use native.Mathlib.Numerals.{add-one}
 use native.Mathlib.Omega.{arith}
 use lib.Dec.{eqb}
-use lib.ListN.{length, get_or, drop}
-use lib.Seq.{drop-cons, drop-length}
+use lib.ListN.{length, get_or, drop, drop_of_length-le}
+use lib.Seq.{drop-cons}
 use Rattle.bits.specs.Bits.{pick}
 use Rattle.netlist.specs.Fields.{records_at, word_at, wires_at}
 use Rattle.netlist.proofs.RecordLaws.{wires_length, wires_get}
 use Rattle.netlist.proofs.WordLaws.{word_ahead}
-use Rattle.recorder.specs.declared.Tapes.{Tapes}
-use Rattle.recorder.specs.Writer.{Writer, pure, ◌>>=◌}
-use Rattle.recorder.specs.Lists.{lists, Answer, Answer.Done, Answer.Failed, WroteStmts}
-use Rattle.recorder.proofs.Wrote.{wrote_pure, Going, going_start, going_step, going_same, going_end}
+use Rattle.std.specs.Prelude.{Result, IsErrAnd}
+use Rattle.refusal.specs.declared.Refusal.{Refusal}
+use Rattle.refusal.specs.Refusal.{number_of, place_of}
+use Rattle.netlist.specs.declared.fields.Fields.{Fields}
+use Rattle.recorder.specs.declared.Recorder.{Recorder}
+use Rattle.recorder.specs.Writer.{Writer, End, End.ok, End.no, pure, ◌>>=◌}
+use Rattle.recorder.specs.Calls.{Writes, ended}
+use Rattle.recorder.proofs.Calls.{writes_pure, handed, Underway, underway_start, underway_step, underway_stop, underway_end}
 use Rattle.recorder.proofs.Events.{bind_pure, bind_assoc}
 use Rattle.wires.specs.Wires.{Wires}
 use Rattle.wires.specs.Expressions.{assign_wire}
@@ -39,40 +43,42 @@ unfolding pll_clocks each
 clocks_each m feedback output [] e = refl
 clocks_each m feedback output (w ∷ ws) e = ap (λ (v : Writer (Unit {0})). clock m feedback output e w >>= λ x. v) (clocks_each m feedback output ws e)
 
--- A LOOP over the wires that stand from an index on: i of them are done
+-- A LOOP over wires: i of them are done
 
-pub record Doing (f : ℕ → Writer (Unit {0})) (ws : List ℕ) (whole : Writer (Unit {0})) (m₀ : List ℕ) (t₀ : Tapes) (m : List ℕ) (t : Tapes) (i : ℕ) : Type 0 where
-  pub does : (s e : List ℕ) → Going (lists s e m₀) t₀ whole (lists s e m) t (each f (drop i ws))
+pub record Doing (f : ℕ → Writer (Unit {0})) (ws : List ℕ) (whole : Writer (Unit {0})) (r₀ r : Recorder) (i : ℕ) : Type 0 where
+  pub does : Underway r₀ whole r (each f (drop i ws))
 
-module _ {f : ℕ → Writer (Unit {0})} {ws : List ℕ} {whole : Writer (Unit {0})} {m₀ : List ℕ} {t₀ : Tapes} where
-  pub doing_start : whole ≡ each f ws → Doing f ws whole m₀ t₀ m₀ t₀ 0
-  doing_start w = record { does = λ s e. going_start w }
+module _ {f : ℕ → Writer (Unit {0})} {ws : List ℕ} {whole : Writer (Unit {0})} {r₀ : Recorder} where
+  pub doing_start : whole ≡ each f ws → Doing f ws whole r₀ r₀ 0
+  doing_start w = record { does = underway_start w }
 
-  module _ {m : List ℕ} {t : Tapes} {i : ℕ} (doing : Doing f ws whole m₀ t₀ m t i) where
-    module _ (some : i < length ws) {w : ℕ} (is : w ≡ get_or ws i 0) {a : Answer (Unit {0})} {m₁ : List ℕ} (h : WroteStmts m t (f w) a m₁) where
+  module _ {r : Recorder} {i : ℕ} (doing : Doing f ws whole r₀ r i) where
+    module _ (some : i < length ws) {w : ℕ} (is : w ≡ get_or ws i 0) where
       more : each f (drop i ws) ≡ (f w >>= λ x. each f (drop (i + 1) ws))
       unfolding each
       more = ap (each f) (drop-cons ws i 0 some) ∙ ap (λ (v : ℕ). f v >>= λ x. each f (drop (suc i) ws)) (sym is) ∙ ap (λ (k : ℕ). f w >>= λ x. each f (drop k ws)) (sym (add-one i))
 
-      pub doing_step : {x : Unit {0}} {u : Tapes} → a ≡ Done x u → Doing f ws whole m₀ t₀ m₁ u (i + 1)
-      doing_step d = record { does = λ s e. going_step _ (doing.does s e) more (h s e) d }
+      pub doing_step : {x : Unit {0}} {r₁ : Recorder} → Writes r (f w) (ok x) r₁ → Doing f ws whole r₀ r₁ (i + 1)
+      doing_step h = record { does = underway_step _ doing.does more h refl }
 
-      pub doing_stop : {number place : ℕ} → a ≡ Failed number place → WroteStmts m₀ t₀ whole a m₁
-      doing_stop d s e = going_same _ (doing.does s e) more (h s e) d
+      pub doing_err : {C : Type 0} (g : C → Unit {0}) (q : Result C Refusal) (x : Refusal) → IsErrAnd q (λ y. y ≡ x) → {r₁ : Recorder} → Writes r (f w) (no (number_of x) (place_of x)) r₁ → Writes r₀ whole (ended g q) r₁
+      doing_err g q x e {r₁} h = subst (λ (y : End (Unit {0})). Writes r₀ whole y r₁) (sym (handed g q x e)) (underway_stop _ doing.does more h refl)
 
-    pub doing_end : i ≡ length ws → WroteStmts m₀ t₀ whole (Done tt t) m
+    pub doing_end : length ws ≤ i → Writes r₀ whole (ok tt) r
     unfolding each
-    doing_end all s e = going_end (doing.does s e) (ap (λ (k : ℕ). each f (drop k ws)) all ∙ ap (each f) (drop-length ws)) wrote_pure
+    doing_end all = underway_end doing.does (ap (each f) (drop_of_length-le ws all)) writes_pure
 
--- wire i of those that stand from an index on, which was cut to the number of words
-pub wire_there : (words : List ℕ) (at n from i : ℕ) {w : ℕ} → from ≡ min at (length words) → i < n → w ≡ word_at words (from + i) → w ≡ get_or (wires_at words at n) i 0
-wire_there words at n from i cut h e = e ∙ word_ahead words at from cut i ∙ sym (wires_get words at n 0 i h)
+-- wire i of those that a record has from an offset on
+pub wire_there : (f g : Fields) (offset n i : ℕ) {w : ℕ} → g ≡ record f { at = min (f.at + offset) (length f.words.now) } → i < n → w ≡ word_at g.words.now (g.at + i) → w ≡ get_or (wires_at f.words.now (f.at + offset) n) i 0
+wire_there f g offset n i {w} q h e =
+    e ∙ ap (λ (x : Fields). word_at x.words.now (x.at + i)) q
+    ∙ word_ahead f.words.now (f.at + offset) (min (f.at + offset) (length f.words.now)) refl i ∙ sym (wires_get f.words.now (f.at + offset) n 0 i h)
 
 pub wire_some : (words : List ℕ) (at n i : ℕ) → i < n → i < length (wires_at words at n)
 wire_some words at n i h = subst (λ (k : ℕ). i < k) (sym (wires_length words at n)) h
 
-pub wires_all : (words : List ℕ) (at n i : ℕ) → i ≡ n → i ≡ length (wires_at words at n)
-wires_all words at n i h = h ∙ sym (wires_length words at n)
+pub wires_all : (words : List ℕ) (at n i : ℕ) → n ≤ i → length (wires_at words at n) ≤ i
+wires_all words at n i h = subst (λ (k : ℕ). k ≤ i) (sym (wires_length words at n)) h
 
 -- TWO LISTS one after the other
 

@@ -8,91 +8,49 @@ use native.Mathlib.Nat.{add-zero}
 use native.Mathlib.Numerals.{add-one}
 use native.Mathlib.Omega.{arith}
 use lib.Dec.{ltb}
-use lib.ListN.{length, get_or, set, take, drop, length-take, length-drop, drop_of_length-le, take-append-drop, get_or-eq_default}
-use lib.Seq.{drop-cons, set_out, set-get_or, take-set-le, drop-set-lt, drop-set-add, take-add}
-use borrow.Author.Tests.{lt-ltb, le-ltb, ne_eqb}
+use lib.ListN.{length, get_or, set, take, drop, length-drop, take-append-drop}
+use lib.Seq.{drop-cons, take-set-le, drop-set-lt, drop-set-add, take-add}
+use borrow.Author.Tests.{lt-ltb, le-ltb}
 use Rattle.bits.specs.Bits.{pick}
 use Rattle.recorder.specs.declared.Cut.{Cut}
 use Rattle.recorder.specs.declared.Cut.TheVariants.{Record, End, Broken}
 use Rattle.recorder.specs.Read as read
 use Rattle.recorder.specs.Read.{split}
-use Rattle.recorder.specs.Standing.{cut_at, size_of, size_at, fields_at}
-use Rattle.recorder.proofs.Reading.{split_as, record_within, field_at}
-use Rattle.conflict.specs.Counting.{more, raised, tally, exceeds, lowest_from, restored}
-
--- ONE STATEMENT MORE
-
-pub raised_out : (s : List ℕ) (at : ℕ) → length s ≤ at → s ≡ raised s at
-raised_out s at h = sym (set_out s at (more (get_or s at 0)) h)
-
-pub raised_four : (s : List ℕ) (at n : ℕ) → n ≡ get_or s at 0 → n ≡ 4 → set s at 5 ≡ raised s at
-raised_four s at n e q = ap (λ (k : ℕ). set s at (more k)) (sym q ∙ e)
-
-pub raised_five : (s : List ℕ) (at n : ℕ) → n ≡ get_or s at 0 → n ≡ 5 → set s at 6 ≡ raised s at
-raised_five s at n e q = ap (λ (k : ℕ). set s at (more k)) (sym q ∙ e)
-
-more_same : (n : ℕ) → (n ≡ 4 → ⊥) → (n ≡ 5 → ⊥) → more n ≡ n
-more_same n p q = rw (ne_eqb n 4 p, ne_eqb n 5 q)
-
-pub raised_same : (s : List ℕ) (at n : ℕ) → n ≡ get_or s at 0 → (n ≡ 4 → ⊥) → (n ≡ 5 → ⊥) → s ≡ raised s at
-raised_same s at n e p q = sym (ap (λ (k : ℕ). set s at (more k)) (sym e) ∙ ap (λ (k : ℕ). set s at k) (more_same n p q ∙ e) ∙ set-get_or s at 0)
+use Rattle.recorder.specs.Standing.{cut_at, fields_at}
+use Rattle.recorder.proofs.Reading.{split_as, record_within}
+use Rattle.conflict.specs.Counting.{raised, tally, exceeds, lowest_from, restored}
 
 -- THE STATEMENTS
-
-pub target_none : (m : List ℕ) (at n : ℕ) → n < 3 → 0 ≡ get_or (fields_at m at n) 1 0
-target_none m at n h = sym (get_or-eq_default (take (n - 1) (drop (at + 1) m)) 0 (omega (arith, length-take (n - 1) (drop (at + 1) m))))
-
-pub target_past : (m : List ℕ) (at n : ℕ) → length m ≤ at → 0 ≡ get_or (fields_at m at n) 1 0
-target_past m at n h = sym (get_or-eq_default (take (n - 1) (drop (at + 1) m)) 0 (omega (arith, length-take (n - 1) (drop (at + 1) m), length-drop (at + 1) m)))
-
-pub target_there : (m : List ℕ) (at n r : ℕ) → 3 ≤ n → r ≡ get_or m (at + 2) 0 → r ≡ get_or (fields_at m at n) 1 0
-target_there m at n r h e =
-    let k : at + 2 ≡ at + 1 + 1 = omega arith in
-    e ∙ ap (λ (i : ℕ). get_or m i 0) k ∙ sym (field_at m at (n - 1) 1 (omega arith))
 
 abbrev pub left_from : List ℕ → ℕ → List (List ℕ)
 left_from l at = (split (drop at l)).records
 
-module _ (l : List ℕ) (at size : ℕ) (e : size ≡ size_at l at) where
-  is_record : (c : Cut) → (size ≡ 0 → ⊥) → size ≡ size_of c → cut_at l at ≡ c → cut_at l at ≡ Record (size - 1)
-  is_record (Record n) d q p = let z : n ≡ size - 1 = omega arith in p ∙ ap Record z
-  is_record End d q p = absurd (d q)
-  is_record Broken d q p = absurd (d q)
+module _ (l : List ℕ) (at fields : ℕ) (e : Record fields ≡ cut_at l at) where
+  pub within : at + (fields + 1) ≤ length l
+  within = let h = record_within l at e in omega arith
 
-  here : (size ≡ 0 → ⊥) → cut_at l at ≡ Record (size - 1)
-  here d = is_record (cut_at l at) d e refl
-
-  pub within : (size ≡ 0 → ⊥) → at + size ≤ length l
-  within d = let h = record_within l at (sym (here d)) in omega arith
-
-  left_next : (size ≡ 0 → ⊥) → left_from l at ≡ fields_at l at size ∷ left_from l (at + size)
-  left_next d =
-      let z : at + 1 + (size - 1) ≡ at + size = omega arith in
-      ap (λ (t : read.Cut). t.records) (split_as l at (sym (here d)) ∙ ap (λ (j : ℕ). read.before (fields_at l at size) (split (drop j l))) z)
-
-  none_left : (c : Cut) → size ≡ 0 → size ≡ size_of c → cut_at l at ≡ c → left_from l at ≡ []
-  none_left (Record n) z q p = absurd (omega arith)
-  none_left End z q p = ap (λ (t : read.Cut). t.records) (split_as l at (sym p))
-  none_left Broken z q p = ap (λ (t : read.Cut). t.records) (split_as l at (sym p))
+  left_next : left_from l at ≡ fields_at l at (fields + 1) ∷ left_from l (at + (fields + 1))
+  left_next =
+      let z : at + 1 + fields ≡ at + (fields + 1) = omega arith in
+      let k : fields ≡ fields + 1 - 1 = omega arith in
+      ap (λ (t : read.Cut). t.records) (split_as l at e)
+      ∙ ap₂ (λ (n j : ℕ). take n (drop (at + 1) l) ∷ left_from l j) k z
 
   -- a loop over the statements: what is left to count
-  pub tally_next : (s s' : List ℕ) (i t : ℕ) → (size ≡ 0 → ⊥) → s' ≡ raised s i → i ≡ 4 * t → t ≡ get_or (fields_at l at size) 1 0 → tally s' (left_from l (at + size)) ≡ tally s (left_from l at)
+  pub tally_next : (s s' : List ℕ) (i t : ℕ) → s' ≡ raised s i → i ≡ 4 * t → t ≡ get_or (fields_at l at (fields + 1)) 1 0 → tally s' (left_from l (at + (fields + 1))) ≡ tally s (left_from l at)
   unfolding tally
-  tally_next s s' i t d p q r =
-      ap (λ (x : List ℕ). tally x (left_from l (at + size))) (p ∙ ap (raised s) (q ∙ ap (λ (k : ℕ). 4 * k) r))
-      ∙ sym (ap (tally s) (left_next d))
+  tally_next s s' i t p q r =
+      ap (λ (x : List ℕ). tally x (left_from l (at + (fields + 1)))) (p ∙ ap (raised s) (q ∙ ap (λ (k : ℕ). 4 * k) r))
+      ∙ sym (ap (tally s) left_next)
 
-  pub tally_stop : (s : List ℕ) → size ≡ 0 → tally s (left_from l at) ≡ s
-  unfolding tally
-  tally_stop s z = ap (tally s) (none_left (cut_at l at) z e refl)
-
-split_none : (split []).records ≡ []
-unfolding split
-split_none = refl
-
-pub tally_end : (s m : List ℕ) (at : ℕ) → length m ≤ at → tally s (left_from m at) ≡ s
+pub tally_stop : (l : List ℕ) (at : ℕ) (s : List ℕ) (c : Cut) → c ≡ cut_at l at → ((n : ℕ) → c ≡ Record n → ⊥) → tally s (left_from l at) ≡ s
 unfolding tally
-tally_end s m at h = ap (tally s) (ap (λ (x : List ℕ). (split x).records) (drop_of_length-le m h) ∙ split_none)
+tally_stop l at s c e other = ap (tally s) (go c e other)
+  where
+    go : (c : Cut) → c ≡ cut_at l at → ((n : ℕ) → c ≡ Record n → ⊥) → left_from l at ≡ []
+    go (Record n) p other = absurd (other n refl)
+    go End p other = ap (λ (t : read.Cut). t.records) (split_as l at p)
+    go Broken p other = ap (λ (t : read.Cut). t.records) (split_as l at p)
 
 -- FOUR WORDS
 

@@ -1,14 +1,8 @@
 -- 11, judged on the words of a model.
 use Rattle.std.specs.Prelude.{◌≡◌, List, ℕ}
-use Rattle.std.specs.Prelude.{Option, None, Some}
 use Rattle.recorder.specs.Record.{Signal, Stmt}
 use Rattle.lowering.specs.Lower.{overdriven_from}
-use Rattle.conflict.specs.declared.Conflict as c
 use Rattle.conflict.specs.Counting.{counted, lowest_from, restored}
-
-abbrev pub found_of : c.Conflict → Option ℕ
-found_of c.TheVariants.Absent = None
-found_of (c.TheVariants.Signal s) = Some s
 
 -- THE LAW (proofs/Marked): where the words hold the signals xs and the statements ts, zeros behind both, the answer is the
 -- lowest overdriven signal, and the signals are left as they were

@@ -7,15 +7,31 @@ use native.Mathlib.Omega.{arith}
 use lib.ListN.{length, replicate, length-replicate}
 use borrow.Author.Tests.{ltb-false}
 use Rattle.bits.specs.Bits.{pick}
+use Rattle.std.specs.Prelude.{Result, Ok, Err}
+use Rattle.refusal.specs.declared.Refusal.{Refusal}
 use Rattle.refusal.specs.declared.Refusal.TheVariants.{BufferTooShort}
+use Rattle.recorder.specs.declared.Tapes.{Tapes}
 use Rattle.netlist.specs.declared.Limits.{Limits}
 use Rattle.netlist.specs.Reader.{base}
 use Rattle.recorder.specs.Lists.{Lists, lists}
 use Rattle.recorder.specs.Words.{zeroed, blank}
 use Rattle.lowering.specs.Lower.{Refused, lower_words}
 use Rattle.converter.specs.Steps.{Within}
-use Rattle.converter.specs.declared.Lowered as c
-use Rattle.converter.specs.Entry.{answer_of, short, any_short, call_of, Lowers, LowersWithin, LowersLists, kept, blank_of, Keeps, Ready, Attempts, ZerosTwo, ZerosThree, ZerosFive}
+use Rattle.converter.specs.Entry.{answer_of, short, any_short, call_of, Lowers, LowersWithin, LowersLists, kept, blank_of, Keeps, Ready, Attempts}
+
+-- zeros of the same lengths
+pub record ZerosTwo (a b a' b' : List ℕ) : Type 0 where
+  pub first : a' ≡ zeroed a
+  pub second : b' ≡ zeroed b
+
+pub record ZerosThree (a b c a' b' c' : List ℕ) : Type 0 where
+  pub first : a' ≡ zeroed a
+  pub second : b' ≡ zeroed b
+  pub third : c' ≡ zeroed c
+
+pub record ZerosFive (a b c d e a' b' c' d' e' : List ℕ) : Type 0 where
+  pub two : ZerosTwo a b a' b'
+  pub three : ZerosThree c d e c' d' e'
 
 -- SHORT OR LONG
 
@@ -69,11 +85,11 @@ module _ (limits : Limits) (words s e t : List ℕ) (a b d f g : List ℕ) where
   by_short v q = ap (λ (y : Bool). pick y (record { answer = Refused 1 16384; lists = blank (length s) (length e) (length t) }) (lower_words limits words (length s) (length e) (length t))) q
 
   pub works_short : {s₁ e₁ t₁ : List ℕ} {v : Bool} → ZerosThree s e t s₁ e₁ t₁ → v ≡ any_short (lengths a b d f g) → v ≡ true
-      → LowersLists limits words (lists s e t) (five a b d f g) (c.TheVariants.Refused (BufferTooShort 16384)) (lists s₁ e₁ t₁)
+      → LowersLists limits words (lists s e t) (five a b d f g) (Err (BufferTooShort 16384)) (lists s₁ e₁ t₁)
   works_short z q p = record { so = λ w. ap (λ (y : Lists). record { answer = Refused 1 16384; lists = y }) (zeroed_lists z) ∙ sym (by_short true (sym q ∙ p)) }
 
   pub works_done : {s₁ e₁ t₁ : List ℕ} {v : Bool} {a₁ b₁ : List ℕ} → ZerosThree s e t s₁ e₁ t₁ → v ≡ any_short (lengths a b d f g) → v ≡ false → ZerosTwo a b a₁ b₁
-      → {r : c.Lowered} (s₂ e₂ t₂ : List ℕ) → Attempts limits words (lists s₁ e₁ t₁) a₁ b₁ d f g r (lists s₂ e₂ t₂) → length s₂ ≡ length s₁ → length e₂ ≡ length e₁ → length t₂ ≡ length t₁
+      → {r : Result Tapes Refusal} (s₂ e₂ t₂ : List ℕ) → Attempts limits words (lists s₁ e₁ t₁) a₁ b₁ d f g r (lists s₂ e₂ t₂) → length s₂ ≡ length s₁ → length e₂ ≡ length e₁ → length t₂ ≡ length t₁
       → {l₃ : Lists} → Keeps r (lists s₂ e₂ t₂) l₃ → LowersLists limits words (lists s e t) (five a b d f g) r l₃
   works_done {s₁} {e₁} {t₁} z q p y {r} s₂ e₂ t₂ tried ls le lt {l₃} keeps =
       let ms : length s₂ ≡ length s = ls ∙ same_zeros s s₁ z.first in
@@ -89,7 +105,7 @@ module _ (limits : Limits) (words s e t : List ℕ) (a b d f g : List ℕ) where
 
 -- THE WORKS
 
-pub within_done : {limits : Limits} {words : List ℕ} {l : Lists} {a b d f g : List ℕ} {r : c.Lowered} {l' : Lists} (a₁ b₁ d₁ f₁ g₁ : List ℕ) {a₂ b₂ d₂ f₂ g₂ : List ℕ}
+pub within_done : {limits : Limits} {words : List ℕ} {l : Lists} {a b d f g : List ℕ} {r : Result Tapes Refusal} {l' : Lists} (a₁ b₁ d₁ f₁ g₁ : List ℕ) {a₂ b₂ d₂ f₂ g₂ : List ℕ}
     → LowersLists limits words l (five a b d f g) r l' → length a₁ ≡ length a → length b₁ ≡ length b → length d₁ ≡ length d → length f₁ ≡ length f → length g₁ ≡ length g
     → ZerosFive a₁ b₁ d₁ f₁ g₁ a₂ b₂ d₂ f₂ g₂ → LowersWithin limits words l (five a b d f g) r l' (five a₂ b₂ d₂ f₂ g₂)
 within_done a₁ b₁ d₁ f₁ g₁ h la lb ld lf lg z = record {
@@ -104,5 +120,5 @@ within_done a₁ b₁ d₁ f₁ g₁ h la lb ld lf lg z = record {
 within_base : Within base
 within_base = record { wires = omega arith; width = omega arith; cells = omega arith }
 
-pub base_done : {limits : Limits} {words : List ℕ} {l : Lists} {works : List (List ℕ)} {r : c.Lowered} {l' : Lists} {works' : List (List ℕ)} → limits ≡ base → LowersWithin limits words l works r l' works' → Lowers base words l works r l' works'
+pub base_done : {limits : Limits} {words : List ℕ} {l : Lists} {works : List (List ℕ)} {r : Result Tapes Refusal} {l' : Lists} {works' : List (List ℕ)} → limits ≡ base → LowersWithin limits words l works r l' works' → Lowers base words l works r l' works'
 base_done {words = words} {l = l} {works = works} {r = r} {l' = l'} {works' = works'} e h = subst (λ (k : Limits). Lowers k words l works r l' works') e (h.so (subst Within (sym e) within_base))

@@ -5,22 +5,25 @@ use Prim.Native.Nat.{ℕ, suc, ◌+◌, ◌-◌, ◌≤◌, ◌<◌}
 use native.Mathlib.Numerals.{add-one}
 use native.Mathlib.Omega.{arith}
 use lib.ListN.{length}
+use Rattle.std.specs.Prelude.{Result, IsErrAnd}
 use Rattle.refusal.specs.declared.Refusal.{Refusal}
+use Rattle.refusal.specs.Refusal.{number_of, place_of}
 use Rattle.netlist.specs.declared.Limits.{Limits}
 use Rattle.netlist.specs.Netlist.{Cell, Port}
 use Rattle.netlist.specs.Fields.{records_at, end_at, cell_at, cell_end, cells_at, port_at, port_end, ports_at}
 use Rattle.netlist.specs.Shape.{FitsCell, FitsPort}
 use Rattle.netlist.proofs.RecordLaws.{end_more}
-use Rattle.recorder.specs.declared.Tapes.{Tapes}
-use Rattle.recorder.specs.declared.Stated.{Stated}
-use Rattle.recorder.specs.declared.Stated.TheVariants as S
-use Rattle.recorder.specs.Writer.{Writer, pure, ◌>>=◌}
-use Rattle.recorder.specs.Lists.{Lists, lists, Wrote, stated}
-use Rattle.recorder.proofs.Wrote.{wrote_pure, Going, going_start, going_step, going_stop, going_end}
+use Rattle.recorder.specs.declared.Recorder.{Recorder}
+use Rattle.recorder.specs.Writer.{Writer, End, End.ok, End.no, pure, ◌>>=◌}
+use Rattle.recorder.specs.Calls.{SameLists, Writes, ended}
+use Rattle.recorder.proofs.Calls.{same_lists, handed, writes_pure, Underway, underway_start, underway_step, underway_stop, underway_end}
+use Rattle.wires.specs.declared.Emitter.{Emitter}
 use Rattle.wires.specs.declared.Constants.{Constants}
-use Rattle.wires.specs.Wires.{Wires}
+use Rattle.wires.specs.Wires.{Wires, wires_in}
+use Rattle.address_mux.specs.declared.Works.{Works}
+use Rattle.address_mux.specs.Candidates.{SameWorks}
 use Rattle.lowering.specs.Emit.{emit_cell, emit_cells, emit_outputs}
-use Rattle.converter.specs.Emits.{Emits, emit_output, Old, OldAfter, CellFits, CellsFit, PortsFit, EmitsCell, EmitsCells, EmitsPort, EmitsPorts}
+use Rattle.converter.specs.Emits.{Emits, emit_output, SameEmitter, Old, OldAfter, cell_writer, CellFits, CellsFit, PortsFit, EmitsCell, EmitsCells, EmitsPort, EmitsPorts}
 
 unfoldable pub each_of : {A : Type 0} → (ℕ → A → Writer (Unit {0})) → ℕ → List A → Writer (Unit {0})
 each_of f i [] = pure tt
@@ -52,26 +55,24 @@ module _ {A : Type 0} (f : ℕ → A → Writer (Unit {0})) (value : ℕ → A) 
   unfolding left each_of records_at
   left_done i h = ap (λ (k : ℕ). each_of f i (records_at value next k (end_at next i at))) (none_left n i h)
 
-  -- lists and tapes at the start and now, where the loop is at record i
-  pub record Emitting (P : Limits → Type 0) (whole : Writer (Unit {0})) (l₀ : Lists) (t₀ : Tapes) (l : Lists) (t : Tapes) (i : ℕ) : Type 0 where
-    pub goes : (limits : Limits) → P limits → Going l₀ t₀ whole l t (left i)
+  -- the loop is at record i
+  pub record Emitting (P : Limits → Type 0) (whole : Writer (Unit {0})) (r₀ r : Recorder) (i : ℕ) : Type 0 where
+    pub goes : (limits : Limits) → P limits → Underway r₀ whole r (left i)
 
-  module _ {P : Limits → Type 0} {whole : Writer (Unit {0})} {l₀ : Lists} {t₀ : Tapes} where
-    pub emitting_start : whole ≡ each_of f 0 (records_at value next n at) → Emitting P whole l₀ t₀ l₀ t₀ 0
-    emitting_start e = record { goes = λ limits p. going_start (e ∙ left_all) }
+  module _ {P : Limits → Type 0} {whole : Writer (Unit {0})} {r₀ : Recorder} where
+    pub emitting_start : whole ≡ each_of f 0 (records_at value next n at) → Emitting P whole r₀ r₀ 0
+    emitting_start e = record { goes = λ limits p. underway_start (e ∙ left_all) }
 
-    module _ {l : Lists} {t : Tapes} {i : ℕ} (now : Emitting P whole l₀ t₀ l t i) where
-      module _ (inside : i < n) (r : Stated) {l₁ : Lists} (h : (limits : Limits) → P limits → Wrote l t (f i (value (end_at next i at))) (stated r) l₁) where
-        pub emitting_step : {u : Tapes} → r ≡ S.Done u → Emitting P whole l₀ t₀ l₁ u (i + 1)
-        emitting_step d = record { goes = λ limits p. going_step (λ u. left (i + 1)) (now.goes limits p) (left_more i inside) (h limits p) (ap stated d) }
+    module _ {r : Recorder} {i : ℕ} (now : Emitting P whole r₀ r i) where
+      module _ (inside : i < n) where
+        pub emitting_step : {r₁ : Recorder} → ((limits : Limits) → P limits → Writes r (f i (value (end_at next i at))) (ok tt) r₁) → Emitting P whole r₀ r₁ (i + 1)
+        emitting_step h = record { goes = λ limits p. underway_step (λ u. left (i + 1)) (now.goes limits p) (left_more i inside) (h limits p) refl }
 
-        pub emitting_stop : {x : Refusal} → r ≡ S.Refused x → Emits P l₀ t₀ whole r l₁
-        emitting_stop d = record {
-          so = λ limits p. subst (λ (y : Stated). Wrote l₀ t₀ whole (stated y) l₁) (sym d) (going_stop (λ u. left (i + 1)) (now.goes limits p) (left_more i inside) (h limits p) (ap stated d));
-        }
+        pub emitting_stop : {number place : ℕ} {r₁ : Recorder} → ((limits : Limits) → P limits → Writes r (f i (value (end_at next i at))) (no number place) r₁) → (limits : Limits) → P limits → Writes r₀ whole (no number place) r₁
+        emitting_stop h limits p = underway_stop (λ u. left (i + 1)) (now.goes limits p) (left_more i inside) (h limits p) refl
 
-      pub emitting_end : n ≤ i → Emits P l₀ t₀ whole (S.Done t) l
-      emitting_end h = record { so = λ limits p. going_end (now.goes limits p) (left_done i h) wrote_pure }
+      pub emitting_end : n ≤ i → (limits : Limits) → P limits → Writes r₀ whole (ok tt) r
+      emitting_end h limits p = underway_end (now.goes limits p) (left_done i h) writes_pure
 
 -- CELLS
 
@@ -80,59 +81,81 @@ unfolding emit_cells each_of
 cells_each shared m z i [] = refl
 cells_each shared m z i (x ∷ xs) = ap (λ (k : Writer (Unit {0})). emit_cell shared m z i x >>= λ u. k) (cells_each shared m z (suc i) xs)
 
--- the map, the constants' signals, the words, both works and the table of what has been read at entry
-module _ (m : Wires) (z : Constants) (words : List ℕ) (at n : ℕ) (parts₀ values₀ seen₀ : List ℕ) where
+pub same_emitter : {e e' e'' : Emitter} → SameEmitter e e' → SameEmitter e' e'' → SameEmitter e e''
+same_emitter h g = record { recorder = g.recorder ∙ h.recorder; lists = same_lists h.lists g.lists; seen = g.seen ∙ h.seen; map = g.map ∙ h.map; size = g.size ∙ h.size }
+
+pub same_works : {w w' w'' : Works} → SameWorks w w' → SameWorks w' w'' → SameWorks w w''
+same_works h g = record { parts = g.parts ∙ h.parts; values = g.values ∙ h.values; parts_size = g.parts_size ∙ h.parts_size; values_size = g.values_size ∙ h.values_size }
+
+-- the emitter and the works at entry, and the words
+module _ (e₀ : Emitter) (works₀ : Works) (words : List ℕ) (at n : ℕ) where
+  abbrev one_cell : ℕ → Cell → Writer (Unit {0})
+  one_cell i x = cell_writer e₀ i x
+
+  abbrev whole_cells : Writer (Unit {0})
+  whole_cells = emit_cells (length e₀.seen.now) (wires_in e₀.map) e₀.map.constants 0 (cells_at words at n)
+
   -- the cells fit, and the table is old at the loop's start
-  abbrev pub Begins : Tapes → Limits → Type 0
-  Begins t₀ limits = CellsFit parts₀ values₀ words at n limits × Old t₀ seen₀
+  abbrev Starts : Limits → Type 0
+  Starts limits = CellsFit works₀ words at n limits × Old e₀
 
   -- and the table is old now
-  pub record CellsLoop (l₀ : Lists) (t₀ : Tapes) (l : Lists) (t : Tapes) (seen : List ℕ) (i : ℕ) : Type 0 where
-    pub goes : Emitting (emit_cell (length seen₀) m z) (cell_at words) (cell_end words) n at (Begins t₀) (emit_cells (length seen₀) m z 0 (cells_at words at n)) l₀ t₀ l t i
-    pub old : (limits : Limits) → Begins t₀ limits → Old t seen
+  pub record CellsLoop (e : Emitter) (works : Works) (i : ℕ) : Type 0 where
+    pub same : SameEmitter e₀ e
+    pub lent : SameWorks works₀ works
+    pub goes : Emitting one_cell (cell_at words) (cell_end words) n at Starts whole_cells e₀.recorder.now e.recorder.now i
+    pub old : (limits : Limits) → Starts limits → Old e
 
   -- where the code is
   abbrev pub CellIs : ℕ → ℕ → Type 0
-  CellIs i place = (limits : Limits) → CellsFit parts₀ values₀ words at n limits → place ≡ end_at (cell_end words) i at
+  CellIs i place = (limits : Limits) → CellsFit works₀ words at n limits → place ≡ end_at (cell_end words) i at
 
-  pub cells_start : (l₀ : Lists) (t₀ : Tapes) → CellsLoop l₀ t₀ l₀ t₀ seen₀ 0
-  cells_start l₀ t₀ = record {
-    goes = emitting_start (emit_cell (length seen₀) m z) (cell_at words) (cell_end words) n at (cells_each (length seen₀) m z 0 (cells_at words at n));
+  pub cells_start : CellsLoop e₀ works₀ 0
+  cells_start = record {
+    same = record { recorder = refl; lists = record { signals = refl; exprs = refl; stmts = refl }; seen = refl; map = refl; size = refl };
+    lent = record { parts = refl; values = refl; parts_size = refl; values_size = refl };
+    goes = emitting_start one_cell (cell_at words) (cell_end words) n at (cells_each (length e₀.seen.now) (wires_in e₀.map) e₀.map.constants 0 (cells_at words at n));
     old = λ limits p. p.1;
   }
 
-  module _ {l₀ : Lists} {t₀ : Tapes} {l : Lists} {t : Tapes} {seen : List ℕ} {i : ℕ} (now : CellsLoop l₀ t₀ l t seen i) where
-    module _ {place : ℕ} (is : CellIs i place) (inside : i < n) (parts values : List ℕ) (in_parts : length parts ≡ length parts₀) (in_values : length values ≡ length values₀) (in_seen : length seen ≡ length seen₀)
-        (r : Stated) (l₁ : Lists) (seen₁ : List ℕ) (h : EmitsCell l parts values seen t m z i (cell_at words place) r l₁ seen₁) where
-      fits_one : (limits : Limits) → Begins t₀ limits → CellFits parts values (cell_at words place) limits
-      fits_one limits p = (omega (arith, p.0.0, in_parts), omega (arith, p.0.1, in_values), subst (λ (k : ℕ). FitsCell limits (cell_at words k)) (sym (is limits p.0)) (p.0.2.fit i inside))
+  module _ {e : Emitter} {works : Works} {i : ℕ} (now : CellsLoop e works i) where
+    module _ {place : ℕ} (is : CellIs i place) (inside : i < n) where
+      abbrev x : Cell
+      x = cell_at words place
 
-      cells_one : (limits : Limits) → Begins t₀ limits → Wrote l t (emit_cell (length seen₀) m z i (cell_at words (end_at (cell_end words) i at))) (stated r) l₁
-      cells_one limits p =
-          subst (λ (k : ℕ). Wrote l t (emit_cell (length seen₀) m z i (cell_at words k)) (stated r) l₁) (is limits p.0)
-          (subst (λ (k : ℕ). Wrote l t (emit_cell k m z i (cell_at words place)) (stated r) l₁) in_seen (h.so limits (fits_one limits p) (now.old limits p)))
+      fits_one : (limits : Limits) → Starts limits → CellFits works x limits
+      fits_one limits p = (omega (arith, p.0.0, now.lent.parts_size), omega (arith, p.0.1, now.lent.values_size), subst (λ (k : ℕ). FitsCell limits (cell_at words k)) (sym (is limits p.0)) (p.0.2.fit i inside))
 
-      pub cells_step : {u : Tapes} → r ≡ S.Done u → CellsLoop l₀ t₀ l₁ u seen₁ (i + 1)
-      cells_step {u} d = record {
-        goes = emitting_step (emit_cell (length seen₀) m z) (cell_at words) (cell_end words) n at now.goes inside r cells_one d;
-        old = λ limits p. subst (λ (x : Stated). OldAfter (stated x) seen₁) d (h.old limits (fits_one limits p) (now.old limits p));
+      same_writer : cell_writer e i x ≡ one_cell i x
+      same_writer = λ j. emit_cell (now.same.size j) (wires_in (now.same.map j)) (now.same.map j).constants i x
+
+      module _ {r : End (Unit {0})} {e₁ : Emitter} (h : EmitsCell e works i x r e₁) where
+        cells_one : (limits : Limits) → Starts limits → Writes e.recorder.now (one_cell i (cell_at words (end_at (cell_end words) i at))) r e₁.recorder.now
+        cells_one limits p =
+            subst (λ (k : ℕ). Writes e.recorder.now (one_cell i (cell_at words k)) r e₁.recorder.now) (is limits p.0)
+            (subst (λ (w : Writer (Unit {0})). Writes e.recorder.now w r e₁.recorder.now) same_writer (h.so limits (fits_one limits p) (now.old limits p)))
+
+      pub cells_step : {e₁ : Emitter} {works₁ : Works} → EmitsCell e works i x (ok tt) e₁ → SameWorks works works₁ → CellsLoop e₁ works₁ (i + 1)
+      cells_step h w = record {
+        same = same_emitter now.same h.same;
+        lent = same_works now.lent w;
+        goes = emitting_step one_cell (cell_at words) (cell_end words) n at now.goes inside (cells_one h);
+        old = λ limits p. h.old limits (fits_one limits p) (now.old limits p);
       }
 
-      pub cells_stop : {x : Refusal} → r ≡ S.Refused x → EmitsCells l₀ parts₀ values₀ seen₀ t₀ m z words at n r l₁ seen₁
-      cells_stop {x} d =
-          let all = emitting_stop (emit_cell (length seen₀) m z) (cell_at words) (cell_end words) n at now.goes inside r cells_one d in
-          record {
-            so = λ limits p old. all.so limits (p, old);
-            old = λ limits p old. subst (λ (x : Stated). OldAfter (stated x) seen₁) (sym d) tt;
-          }
+      pub cells_err : (y : Refusal) {e₁ : Emitter} → EmitsCell e works i x (no (number_of y) (place_of y)) e₁ → {C : Type 0} (g : C → Unit {0}) (q : Result C Refusal) → IsErrAnd q (λ z. z ≡ y) → EmitsCells e₀ works₀ words at n (ended g q) e₁
+      cells_err y {e₁} h g q d = subst (λ (r : End (Unit {0})). EmitsCells e₀ works₀ words at n r e₁) (sym (handed g q y d)) (record {
+        same = same_emitter now.same h.same;
+        so = λ limits p old. emitting_stop one_cell (cell_at words) (cell_end words) n at now.goes inside (cells_one h) limits (p, old);
+        old = λ limits p old. tt;
+      })
 
-    pub cells_end : n ≤ i → EmitsCells l₀ parts₀ values₀ seen₀ t₀ m z words at n (S.Done t) l seen
-    cells_end h =
-        let all = emitting_end (emit_cell (length seen₀) m z) (cell_at words) (cell_end words) n at now.goes h in
-        record {
-          so = λ limits p old. all.so limits (p, old);
-          old = λ limits p old. now.old limits (p, old);
-        }
+    pub cells_end : n ≤ i → EmitsCells e₀ works₀ words at n (ok tt) e
+    cells_end h = record {
+      same = now.same;
+      so = λ limits p old. emitting_end one_cell (cell_at words) (cell_end words) n at now.goes h limits (p, old);
+      old = λ limits p old. now.old limits (p, old);
+    }
 
 -- PORTS
 
@@ -141,30 +164,38 @@ unfolding emit_outputs each_of
 ports_each m i [] = refl
 ports_each m i (x ∷ xs) = ap (λ (k : Writer (Unit {0})). emit_output m i x >>= λ u. k) (ports_each m (suc i) xs)
 
-module _ (m : Wires) (words : List ℕ) (at n : ℕ) (parts₀ : List ℕ) where
-  -- whatever the signals hold
-  abbrev pub PortsLoop : List ℕ → List ℕ → Tapes → List ℕ → List ℕ → Tapes → ℕ → Type 0
-  PortsLoop e₀ s₀ t₀ e s t i =
-      (l : List ℕ) → Emitting (emit_output m) (port_at words) (port_end words) n at (PortsFit parts₀ words at n) (emit_outputs m 0 (ports_at words at n)) (lists l e₀ s₀) t₀ (lists l e s) t i
+module _ (m : Wires) (words : List ℕ) (at n : ℕ) (parts₀ : List ℕ) (r₀ : Recorder) where
+  pub record PortsLoop (r : Recorder) (parts : List ℕ) (i : ℕ) : Type 0 where
+    pub same : SameLists r₀ r
+    pub size : length parts ≡ length parts₀
+    pub goes : Emitting (emit_output m) (port_at words) (port_end words) n at (PortsFit parts₀ words at n) (emit_outputs m 0 (ports_at words at n)) r₀ r i
 
   abbrev pub PortIs : ℕ → ℕ → Type 0
   PortIs i place = (limits : Limits) → PortsFit parts₀ words at n limits → place ≡ end_at (port_end words) i at
 
-  pub ports_start : (e₀ s₀ : List ℕ) (t₀ : Tapes) → PortsLoop e₀ s₀ t₀ e₀ s₀ t₀ 0
-  ports_start e₀ s₀ t₀ l = emitting_start (emit_output m) (port_at words) (port_end words) n at (ports_each m 0 (ports_at words at n))
+  pub ports_start : PortsLoop r₀ parts₀ 0
+  ports_start = record {
+    same = record { signals = refl; exprs = refl; stmts = refl };
+    size = refl;
+    goes = emitting_start (emit_output m) (port_at words) (port_end words) n at (ports_each m 0 (ports_at words at n));
+  }
 
-  module _ {e₀ s₀ : List ℕ} {t₀ : Tapes} {e s : List ℕ} {t : Tapes} {i : ℕ} (now : PortsLoop e₀ s₀ t₀ e s t i) where
-    module _ {place : ℕ} (is : PortIs i place) (inside : i < n) (parts : List ℕ) (in_parts : length parts ≡ length parts₀) (r : Stated) (e₁ s₁ : List ℕ) (h : EmitsPort e s parts t m i (port_at words place) r e₁ s₁) where
-      ports_one : (l : List ℕ) (limits : Limits) → PortsFit parts₀ words at n limits → Wrote (lists l e s) t (emit_output m i (port_at words (end_at (port_end words) i at))) (stated r) (lists l e₁ s₁)
-      ports_one l limits p =
-          subst (λ (k : ℕ). Wrote (lists l e s) t (emit_output m i (port_at words k)) (stated r) (lists l e₁ s₁)) (is limits p)
-          ((h l).so limits (omega (arith, p.0, in_parts), subst (λ (k : ℕ). FitsPort limits (port_at words k)) (sym (is limits p)) (p.1.fit i inside)))
+  module _ {r : Recorder} {parts : List ℕ} {i : ℕ} (now : PortsLoop r parts i) where
+    module _ {place : ℕ} (is : PortIs i place) (inside : i < n) where
+      module _ {e : End (Unit {0})} {r₁ : Recorder} (h : EmitsPort r parts m i (port_at words place) e r₁) where
+        ports_one : (limits : Limits) → PortsFit parts₀ words at n limits → Writes r (emit_output m i (port_at words (end_at (port_end words) i at))) e r₁
+        ports_one limits p =
+            subst (λ (k : ℕ). Writes r (emit_output m i (port_at words k)) e r₁) (is limits p)
+            (h.so limits (omega (arith, p.0, now.size), subst (λ (k : ℕ). FitsPort limits (port_at words k)) (sym (is limits p)) (p.1.fit i inside)))
 
-      pub ports_step : {u : Tapes} → r ≡ S.Done u → PortsLoop e₀ s₀ t₀ e₁ s₁ u (i + 1)
-      ports_step d l = emitting_step (emit_output m) (port_at words) (port_end words) n at (now l) inside r (ports_one l) d
+      pub ports_step : {r₁ : Recorder} {parts₁ : List ℕ} → length parts₁ ≡ length parts → EmitsPort r parts m i (port_at words place) (ok tt) r₁ → PortsLoop r₁ parts₁ (i + 1)
+      ports_step k h = record { same = same_lists now.same h.same; size = k ∙ now.size; goes = emitting_step (emit_output m) (port_at words) (port_end words) n at now.goes inside (ports_one h) }
 
-      pub ports_stop : {x : Refusal} → r ≡ S.Refused x → EmitsPorts e₀ s₀ parts₀ t₀ m words at n r e₁ s₁
-      ports_stop d l = emitting_stop (emit_output m) (port_at words) (port_end words) n at (now l) inside r (ports_one l) d
+      pub ports_err : (y : Refusal) {r₁ : Recorder} → EmitsPort r parts m i (port_at words place) (no (number_of y) (place_of y)) r₁ → {C : Type 0} (g : C → Unit {0}) (q : Result C Refusal) → IsErrAnd q (λ z. z ≡ y) → EmitsPorts r₀ parts₀ m words at n (ended g q) r₁
+      ports_err y {r₁} h g q d = subst (λ (e : End (Unit {0})). EmitsPorts r₀ parts₀ m words at n e r₁) (sym (handed g q y d)) (record {
+        same = same_lists now.same h.same;
+        so = emitting_stop (emit_output m) (port_at words) (port_end words) n at now.goes inside (ports_one h);
+      })
 
-    pub ports_end : n ≤ i → EmitsPorts e₀ s₀ parts₀ t₀ m words at n (S.Done t) e s
-    ports_end h l = emitting_end (emit_output m) (port_at words) (port_end words) n at (now l) h
+    pub ports_end : n ≤ i → EmitsPorts r₀ parts₀ m words at n (ok tt) r
+    ports_end h = record { same = now.same; so = emitting_end (emit_output m) (port_at words) (port_end words) n at now.goes h }

@@ -1,72 +1,80 @@
 -- A bank's wires one after the other, and its signal before them.
 use mathlib.Core.Path.{◌≡◌, refl, ap, sym, ◌∙◌, subst}
 use mathlib.Core.List.{List, [], ◌∷◌}
-use Prim.Native.Nat.{ℕ, suc, ◌+◌, ◌<◌}
+use Prim.Native.Nat.{ℕ, suc, ◌+◌, ◌≤◌, ◌<◌}
 use native.Mathlib.Numerals.{add-one}
 use native.Mathlib.Omega.{arith}
 use lib.ListN.{length}
+use Rattle.std.specs.Prelude.{Result, Ok, Err, IsErrAnd}
 use Rattle.netlist.specs.declared.Limits.{Limits}
 use Rattle.netlist.specs.declared.Bit.TheVariants.{Wire}
 use Rattle.netlist.specs.Shape.{Each, FitsWire}
 use Rattle.refusal.specs.declared.Refusal.{Refusal}
 use Rattle.behaviour.specs.Banks.{Member, outputs_of}
 use Rattle.recorder.specs.Writer.{Writer, declare, ◌>>=◌}
-use Rattle.recorder.proofs.Events.{bind_pure, bind_refuse}
-use Rattle.wires.specs.Wires.{WireRef, Wires, wires_of}
-use Rattle.converter.specs.declared.insert.Inserted.{Inserted}
-use Rattle.converter.specs.declared.insert.Inserted.TheVariants as I
+use Rattle.wires.specs.declared.WireRef as code
+use Rattle.wires.specs.Wires.{Wires, ref_in}
 use Rattle.lowering.specs.Reserve.{signal_of, insert_wire, insert_wires, reserve_vector}
-use Rattle.converter.specs.Tables.{quiet, Tabled, Inserts}
-use Rattle.converter.specs.Reserves.{Room}
-use Rattle.converter.proofs.Reserving.{room_tabled}
-use Rattle.converter.specs.Reserved.{TabledWires, InsertsWires, MembersFit}
+use Rattle.converter.specs.declared.Reserver.{Reserver}
+use Rattle.converter.specs.Tables.{map_in, Reserves, Small}
+use Rattle.converter.proofs.Reserving.{Under, Reserving, reserving_start, reserving_step, reserving_err, reserving_end}
 
--- THE WIRES
+-- THE WIRES: the members left are inserted, the next one at bit lsb
 
--- so far: what is left inserts the rest
-pub record Inserting (wires₀ places₀ ws : List ℕ) (s n : ℕ) (wires places : List ℕ) (lsb : ℕ) (rest : List ℕ) : Type 0 where
-  pub so : TabledWires wires₀ places₀ ws s n → insert_wires (wires_of wires₀ places₀) s n 0 ws ≡ insert_wires (wires_of wires places) s n lsb rest
-  pub tabled : TabledWires wires₀ places₀ ws s n → Each (Tabled wires₀ places₀) rest
-  pub placed : lsb + length rest ≡ length ws
+module _ (ms : List Member) (s n : ℕ) where
+  abbrev pub MembersFit : Limits → Type 0
+  MembersFit limits = Each (FitsWire limits) (outputs_of ms) × (s < 4294967295) × (n < 65536) × (length ms ≤ n)
 
-module _ {wires₀ places₀ ws : List ℕ} {s n : ℕ} where
-  pub inserting_start : {rest : List ℕ} → rest ≡ ws → Inserting wires₀ places₀ ws s n wires₀ places₀ 0 rest
-  inserting_start {rest} e = record {
-    so = λ h. ap (insert_wires (wires_of wires₀ places₀) s n 0) (sym e);
-    tabled = λ h. subst (Each (Tabled wires₀ places₀)) (sym e) h.tabled;
-    placed = omega (arith, ap length e);
-  }
+  pub record Inserting (r₀ r : Reserver) (lsb : ℕ) (rest : List Member) : Type 0 where
+    pub goes : Reserving MembersFit r₀ (insert_wires (map_in r₀) s n 0 (outputs_of ms)) r (insert_wires (map_in r) s n lsb (outputs_of rest))
+    pub fits : (limits : Limits) → MembersFit limits → Each (FitsWire limits) (outputs_of rest)
+    pub placed : lsb + length rest ≡ length ms
 
-  module _ {wires places : List ℕ} {lsb : ℕ} {rest : List ℕ} (now : Inserting wires₀ places₀ ws s n wires places lsb rest) where
-    module _ (in_ss : length wires ≡ length wires₀) (in_ps : length places ≡ length places₀) {w : ℕ} {more : List ℕ} (is : rest ≡ w ∷ more) (r : Inserted) (wires' places' : List ℕ) (h : Inserts wires places w s lsb n r wires' places') where
-      abbrev ref : WireRef
-      ref = record { signal = s; lsb = lsb; width = n }
+module _ {ms : List Member} {s n : ℕ} {r₀ : Reserver} where
+  pub inserting_start : Inserting ms s n r₀ r₀ 0 ms
+  inserting_start = record { goes = reserving_start refl; fits = λ limits p. p.0; placed = omega arith }
 
+  module _ {r : Reserver} {lsb : ℕ} {rest : List Member} (now : Inserting ms s n r₀ r lsb rest) where
+    module _ {x : Member} {more : List Member} (is : rest ≡ x ∷ more) {w : ℕ} (out : w ≡ x.flop.output) where
       abbrev after : Wires → Writer Wires
-      after m = insert_wires m s n (suc lsb) more
+      after m = insert_wires m s n (lsb + 1) (outputs_of more)
 
-      one : TabledWires wires₀ places₀ ws s n → insert_wire (wires_of wires places) (Wire w) ref ≡ quiet r (wires_of wires' places')
-      one t =
-          let q : Each (Tabled wires₀ places₀) (w ∷ more) = subst (Each (Tabled wires₀ places₀)) is (now.tabled t) in
-          h (omega (arith, q.0.0), omega (arith, q.0.1)) (record { numbered = t.numbered; placed = omega (arith, t.narrow, t.placed, now.placed, ap length is); narrow = t.narrow })
-
-      so_far : TabledWires wires₀ places₀ ws s n → insert_wires (wires_of wires₀ places₀) s n 0 ws ≡ (quiet r (wires_of wires' places') >>= after)
+      begins : insert_wires (map_in r) s n lsb (outputs_of rest) ≡ (insert_wire (map_in r) (Wire w) (record { signal = s; lsb = lsb; width = n }) >>= after)
       unfolding insert_wires
-      so_far t = now.so t ∙ ap (insert_wires (wires_of wires places) s n lsb) is ∙ ap (λ (x : Writer Wires). x >>= after) (one t)
+      begins =
+          ap (λ (l : List Member). insert_wires (map_in r) s n lsb (outputs_of l)) is
+          ∙ ap (λ (v : ℕ). insert_wire (map_in r) (Wire v) (record { signal = s; lsb = lsb; width = n }) >>= λ m. insert_wires m s n (suc lsb) (outputs_of more)) (sym out)
+          ∙ ap (λ (k : ℕ). insert_wire (map_in r) (Wire w) (record { signal = s; lsb = lsb; width = n }) >>= λ m. insert_wires m s n k (outputs_of more)) (sym (add-one lsb))
 
-      pub inserting_step : r ≡ I.Done → Inserting wires₀ places₀ ws s n wires' places' (lsb + 1) more
-      inserting_step d = record {
-        so = λ t. so_far t ∙ ap (λ (x : Inserted). quiet x (wires_of wires' places') >>= after) d ∙ bind_pure (wires_of wires' places') after ∙ ap (λ (k : ℕ). insert_wires (wires_of wires' places') s n k more) (sym (add-one lsb));
-        tabled = λ t. let q : Each (Tabled wires₀ places₀) (w ∷ more) = subst (Each (Tabled wires₀ places₀)) is (now.tabled t) in q.1;
-        placed = omega (arith, now.placed, ap length is);
-      }
+      more_fit : (limits : Limits) → MembersFit ms s n limits → FitsWire limits w × Each (FitsWire limits) (outputs_of more)
+      more_fit limits p =
+          let q : Each (FitsWire limits) (outputs_of (x ∷ more)) = subst (λ (l : List Member). Each (FitsWire limits) (outputs_of l)) is (now.fits limits p) in
+          (subst (FitsWire limits) (sym out) q.0, q.1)
 
-      pub inserting_stop : {x : Refusal} → r ≡ I.Refused x → InsertsWires wires₀ places₀ ws s n r wires' places'
-      inserting_stop {x} d = record { so = λ t. so_far t ∙ ap (λ (y : Inserted). quiet y (wires_of wires' places') >>= after) d ∙ bind_refuse _ _ after ∙ sym (ap (λ (y : Inserted). quiet y (wires_of wires' places')) d) }
+      under : (held : code.WireRef) → held.signal.0 ≡ s → held.lsb ≡ lsb → held.width ≡ n → Under r (MembersFit ms s n) (λ limits. FitsWire limits w × Small held)
+      under held a b c limits room p = ((more_fit limits p).0, record { numbered = omega (arith, a, p.1); placed = omega (arith, b, p.2, p.3, now.placed, ap length is); narrow = omega (arith, c, p.2) })
 
-    pub inserting_end : rest ≡ [] → InsertsWires wires₀ places₀ ws s n I.Done wires places
+      -- the code's entry
+      module _ {held : code.WireRef} (a : held.signal.0 ≡ s) (b : held.lsb ≡ lsb) (c : held.width ≡ n) where
+        entry_is : ref_in held ≡ record { signal = s; lsb = lsb; width = n }
+        entry_is = λ i. record { signal = a i; lsb = b i; width = c i }
+
+        same : {q : Result (Unit {0}) Refusal} {r₁ : Reserver} → Reserves (λ limits. FitsWire limits w × Small held) r (insert_wire (map_in r) (Wire w) (ref_in held)) q r₁ → Reserves (λ limits. FitsWire limits w × Small held) r (insert_wire (map_in r) (Wire w) (record { signal = s; lsb = lsb; width = n })) q r₁
+        same {q} {r₁} h = subst (λ e. Reserves (λ limits. FitsWire limits w × Small held) r (insert_wire (map_in r) (Wire w) e) q r₁) entry_is h
+
+        pub inserting_step : {r₁ : Reserver} → Reserves (λ limits. FitsWire limits w × Small held) r (insert_wire (map_in r) (Wire w) (ref_in held)) (Ok tt) r₁ → Inserting ms s n r₀ r₁ (lsb + 1) more
+        inserting_step h = record {
+          goes = reserving_step now.goes after (λ limits p. begins) (under held a b c) (same h);
+          fits = λ limits p. (more_fit limits p).1;
+          placed = omega (arith, now.placed, ap length is);
+        }
+
+        pub inserting_err : {y : Refusal} {r₁ : Reserver} → Reserves (λ limits. FitsWire limits w × Small held) r (insert_wire (map_in r) (Wire w) (ref_in held)) (Err y) r₁ → (q : Result (Unit {0}) Refusal) → IsErrAnd q (λ z. z ≡ y) → Reserves (MembersFit ms s n) r₀ (insert_wires (map_in r₀) s n 0 (outputs_of ms)) q r₁
+        inserting_err h q e = reserving_err now.goes after (λ limits p. begins) (under held a b c) (same h) q e
+
+    pub inserting_end : rest ≡ [] → Reserves (MembersFit ms s n) r₀ (insert_wires (map_in r₀) s n 0 (outputs_of ms)) (Ok tt) r
     unfolding insert_wires
-    inserting_end e = record { so = λ t. now.so t ∙ ap (insert_wires (wires_of wires places) s n lsb) e }
+    inserting_end e = reserving_end now.goes (λ limits p. ap (λ (l : List Member). insert_wires (map_in r) s n lsb (outputs_of l)) e)
 
 -- THE SIGNAL
 
@@ -78,10 +86,3 @@ outputs_length (m ∷ ms) = ap suc (outputs_length ms)
 pub bank_vector : (m : Wires) (owner : ℕ) (ms : List Member) {width : ℕ} → width ≡ length ms → reserve_vector m 7 owner (outputs_of ms) ≡ (declare (signal_of 7 width owner) >>= λ s. insert_wires m s width 0 (outputs_of ms))
 unfolding reserve_vector
 bank_vector m owner ms e = ap (λ (k : ℕ). declare (signal_of 7 k owner) >>= λ s. insert_wires m s k 0 (outputs_of ms)) (outputs_length ms ∙ sym e)
-
-room_each : {limits : Limits} {wires places : List ℕ} → Room limits wires places → (ws : List ℕ) → Each (FitsWire limits) ws → Each (Tabled wires places) ws
-room_each h [] f = tt
-room_each h (w ∷ ws) f = (room_tabled h w f.0, room_each h ws f.1)
-
-pub bank_tabled : {limits : Limits} {wires places : List ℕ} (ms : List Member) {s width : ℕ} → MembersFit wires places ms limits → width ≡ length ms → s < 4294967295 → TabledWires wires places (outputs_of ms) s width
-bank_tabled ms p e h = record { tabled = room_each p.0 (outputs_of ms) p.1; numbered = h; narrow = omega (arith, p.2, e); placed = omega (arith, e, outputs_length ms) }

@@ -18,12 +18,14 @@ use Rattle.netlist.specs.declared.Bit.{Bit}
 use Rattle.netlist.specs.declared.Bit.TheVariants.{Zero, One, Wire}
 use Rattle.netlist.specs.declared.Reset.{Reset}
 use Rattle.netlist.specs.Netlist.{FlipFlop, Cell, flip_flop, bit_of}
-use Rattle.netlist.specs.Fields.{word_at, when_set, reset_at, optional_reset_at, cell_at}
+use Rattle.netlist.specs.Fields.{word_at, when_set, reset_at, optional_reset_at, kind_at, cell_as, cell_at}
 use Rattle.netlist.specs.Shape.{FitsBit, FitsOption, FitsReset, FitsFlipFlop, FitsCell}
 use Rattle.netlist.specs.Reader.{same_bit}
 use Rattle.behaviour.specs.Banks.{Member, filter_async, async_reset, same_reset_control, same_bank, flip_flop_of, also, bank_in, joined, leaders_from}
 use Rattle.behaviour.proofs.BankLaws.{same_bit_self, same_bit_is, bank_end}
-use Rattle.converter.specs.Reserves.{of_kind}
+use Rattle.netlist.specs.declared.Kind.{Kind}
+use Rattle.netlist.specs.declared.Kind.TheVariants as K
+use Rattle.netlist.proofs.WordLaws.{cell_is}
 use Rattle.converter.specs.Banked.{word_of, clock_key, control_key, reset_key, flop_at, KeyOf, key_is, first_with, find_key, larger, Keyed, number_of, number_in, with_cell, JoinedBank}
 
 -- WORDS
@@ -221,48 +223,42 @@ larger_left a b h = ap (λ (t : Bool). pick t b a) (le-ltb a b h)
 pub larger_right : (a b : ℕ) → a < b → larger a b ≡ b
 larger_right a b h = ap (λ (t : Bool). pick t b a) (lt-ltb a b h)
 
-kind_none : (words : List ℕ) (i k : ℕ) → (k ≡ 5 → ⊥) → flip_flop_of (of_kind words i k) ≡ None
-kind_none words i zero h = refl
-kind_none words i (suc zero) h = refl
-kind_none words i (suc (suc zero)) h = refl
-kind_none words i (suc (suc (suc zero))) h = refl
-kind_none words i (suc (suc (suc (suc zero)))) h = refl
-kind_none words i (suc (suc (suc (suc (suc zero))))) h = absurd (h refl)
-kind_none words i (suc (suc (suc (suc (suc (suc zero)))))) h = refl
-kind_none words i (suc (suc (suc (suc (suc (suc (suc zero))))))) h = refl
-kind_none words i (suc (suc (suc (suc (suc (suc (suc (suc zero)))))))) h = refl
-kind_none words i (suc (suc (suc (suc (suc (suc (suc (suc (suc zero))))))))) h = refl
-kind_none words i (suc (suc (suc (suc (suc (suc (suc (suc (suc (suc zero)))))))))) h = refl
-kind_none words i (suc (suc (suc (suc (suc (suc (suc (suc (suc (suc (suc k))))))))))) h = refl
+kind_none : (words : List ℕ) (i : ℕ) (k : Kind) → (k ≡ K.FlipFlop → ⊥) → flip_flop_of (cell_as words k i) ≡ None
+kind_none words i K.Lut4 h = refl
+kind_none words i K.Pfumx h = refl
+kind_none words i K.L6mux21 h = refl
+kind_none words i K.Ccu2c h = refl
+kind_none words i K.Multiplier h = refl
+kind_none words i K.FlipFlop h = absurd (h refl)
+kind_none words i K.BlockRam h = refl
+kind_none words i K.DistributedRam h = refl
+kind_none words i K.Io h = refl
+kind_none words i K.Jtagg h = refl
+kind_none words i K.Pll h = refl
 
-module _ (words : List ℕ) (i : ℕ) {k : ℕ} (kind : k ≡ word_at words (i + 0)) where
-  here : word_at words i ≡ k
-  here = ap (word_at words) (sym (add-zero i)) ∙ sym kind
+pub no_flop : (words : List ℕ) (i : ℕ) → (kind_at words i ≡ K.FlipFlop → ⊥) → flip_flop_of (cell_at words i) ≡ None
+no_flop words i h = ap flip_flop_of (cell_is words i (kind_at words i) refl) ∙ kind_none words i (kind_at words i) h
 
-  pub no_flop : (k ≡ 5 → ⊥) → flip_flop_of (cell_at words i) ≡ None
-  unfolding cell_at
-  no_flop h = kind_none words i (word_at words i) (λ e. h (sym here ∙ e))
+pub a_flop : (words : List ℕ) (i : ℕ) → kind_at words i ≡ K.FlipFlop → cell_at words i ≡ flip_flop (flop_at words i)
+a_flop words i h = cell_is words i K.FlipFlop h
 
-  pub a_flop : k ≡ 5 → cell_at words i ≡ flip_flop (flop_at words i)
-  unfolding cell_at
-  a_flop h = ap (of_kind words i) (here ∙ h)
-
+module _ (words : List ℕ) (i : ℕ) where
   -- no flip-flop: nothing changes
-  pub join_none : (k ≡ 5 → ⊥) → (limits : Limits) (ls : List Member) (c : ℕ) (parts values : List ℕ) (count : ℕ) → Keyed limits ls parts values count → JoinedBank limits ls c (cell_at words i) count 0 parts values
+  pub join_none : (kind_at words i ≡ K.FlipFlop → ⊥) → (limits : Limits) (ls : List Member) (c : ℕ) (parts values : List ℕ) (count : ℕ) → Keyed limits ls parts values count → JoinedBank limits ls c (cell_at words i) count 0 parts values
   unfolding leaders_from
   join_none h limits ls c parts values count keyed =
-      let e : with_cell ls c (cell_at words i) ≡ ls = ap (λ (o : Option FlipFlop). leaders_from ls (also o c [])) (no_flop h) in
+      let e : with_cell ls c (cell_at words i) ≡ ls = ap (λ (o : Option FlipFlop). leaders_from ls (also o c [])) (no_flop words i h) in
       record {
-        number = sym (ap (number_of (with_cell ls c (cell_at words i))) (no_flop h));
+        number = sym (ap (number_of (with_cell ls c (cell_at words i))) (no_flop words i h));
         keyed = subst (λ (x : List Member). Keyed limits x parts values (larger count 0)) (sym e) (subst (Keyed limits ls parts values) (sym (larger_left count 0 (omega arith))) keyed);
       }
 
-  module _ (flop : k ≡ 5) (limits : Limits) (small : limits.wires < 1000000000) (fits : FitsCell limits (cell_at words i)) where
+  module _ (flop : kind_at words i ≡ K.FlipFlop) (limits : Limits) (small : limits.wires < 1000000000) (fits : FitsCell limits (cell_at words i)) where
     abbrev f : FlipFlop
     f = flop_at words i
 
     pub fit : FitsFlipFlop limits f
-    fit = subst (FitsCell limits) (a_flop flop) fits
+    fit = subst (FitsCell limits) (a_flop words i flop) fits
 
     pub clock_is : {w e a : ℕ} → w ≡ word_at words (i + 3) → e ≡ word_at words (i + 4) → KeyOf w e a → a ≡ clock_key f
     clock_is {w} {e} {a} p q h =
@@ -275,10 +271,10 @@ module _ (words : List ℕ) (i : ℕ) {k : ℕ} (kind : k ≡ word_at words (i +
 
       with_is : with_cell ls c (cell_at words i) ≡ joined ls m
       unfolding leaders_from
-      with_is = ap (λ (x : Cell). leaders_from ls (also (flip_flop_of x) c [])) (a_flop flop)
+      with_is = ap (λ (x : Cell). leaders_from ls (also (flip_flop_of x) c [])) (a_flop words i flop)
 
       number_is : (ls' : List Member) → number_in ls' (cell_at words i) ≡ suc (bank_in ls' f)
-      number_is ls' = ap (number_in ls') (a_flop flop)
+      number_is ls' = ap (number_in ls') (a_flop words i flop)
 
       module _ {a b bank : ℕ} (ka : a ≡ clock_key f) (kb : b ≡ reset_key f) (found : bank ≡ find_key parts values a b count 0) where
         bank_is : bank ≡ bank_in ls f
@@ -333,23 +329,7 @@ module _ (words : List ℕ) (i : ℕ) {k : ℕ} (kind : k ≡ word_at words (i +
                 go (yes q) = ap (λ (k : ℕ). get_or (set l count v) k 0) (q ∙ sym keyed.long) ∙ get_or-set_same l count v 0 inside ∙ is ∙ sym (ap (λ (x : Member). key x.flop) (ap (λ (k : ℕ). get_or (ls ++ (m ∷ [])) k d) q ∙ last_is d))
                 go (no q) = get_or-set_other l count b' v 0 (λ r. q (r ∙ keyed.long)) ∙ old b' d (before b' h q) ∙ sym (ap (λ (x : Member). key x.flop) (inner b' d (before b' h q)))
 
-        pub join_new_as : bank ≡ count → count < length parts → count < length values → {j k : ℕ} → j ≡ count → k ≡ count → (parts' values' : List ℕ) → parts' ≡ set parts j a → values' ≡ set values k b → JoinedBank limits ls c (cell_at words i) count (bank + 1) parts' values'
-        join_new_as n in_first in_second {j} {k} ej ek parts' values' p q =
-            subst (λ (x : List ℕ). JoinedBank limits ls c (cell_at words i) count (bank + 1) x values') (sym (p ∙ ap (λ (y : ℕ). set parts y a) ej))
-            (subst (λ (x : List ℕ). JoinedBank limits ls c (cell_at words i) count (bank + 1) (set parts count a) x) (sym (q ∙ ap (λ (y : ℕ). set values y b) ek)) (join_new n in_first in_second))
-
--- STORING
-
-pub set_past : (l : List ℕ) (i v : ℕ) → length l ≤ i → l ≡ set l i v
-set_past [] i v h = refl
-set_past (x ∷ l) zero v h = absurd (omega arith)
-set_past (x ∷ l) (suc i) v h = ap (λ (y : List ℕ). x ∷ y) (set_past l i v (omega arith))
-
--- ONE KEY
-
-module _ (parts values : List ℕ) (i a b : ℕ) {x : ℕ} (e : x ≡ get_or parts i 0) where
-  pub key_no : (x ≡ a → ⊥) → false ≡ key_is parts values i a b
-  key_no h = sym (ap (λ (t : Bool). t && eqb (get_or values i 0) b) (ne_eqb (get_or parts i 0) a (λ q. h (e ∙ q))))
-
-  pub key_yes : x ≡ a → {y : ℕ} → y ≡ get_or values i 0 → eqb y b ≡ key_is parts values i a b
-  key_yes h f = ap (λ (k : ℕ). eqb k b) f ∙ sym (ap (λ (t : Bool). t && eqb (get_or values i 0) b) (eq-eqb (get_or parts i 0) a (sym e ∙ h)))
+-- the works under other names
+pub joined_as : {limits : Limits} {ls : List Member} {c : ℕ} {x : Cell} {count r : ℕ} {parts values parts' values' : List ℕ} → parts' ≡ parts → values' ≡ values → JoinedBank limits ls c x count r parts values → JoinedBank limits ls c x count r parts' values'
+joined_as {limits} {ls} {c} {x} {count} {r} {parts} {values} {parts'} {values'} p q h =
+    subst (λ (l : List ℕ). JoinedBank limits ls c x count r l values') (sym p) (subst (λ (l : List ℕ). JoinedBank limits ls c x count r parts l) (sym q) h)

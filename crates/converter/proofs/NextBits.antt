@@ -2,7 +2,7 @@
 use mathlib.Core.Path.{◌≡◌, refl, ap, ap₂, sym, ◌∙◌, subst}
 use mathlib.Core.Bool.{Bool}
 use mathlib.Core.List.{List, [], ◌∷◌}
-use Rattle.std.specs.Prelude.{Option, Some}
+use Rattle.std.specs.Prelude.{Option, Some, Result, IsErrAnd}
 use Prim.Native.Nat.{ℕ, zero, suc, ◌+◌, ◌-◌, ◌≤◌, ◌<◌}
 use native.Mathlib.Omega.{arith}
 use lib.ListN.{length, take, drop, set}
@@ -12,19 +12,16 @@ use Rattle.netlist.specs.declared.Bit.{Bit}
 use Rattle.netlist.specs.declared.Bit.TheVariants.{Wire}
 use Rattle.netlist.specs.declared.Control.{Control}
 use Rattle.netlist.specs.declared.Reset.{Reset}
-use Rattle.netlist.specs.declared.fields.OptionalControl.{OptionalControl}
-use Rattle.netlist.specs.declared.fields.OptionalControl.TheVariants as C
-use Rattle.netlist.specs.declared.fields.OptionalReset.{OptionalReset}
-use Rattle.netlist.specs.declared.fields.OptionalReset.TheVariants as O
-use Rattle.netlist.specs.FieldForms.{presence, reset_presence}
 use Rattle.netlist.specs.Fields.{word_at, bit_at, optional_control_at, optional_reset_at}
 use Rattle.behaviour.specs.Banks.{Member}
-use Rattle.recorder.specs.declared.Tapes.{Tapes}
 use Rattle.recorder.specs.Record.{Expr.mux}
-use Rattle.recorder.specs.Writer.{Writer, pure, emit, ◌>>=◌}
-use Rattle.recorder.specs.Lists.{lists, WroteExprs, Answer, Answer.Done, Answer.Failed}
+use Rattle.recorder.specs.Writer.{Writer, End, End.ok, End.no, pure, emit, ◌>>=◌}
 use Rattle.recorder.proofs.Events.{bind_pure, bind_assoc}
-use Rattle.recorder.proofs.Wrote.{wrote_as, Going, going_start, going_step, going_same, going_end}
+use Rattle.recorder.specs.declared.Recorder.{Recorder}
+use Rattle.recorder.specs.Calls.{Writes, ended}
+use Rattle.recorder.proofs.Calls.{handed, writes_as, Underway, underway_start, underway_step, underway_stop, underway_end}
+use Rattle.refusal.specs.declared.Refusal.{Refusal}
+use Rattle.refusal.specs.Refusal.{number_of, place_of}
 use Rattle.wires.specs.Wires.{Wires}
 use Rattle.wires.specs.Expressions.{wire_ref, read_ref, bit_expression, asserted_expression, concat_parts, roomy}
 use Rattle.wires.proofs.Laws.{roomy_yes}
@@ -35,26 +32,16 @@ use Rattle.converter.specs.BankEmits.{next_value}
 -- ONE BIT
 
 module _ (m : Wires) where
-  pub enable_none : (output : ℕ) {en : OptionalControl} → en ≡ C.Absent → (next : ℕ) → with_enable m output (presence en) next ≡ pure next
-  enable_none output e next = ap (λ (x : OptionalControl). with_enable m output (presence x) next) e
-
-  pub enable_some : (output : ℕ) {en : OptionalControl} {c : Control} → en ≡ C.Present c → (next : ℕ)
-      → with_enable m output (presence en) next ≡ (bit_expression m (Wire output) >>= λ q. asserted_expression m c >>= λ y. emit (mux 1 y next q))
+  pub enable_some : (output : ℕ) {o : Option Control} {c : Control} → o ≡ Some c → (next : ℕ) → with_enable m output o next ≡ (bit_expression m (Wire output) >>= λ q. asserted_expression m c >>= λ y. emit (mux 1 y next q))
   unfolding bit_expression
-  enable_some output {en} {c} e next = ap (λ (x : OptionalControl). with_enable m output (presence x) next) e ∙ sym (bind_assoc (wire_ref m output) read_ref (λ q. asserted_expression m c >>= λ y. emit (mux 1 y next q)))
+  enable_some output {c = c} e next = ap (λ (x : Option Control). with_enable m output x next) e ∙ sym (bind_assoc (wire_ref m output) read_ref (λ q. asserted_expression m c >>= λ y. emit (mux 1 y next q)))
 
-  pub reset_none : {rs : OptionalReset} → rs ≡ O.Absent → (next : ℕ) → with_reset m (reset_presence rs) next ≡ pure next
-  reset_none e next = ap (λ (x : OptionalReset). with_reset m (reset_presence x) next) e
+  pub reset_async : {o : Option Reset} {r : Reset} → o ≡ Some r → r.asynchronous ≡ 1 → (next : ℕ) → with_reset m o next ≡ pure next
+  reset_async {r = r} e q next = ap (λ (x : Option Reset). with_reset m x next) e ∙ ap (λ (b : Bool). pick b (pure next) (asserted_expression m (record { signal = r.signal; active = r.active }) >>= λ y. emit (mux 1 y (reset_bit (Some r)) next))) (eq-eqb r.asynchronous 1 q)
 
-  pub reset_async : {rs : OptionalReset} {r : Reset} → rs ≡ O.Present r → r.asynchronous ≡ 1 → (next : ℕ) → with_reset m (reset_presence rs) next ≡ pure next
-  reset_async {rs} {r} e q next =
-      ap (λ (x : OptionalReset). with_reset m (reset_presence x) next) e
-      ∙ ap (λ (b : Bool). pick b (pure next) (asserted_expression m (record { signal = r.signal; active = r.active }) >>= λ y. emit (mux 1 y (reset_bit (Some r)) next))) (eq-eqb r.asynchronous 1 q)
-
-  pub reset_sync : {rs : OptionalReset} {r : Reset} → rs ≡ O.Present r → (r.asynchronous ≡ 1 → ⊥) → {v : ℕ} → v ≡ reset_bit (Some r) → (next : ℕ)
-      → with_reset m (reset_presence rs) next ≡ (asserted_expression m (record { signal = r.signal; active = r.active }) >>= λ y. emit (mux 1 y v next))
-  reset_sync {rs} {r} e q f next =
-      ap (λ (x : OptionalReset). with_reset m (reset_presence x) next) e
+  pub reset_sync : {o : Option Reset} {r : Reset} → o ≡ Some r → (r.asynchronous ≡ 1 → ⊥) → {v : ℕ} → v ≡ reset_bit (Some r) → (next : ℕ) → with_reset m o next ≡ (asserted_expression m (record { signal = r.signal; active = r.active }) >>= λ y. emit (mux 1 y v next))
+  reset_sync {r = r} e q f next =
+      ap (λ (x : Option Reset). with_reset m x next) e
       ∙ ap (λ (b : Bool). pick b (pure next) (asserted_expression m (record { signal = r.signal; active = r.active }) >>= λ y. emit (mux 1 y (reset_bit (Some r)) next))) (ne_eqb r.asynchronous 1 q)
       ∙ ap (λ (x : ℕ). asserted_expression m (record { signal = r.signal; active = r.active }) >>= λ y. emit (mux 1 y x next)) (sym f)
 
@@ -62,9 +49,6 @@ module _ (m : Wires) where
       → next_bit m (flop_at words at) ≡ (bit_expression m d >>= λ x. with_enable m output en x >>= λ e. with_reset m rs e)
   unfolding next_bit
   next_is words at p q r s = λ i. bit_expression m (sym p i) >>= λ x. with_enable m (sym q i) (sym r i) x >>= λ e. with_reset m (sym s i) e
-
-pub reset_zero : {rs : OptionalReset} {r : Reset} → rs ≡ O.Present r → (r.value ≡ 1 → ⊥) → 0 ≡ reset_bit (reset_presence rs)
-reset_zero {rs} {r} e q = sym (ap (λ (x : OptionalReset). reset_bit (reset_presence x)) e ∙ ap (λ (b : Bool). pick b 1 0) (ne_eqb r.value 1 q))
 
 -- PARTS, written from the end of the first `width` words down
 
@@ -99,8 +83,8 @@ pub record Counting (width left : ℕ) (parts₀ parts : List ℕ) (rest : List 
   pub room : width ≤ length parts₀
   pub kept : length parts ≡ length parts₀
 
-pub counting_start : {width left : ℕ} {parts : List ℕ} {all rest : List Member} → left ≡ width → width ≤ length parts → width ≡ length all → rest ≡ all → Counting width left parts parts rest
-counting_start e r w q = record { low = omega (arith, e); are = omega (arith, e, w, ap length q); room = r; kept = refl }
+pub counting_start : {width : ℕ} {parts : List ℕ} {all : List Member} → width ≤ length parts → width ≡ length all → Counting width width parts parts all
+counting_start r w = record { low = omega arith; are = w; room = r; kept = refl }
 
 module _ {width left : ℕ} {parts₀ parts : List ℕ} {rest : List Member} (c : Counting width left parts₀ parts rest) where
   pub counting_some : {x : Member} {more : List Member} → rest ≡ x ∷ more → 1 ≤ left
@@ -135,33 +119,32 @@ next_done : (m : Wires) (parts : List ℕ) → next_left m [] parts ≡ concat_p
 unfolding next_bits
 next_done m parts = bind_pure parts concat_parts
 
-pub record Nexting (m : Wires) (all : List Member) (width : ℕ) (e₀ : List ℕ) (t₀ : Tapes) (e : List ℕ) (t : Tapes) (left : ℕ) (parts : List ℕ) (rest : List Member) : Type 0 where
-  pub goes : (s k : List ℕ) → Going (lists s e₀ k) t₀ (next_value m all) (lists s e k) t (next_left m rest (parts_done width left parts))
+pub record Nexting (m : Wires) (all : List Member) (width : ℕ) (r₀ r : Recorder) (left : ℕ) (parts : List ℕ) (rest : List Member) : Type 0 where
+  pub goes : Underway r₀ (next_value m all) r (next_left m rest (parts_done width left parts))
 
-module _ {m : Wires} {all : List Member} {width : ℕ} {e₀ : List ℕ} {t₀ : Tapes} where
-  pub nexting_start : {left : ℕ} (parts : List ℕ) {rest : List Member} → left ≡ width → rest ≡ all → Nexting m all width e₀ t₀ e₀ t₀ left parts rest
-  nexting_start {left} parts {rest} e q = record { goes = λ s k. going_start (ap₂ (λ (ms : List Member) (ps : List ℕ). next_left m ms ps) (sym q) (sym (ap (λ (i : ℕ). parts_done width i parts) e ∙ parts_none width parts))) }
+module _ {m : Wires} {all : List Member} {width : ℕ} {r₀ : Recorder} where
+  pub nexting_start : (parts : List ℕ) → Nexting m all width r₀ r₀ width parts all
+  nexting_start parts = record { goes = underway_start (ap (λ (ps : List ℕ). next_left m all ps) (sym (parts_none width parts))) }
 
-  module _ {e : List ℕ} {t : Tapes} {left : ℕ} {parts : List ℕ} {rest : List Member} (now : Nexting m all width e₀ t₀ e t left parts rest) {parts₀ : List ℕ} (c : Counting width left parts₀ parts rest) where
-    module _ {x : Member} {more : List Member} (is : rest ≡ x ∷ more) {a : Answer ℕ} {e₁ : List ℕ} (h : WroteExprs e t (next_bit m x.flop) a e₁) where
-      one : next_left m rest (parts_done width left parts) ≡ (next_bit m x.flop >>= λ y. next_left m more (y ∷ parts_done width left parts))
+  module _ {r : Recorder} {left : ℕ} {parts : List ℕ} {rest : List Member} (now : Nexting m all width r₀ r left parts rest) {parts₀ : List ℕ} (c : Counting width left parts₀ parts rest) where
+    module _ {x : Member} {more : List Member} (is : rest ≡ x ∷ more) where
+      abbrev then : ℕ → Writer ℕ
+      then z = next_left m more (z ∷ parts_done width left parts)
+
+      one : next_left m rest (parts_done width left parts) ≡ (next_bit m x.flop >>= then)
       one = ap (λ (ms : List Member). next_left m ms (parts_done width left parts)) is ∙ next_more m x more (parts_done width left parts)
 
-      pub nexting_step : {y : ℕ} {u : Tapes} → a ≡ Done y u → Nexting m all width e₀ t₀ e₁ u (left - 1) (set parts (left - 1) y) more
-      nexting_step {y} {u} d = record {
-        goes = λ s k.
-            subst (λ (ps : List ℕ). Going (lists s e₀ k) t₀ (next_value m all) (lists s e₁ k) u (next_left m more ps)) (sym (parts_step c y is))
-            (going_step (λ z. next_left m more (z ∷ parts_done width left parts)) (now.goes s k) one (h s k) d);
-      }
+      pub nexting_step : {y : ℕ} {r₁ : Recorder} → Writes r (next_bit m x.flop) (ok y) r₁ → Nexting m all width r₀ r₁ (left - 1) (set parts (left - 1) y) more
+      nexting_step {y} {r₁} h = record { goes = subst (λ (ps : List ℕ). Underway r₀ (next_value m all) r₁ (next_left m more ps)) (sym (parts_step c y is)) (underway_step then now.goes one h refl) }
 
-      pub nexting_stop : {number place : ℕ} → a ≡ Failed number place → WroteExprs e₀ t₀ (next_value m all) a e₁
-      nexting_stop d s k = going_same (λ z. next_left m more (z ∷ parts_done width left parts)) (now.goes s k) one (h s k) d
+      pub nexting_err : {C : Type 0} (f : C → ℕ) (q : Result C Refusal) (y : Refusal) → IsErrAnd q (λ z. z ≡ y) → {r₁ : Recorder} → Writes r (next_bit m x.flop) (no (number_of y) (place_of y)) r₁ → Writes r₀ (next_value m all) (ended f q) r₁
+      nexting_err f q y e {r₁} h = subst (λ (z : End ℕ). Writes r₀ (next_value m all) z r₁) (sym (handed f q y e)) (underway_stop then now.goes one h refl)
 
-    pub nexting_end : rest ≡ [] → {a : Answer ℕ} {e₁ : List ℕ} → WroteExprs e t (roomy width parts (concat_parts (take width parts))) a e₁ → WroteExprs e₀ t₀ (next_value m all) a e₁
-    nexting_end q h s k =
-        going_end (now.goes s k)
+    pub nexting_end : rest ≡ [] → {e : End ℕ} {r₁ : Recorder} → Writes r (roomy width parts (concat_parts (take width parts))) e r₁ → Writes r₀ (next_value m all) e r₁
+    nexting_end q h =
+        underway_end now.goes
         (ap (λ (ms : List Member). next_left m ms (parts_done width left parts)) q ∙ next_done m (parts_done width left parts) ∙ ap concat_parts (parts_all width left parts (counting_end c q)) ∙ sym (roomy_yes width parts (concat_parts (take width parts)) (counting_room c)))
-        (h s k)
+        h
 
 -- THE RESET'S VALUE
 
@@ -169,8 +152,8 @@ pub record Loading (all : List Member) (width left : ℕ) (parts : List ℕ) (re
   pub so : reset_bits rest (parts_done width left parts) ≡ reset_bits all []
 
 module _ {all : List Member} {width : ℕ} where
-  pub loading_start : {left : ℕ} (parts : List ℕ) {rest : List Member} → left ≡ width → rest ≡ all → Loading all width left parts rest
-  loading_start {left} parts e q = record { so = ap₂ reset_bits q (ap (λ (i : ℕ). parts_done width i parts) e ∙ parts_none width parts) }
+  pub loading_start : (parts : List ℕ) → Loading all width width parts all
+  loading_start parts = record { so = ap (reset_bits all) (parts_none width parts) }
 
   module _ {left : ℕ} {parts : List ℕ} {rest : List Member} (now : Loading all width left parts rest) {parts₀ : List ℕ} (c : Counting width left parts₀ parts rest) where
     pub loading_step : {x : Member} {more : List Member} → rest ≡ x ∷ more → {v : ℕ} → v ≡ reset_bit x.flop.reset → Loading all width (left - 1) (set parts (left - 1) v) more
@@ -186,5 +169,5 @@ module _ {all : List Member} {width : ℕ} where
     loading_end q = sym (parts_all width left parts (counting_end c q)) ∙ sym (ap (λ (ms : List Member). reset_bits ms (parts_done width left parts)) q) ∙ now.so
 
 -- the constants as one value
-pub loaded : {e : List ℕ} {t : Tapes} {width : ℕ} (parts : List ℕ) {a : Answer ℕ} {e₁ : List ℕ} (all : List Member) → width ≤ length parts → take width parts ≡ reset_bits all [] → WroteExprs e t (roomy width parts (concat_parts (take width parts))) a e₁ → WroteExprs e t (concat_parts (reset_bits all [])) a e₁
-loaded {width = width} parts all r q h s k = wrote_as (ap concat_parts (sym q) ∙ sym (roomy_yes width parts (concat_parts (take width parts)) r)) (h s k)
+pub loaded : {r r' : Recorder} {width : ℕ} (parts : List ℕ) {e : End ℕ} (all : List Member) → width ≤ length parts → take width parts ≡ reset_bits all [] → Writes r (roomy width parts (concat_parts (take width parts))) e r' → Writes r (concat_parts (reset_bits all [])) e r'
+loaded {width = width} parts all r q h = writes_as (ap concat_parts (sym q) ∙ sym (roomy_yes width parts (concat_parts (take width parts)) r)) h

@@ -5,7 +5,7 @@ use mathlib.Core.List.Memᴰ.{head as here}
 use mathlib.Core.List.Memᴰ.{tail as there}
 use mathlib.Core.List.{List, [], ◌∷◌, Memᴰ as Mem}
 use Rattle.std.specs.Prelude.{Option, None}
-use Prim.Native.Nat.{ℕ, zero, suc, ◌+◌, ◌≤◌, ◌<◌}
+use Prim.Native.Nat.{ℕ, zero, suc, ◌+◌, ◌-◌, ◌≤◌, ◌<◌}
 use native.Mathlib.Nat.{add-zero}
 use native.Mathlib.Numerals.{add-one}
 use native.Mathlib.Decide.{ℕ_discrete}
@@ -16,7 +16,9 @@ use lib.Seq.{drop-cons}
 use borrow.Author.Tests.{eq-eqb, ne_eqb, eqb-true, eqb-false}
 use Rattle.netlist.specs.declared.Limits.{Limits}
 use Rattle.netlist.specs.Netlist.{FlipFlop, Cell, flip_flop}
-use Rattle.netlist.specs.Fields.{records_at, end_at, word_at, cell_at, cell_end, cells_at}
+use Rattle.netlist.specs.declared.Kind.{Kind}
+use Rattle.netlist.specs.declared.Kind.TheVariants as K
+use Rattle.netlist.specs.Fields.{records_at, end_at, word_at, kind_at, cell_at, cell_end, cells_at}
 use Rattle.netlist.specs.Shape.{Each, each_at, FitsWire, FitsCell}
 use Rattle.netlist.proofs.RecordLaws.{records_length, records_get}
 use Rattle.behaviour.specs.Banks.{Member, Bank, flip_flop_of, also, flip_flops_from, flip_flops_of, bank_in, kept, members_of, leaders_of, collect_flip_flop_banks, outputs_of}
@@ -24,10 +26,24 @@ use Rattle.behaviour.specs.Behaviour.{absent}
 use Rattle.behaviour.proofs.BankLaws.{IsBank, IsCell, bank_at, bank_count, banks_are}
 use Rattle.converter.specs.Reserves.{Fitting}
 use Rattle.converter.specs.Banked.{flop_at, number_of, number_in, Collected}
-use Rattle.converter.specs.Members.{noted, members_in}
+use Rattle.converter.specs.declared.members.Members.{Members}
+use Rattle.converter.specs.Members.{noted, members_left}
 use Rattle.converter.proofs.Keys.{no_flop, a_flop}
 
 -- ONE CELL
+
+is_flop : (k : Kind) → Dec (k ≡ K.FlipFlop)
+is_flop K.Lut4 = no (λ e. cc)
+is_flop K.Pfumx = no (λ e. cc)
+is_flop K.L6mux21 = no (λ e. cc)
+is_flop K.Ccu2c = no (λ e. cc)
+is_flop K.Multiplier = no (λ e. cc)
+is_flop K.FlipFlop = yes refl
+is_flop K.BlockRam = no (λ e. cc)
+is_flop K.DistributedRam = no (λ e. cc)
+is_flop K.Io = no (λ e. cc)
+is_flop K.Jtagg = no (λ e. cc)
+is_flop K.Pll = no (λ e. cc)
 
 same_number : (a b : ℕ) → eqb (suc a) (b + 1) ≡ eqb a b
 same_number a b = go (eqb a b) refl
@@ -39,19 +55,16 @@ same_number a b = go (eqb a b) refl
 module _ (words banks : List ℕ) (ls : List Member) (b c i : ℕ) (is : get_or banks c 0 ≡ number_in ls (cell_at words i)) where
   one_noted : (more : List Member) (ms : List Member) → more ≡ members_of ls b ms → kept (eqb (get_or banks c 0) (b + 1)) (record { cell = c; flop = flop_at words i }) more ≡ members_of ls b (also (flip_flop_of (cell_at words i)) c ms)
   unfolding members_of
-  one_noted more ms e = go (ℕ_discrete (word_at words i) 5)
+  one_noted more ms e = go (is_flop (kind_at words i))
     where
-      here_is : word_at words i ≡ word_at words (i + 0)
-      here_is = ap (word_at words) (sym (add-zero i))
-
-      go : Dec (word_at words i ≡ 5) → kept (eqb (get_or banks c 0) (b + 1)) (record { cell = c; flop = flop_at words i }) more ≡ members_of ls b (also (flip_flop_of (cell_at words i)) c ms)
+      go : Dec (kind_at words i ≡ K.FlipFlop) → kept (eqb (get_or banks c 0) (b + 1)) (record { cell = c; flop = flop_at words i }) more ≡ members_of ls b (also (flip_flop_of (cell_at words i)) c ms)
       go (yes k) =
-          let f : cell_at words i ≡ flip_flop (flop_at words i) = a_flop words i here_is k in
+          let f : cell_at words i ≡ flip_flop (flop_at words i) = a_flop words i k in
           let n : get_or banks c 0 ≡ suc (bank_in ls (flop_at words i)) = is ∙ ap (number_in ls) f in
           ap₂ (λ (t : Bool) (l : List Member). kept t (record { cell = c; flop = flop_at words i }) l) (ap (λ (k : ℕ). eqb k (b + 1)) n ∙ same_number (bank_in ls (flop_at words i)) b) e
           ∙ sym (ap (λ (x : Cell). members_of ls b (also (flip_flop_of x) c ms)) f)
       go (no k) =
-          let f : flip_flop_of (cell_at words i) ≡ None = no_flop words i here_is k in
+          let f : flip_flop_of (cell_at words i) ≡ None = no_flop words i k in
           let n : get_or banks c 0 ≡ 0 = is ∙ ap (number_of ls) f in
           ap (λ (t : Bool). kept t (record { cell = c; flop = flop_at words i }) more) (ap (λ (k : ℕ). eqb k (b + 1)) n ∙ ne_eqb 0 (b + 1) (λ q. omega (arith, q)))
           ∙ e ∙ sym (ap (λ (o : Option FlipFlop). members_of ls b (also o c ms)) f)
@@ -73,8 +86,13 @@ module _ {words : List ℕ} {at n count : ℕ} {banks : List ℕ} (so : Collecte
   abbrev cells : List Cell
   cells = cells_at words at n
 
-  pub members_are : (b : ℕ) → members_in words banks (record { at = at; n = n; number = b + 1 }) ≡ members_of (leaders_of cells) b (flip_flops_of cells)
-  members_are b = noted_are words banks (leaders_of cells) b n 0 at (λ k h. ap (λ (j : ℕ). get_or banks j 0) (let z : 0 + k ≡ k = omega arith in z) ∙ so.numbers k h)
+  pub members_are : (b : ℕ) (m : Members) → m.cell.fields.words.now ≡ words → m.cell.fields.at ≡ at → m.cell.number ≡ 0 → m.end ≡ n → m.numbers.now ≡ banks → m.bank ≡ b + 1 → members_left m ≡ members_of (leaders_of cells) b (flip_flops_of cells)
+  members_are b m p q r e s t =
+      (λ i. noted (p i) (s i) (t i) (left i) (r i) (q i))
+      ∙ noted_are words banks (leaders_of cells) b n 0 at (λ k h. ap (λ (j : ℕ). get_or banks j 0) (let z : 0 + k ≡ k = omega arith in z) ∙ so.numbers k h)
+    where
+      left : m.end - m.cell.number ≡ n
+      left = omega arith
 
   abbrev nowhere : Member
   nowhere = record { cell = 0; flop = flop_at [] 0 }

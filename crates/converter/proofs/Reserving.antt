@@ -1,4 +1,4 @@
--- Reservations in a row and in loops: what was done and what is left.
+-- Reservations one after another and in loops: what was done and what is left.
 use mathlib.Core.Path.{◌≡◌, refl, ap, ap₂, sym, ◌∙◌, subst, fun_ext}
 use mathlib.Core.List.{List, [], ◌∷◌}
 use Prim.Native.Nat.{ℕ, zero, suc, ◌+◌, ◌-◌, ◌≤◌, ◌<◌, min}
@@ -6,51 +6,121 @@ use native.Mathlib.Nat.{add-zero}
 use native.Mathlib.Numerals.{add-one}
 use native.Mathlib.Omega.{arith}
 use lib.ListN.{length}
+use Rattle.std.specs.Prelude.{Result, Ok, Err, IsErrAnd}
 use Rattle.netlist.specs.declared.Limits.{Limits}
+use Rattle.netlist.specs.Netlist.{Cell, Port}
 use Rattle.netlist.specs.declared.Bit.{Bit}
-use Rattle.netlist.specs.declared.Bit.TheVariants.{Zero, One, Wire}
-use Rattle.netlist.specs.Netlist.{Cell, Port, bit_of}
-use Rattle.netlist.specs.Fields.{records_at, end_at, after, word_at, bit_at, wires_at}
-use Rattle.netlist.specs.Shape.{Each, FitsBit, FitsWire}
-use Rattle.netlist.proofs.RecordLaws.{end_more, wires_length}
-use Rattle.netlist.proofs.WordLaws.{word_ahead}
+use Rattle.netlist.specs.Fields.{records_at, end_at}
+use Rattle.netlist.proofs.RecordLaws.{end_more}
 use Rattle.refusal.specs.declared.Refusal.{Refusal}
-use Rattle.recorder.specs.declared.Tapes.{Tapes}
-use Rattle.recorder.specs.declared.Stated.{Stated}
-use Rattle.recorder.specs.declared.Stated.TheVariants as S
-use Rattle.recorder.specs.Writer.{Writer, pure, declare, ◌>>=◌}
-use Rattle.recorder.specs.Lists.{lists, Wrote, WroteSignals}
-use Rattle.recorder.proofs.Wrote.{wrote_pure, Going, going_start, going_step, going_stop, going_end}
+use Rattle.refusal.specs.Refusal.{number_of, place_of}
+use Rattle.recorder.specs.Record.{Signal}
+use Rattle.recorder.specs.Writer.{Writer, End, End.ok, End.no, pure, declare, ◌>>=◌}
+use Rattle.recorder.specs.Calls.{Writes}
+use Rattle.recorder.proofs.Calls.{same_lists, handed, writes_then, writes_stop, writes_as, writes_pure, Underway, underway_start, underway_step, underway_stop, underway_end}
 use Rattle.wires.specs.Wires.{Wires}
-use Rattle.lowering.specs.Reserve.{signal_of, insert_wire, insert_bits, insert_wires, reserve_scalar, reserve_scalars, reserve_vector, reserve_unless, reserve_absent, reserve_cell_output, reserve_cells, reserve_port, reserve_ports}
-use Rattle.converter.specs.Tables.{mapped, Tabled, TabledBit, TabledBits, held_bits}
-use Rattle.converter.specs.Reserves.{Room, Reserves, Fitting}
+use Rattle.lowering.specs.Reserve.{insert_wire, insert_bits, reserve_scalar, reserve_scalars, reserve_unless, reserve_absent, reserve_cell_output, reserve_cells, reserve_port, reserve_ports}
+use Rattle.converter.specs.declared.Reserver.{Reserver}
+use Rattle.converter.specs.Tables.{map_in, SameTables, Room, mapped, Reserves, Declares}
+use Rattle.converter.specs.Reserves.{Fitting}
+use Rattle.converter.proofs.Declared.{declared_small}
 
--- IN A ROW
+-- THE SAME TABLES
 
-pub record Reserving (P : Limits → Type 0) (whole : Writer Wires) (l₀ : List ℕ) (t₀ : Tapes) (left : Writer Wires) (l : List ℕ) (t : Tapes) : Type 0 where
-  pub goes : (limits : Limits) → P limits → (a b : List ℕ) → Going (lists l₀ a b) t₀ whole (lists l a b) t left
+pub tables_themselves : {r : Reserver} → SameTables r r
+tables_themselves = record { recorder = refl; lists = record { signals = refl; exprs = refl; stmts = refl }; wires = refl; places = refl; wires_size = refl; places_size = refl }
 
-module _ {P : Limits → Type 0} {whole : Writer Wires} {l₀ : List ℕ} {t₀ : Tapes} where
-  pub reserving_start : {left : Writer Wires} → whole ≡ left → Reserving P whole l₀ t₀ left l₀ t₀
-  reserving_start e = record { goes = λ limits p a b. going_start e }
+pub same_tables : {r r' r'' : Reserver} → SameTables r r' → SameTables r' r'' → SameTables r r''
+same_tables h g = record {
+  recorder = g.recorder ∙ h.recorder;
+  lists = same_lists h.lists g.lists;
+  wires = g.wires ∙ h.wires;
+  places = g.places ∙ h.places;
+  wires_size = g.wires_size ∙ h.wires_size;
+  places_size = g.places_size ∙ h.places_size;
+}
 
-  module _ {left : Writer Wires} {l : List ℕ} {t : Tapes} (now : Reserving P whole l₀ t₀ left l t) {w : Writer Wires} (k : Wires → Writer Wires) (is : left ≡ (w >>= k)) (r : Stated) (m : Wires) {l₁ : List ℕ} (h : (limits : Limits) → P limits → WroteSignals l t w (mapped r m) l₁) where
-    pub reserving_step : {u : Tapes} → r ≡ S.Done u → Reserving P whole l₀ t₀ (k m) l₁ u
-    reserving_step d = record { goes = λ limits p a b. going_step k (now.goes limits p a b) is (h limits p a b) (ap (λ (x : Stated). mapped x m) d) }
+pub room_keep : {limits : Limits} {r r' : Reserver} → SameTables r r' → Room limits r → Room limits r'
+room_keep s h = record { wires_long = omega (arith, s.wires_size, h.wires_long); places_long = omega (arith, s.places_size, h.places_long); narrow = h.narrow }
 
-    pub reserving_stop : {x : Refusal} (m' : Wires) → r ≡ S.Refused x → Reserves P l₀ t₀ whole r m' l₁
-    reserving_stop m' d = record { so = λ limits p a b. subst (λ (y : Stated). Wrote (lists l₀ a b) t₀ whole (mapped y m') (lists l₁ a b)) (sym d) (going_stop k (now.goes limits p a b) is (h limits p a b) (ap (λ (y : Stated). mapped y m) d)) }
+-- ONE AFTER ANOTHER
 
-  module _ {left : Writer Wires} {l : List ℕ} {t : Tapes} (now : Reserving P whole l₀ t₀ left l t) where
-    pub reserving_end : (m : Wires) → left ≡ pure m → Reserves P l₀ t₀ whole (S.Done t) m l
-    reserving_end m is = record { so = λ limits p a b. going_end (now.goes limits p a b) is wrote_pure }
+-- one condition for another
+abbrev pub Under : Reserver → (Limits → Type 0) → (Limits → Type 0) → Type 0
+Under r P Q = (limits : Limits) → Room limits r → P limits → Q limits
 
-    pub reserving_last : {w : Writer Wires} (r : Stated) (m : Wires) {l₁ : List ℕ} → left ≡ w → ((limits : Limits) → P limits → WroteSignals l t w (mapped r m) l₁) → Reserves P l₀ t₀ whole r m l₁
-    reserving_last r m is h = record { so = λ limits p a b. going_end (now.goes limits p a b) is (h limits p a b) }
+module _ {P : Limits → Type 0} {r : Reserver} where
+  pub reserves_none : Reserves P r (pure (map_in r)) (Ok tt) r
+  reserves_none = record { same = tables_themselves; so = λ limits room p. writes_pure }
 
-pub reserves_as : {P : Limits → Type 0} {l : List ℕ} {t : Tapes} {w w' : Writer Wires} {r : Stated} {m : Wires} {l' : List ℕ} → w' ≡ w → Reserves P l t w r m l' → Reserves P l t w' r m l'
-reserves_as {P} {l} {t} {w} {w'} {r} {m} {l'} e h = subst (λ (x : Writer Wires). Reserves P l t x r m l') (sym e) h
+  -- another name for what is written
+  pub reserves_as : {w w' : Writer Wires} {q : Result (Unit {0}) Refusal} {r' : Reserver} → ((limits : Limits) → P limits → w' ≡ w) → Reserves P r w q r' → Reserves P r w' q r'
+  reserves_as e h = record { same = h.same; so = λ limits room p. writes_as (e limits p) (h.so limits room p) }
+
+  -- a weaker condition
+  pub reserves_under : {Q : Limits → Type 0} {w : Writer Wires} {q : Result (Unit {0}) Refusal} {r' : Reserver} → Under r P Q → Reserves Q r w q r' → Reserves P r w q r'
+  reserves_under u h = record { same = h.same; so = λ limits room p. h.so limits room (u limits room p) }
+
+  module _ {Q : Limits → Type 0} (u : Under r P Q) {w : Writer Wires} {r₁ : Reserver} (k : Wires → Writer Wires) where
+    -- it went well: the next goes on
+    pub reserves_then : Reserves Q r w (Ok tt) r₁ → {S : Limits → Type 0} → Under r P S → {q : Result (Unit {0}) Refusal} {r₂ : Reserver} → Reserves S r₁ (k (map_in r₁)) q r₂ → Reserves P r (w >>= k) q r₂
+    reserves_then h v next = record {
+      same = same_tables h.same next.same;
+      so = λ limits room p. writes_then (h.so limits room (u limits room p)) k refl (next.so limits (room_keep h.same room) (v limits room p));
+    }
+
+    -- it did not: a `?` hands that on
+    pub reserves_err : {x : Refusal} → Reserves Q r w (Err x) r₁ → (q : Result (Unit {0}) Refusal) → IsErrAnd q (λ y. y ≡ x) → Reserves P r (w >>= k) q r₁
+    reserves_err {x} h q e = record {
+      same = h.same;
+      so = λ limits room p. subst (λ (y : End Wires). Writes r.recorder.now (w >>= k) y r₁.recorder.now) (sym (handed (λ (v : Unit {0}). map_in r₁) q x e)) (writes_stop (h.so limits room (u limits room p)) k refl);
+    }
+
+  -- A SIGNAL, and what comes behind it
+  module _ {x : Signal} {r₁ : Reserver} (k : Wires → ℕ → Writer Wires) where
+    pub declared_then : {s : ℕ} → Declares r x (ok s) r₁ → {Q : Limits → Type 0} → ((limits : Limits) → Room limits r → P limits → s < 4294967295 → Q limits)
+        → {q : Result (Unit {0}) Refusal} {r₂ : Reserver} → Reserves Q r₁ (k (map_in r₁) s) q r₂ → Reserves P r (declare x >>= k (map_in r)) q r₂
+    declared_then {s} h u {q} {r₂} next = record {
+      same = same_tables h.same next.same;
+      so = λ limits room p.
+          writes_then h.wrote (k (map_in r)) refl
+          (subst (λ (m : Wires). Writes r₁.recorder.now (k m s) (mapped q (map_in r₂)) r₂.recorder.now) h.map (next.so limits (room_keep h.same room) (u limits room p (omega (arith, declared_small h.wrote)))));
+    }
+
+    pub declared_err : (y : Refusal) → Declares r x (no (number_of y) (place_of y)) r₁ → (q : Result (Unit {0}) Refusal) → IsErrAnd q (λ z. z ≡ y) → Reserves P r (declare x >>= k (map_in r)) q r₁
+    declared_err y h q e = record {
+      same = h.same;
+      so = λ limits room p. subst (λ (z : End Wires). Writes r.recorder.now (declare x >>= k (map_in r)) z r₁.recorder.now) (sym (handed (λ (v : Unit {0}). map_in r₁) q y e)) (writes_stop h.wrote (k (map_in r)) refl);
+    }
+
+-- LOOPS: whoever writes what is left has written the whole
+
+pub record Reserving (P : Limits → Type 0) (r₀ : Reserver) (whole : Writer Wires) (r : Reserver) (left : Writer Wires) : Type 0 where
+  pub same : SameTables r₀ r
+  pub goes : (limits : Limits) → Room limits r₀ → P limits → Underway r₀.recorder.now whole r.recorder.now left
+
+module _ {P : Limits → Type 0} {r₀ : Reserver} {whole : Writer Wires} where
+  pub reserving_start : {left : Writer Wires} → whole ≡ left → Reserving P r₀ whole r₀ left
+  reserving_start e = record { same = tables_themselves; goes = λ limits room p. underway_start e }
+
+  module _ {r : Reserver} {left : Writer Wires} (now : Reserving P r₀ whole r left) where
+    module _ {w : Writer Wires} (k : Wires → Writer Wires) (is : (limits : Limits) → P limits → left ≡ (w >>= k)) {Q : Limits → Type 0} (u : Under r P Q) {r₁ : Reserver} where
+      pub reserving_step : Reserves Q r w (Ok tt) r₁ → Reserving P r₀ whole r₁ (k (map_in r₁))
+      reserving_step h = record {
+        same = same_tables now.same h.same;
+        goes = λ limits room p. underway_step k (now.goes limits room p) (is limits p) (h.so limits (room_keep now.same room) (u limits (room_keep now.same room) p)) refl;
+      }
+
+      pub reserving_err : {x : Refusal} → Reserves Q r w (Err x) r₁ → (q : Result (Unit {0}) Refusal) → IsErrAnd q (λ y. y ≡ x) → Reserves P r₀ whole q r₁
+      reserving_err {x} h q e = record {
+        same = same_tables now.same h.same;
+        so = λ limits room p.
+            subst (λ (y : End Wires). Writes r₀.recorder.now whole y r₁.recorder.now) (sym (handed (λ (v : Unit {0}). map_in r₁) q x e))
+            (underway_stop k (now.goes limits room p) (is limits p) (h.so limits (room_keep now.same room) (u limits (room_keep now.same room) p)) refl);
+      }
+
+    pub reserving_end : ((limits : Limits) → P limits → left ≡ pure (map_in r)) → Reserves P r₀ whole (Ok tt) r
+    reserving_end e = record { same = now.same; so = λ limits room p. underway_end (now.goes limits room p) (e limits p) writes_pure }
 
 -- ONE FOR EACH RECORD
 
@@ -69,11 +139,11 @@ module _ {A : Type 0} (f : Wires → ℕ → A → Writer Wires) (value : ℕ �
   unfoldable pub left : Wires → ℕ → Writer Wires
   left m i = each_of f m i (records_at value next (n - i) (end_at next i at))
 
-  pub left_all : (m : Wires) → each_of f m 0 (records_at value next n at) ≡ left m 0
+  left_all : (m : Wires) → each_of f m 0 (records_at value next n at) ≡ left m 0
   unfolding left end_at
   left_all m = let z : n ≡ n - 0 = omega arith in ap (λ (k : ℕ). each_of f m 0 (records_at value next k at)) z
 
-  pub left_more : (m : Wires) (i : ℕ) → i < n → left m i ≡ (f m i (value (end_at next i at)) >>= λ m₁. left m₁ (i + 1))
+  left_more : (m : Wires) (i : ℕ) → i < n → left m i ≡ (f m i (value (end_at next i at)) >>= λ m₁. left m₁ (i + 1))
   unfolding left each_of records_at
   left_more m i h =
       ap (λ (k : ℕ). each_of f m i (records_at value next k (end_at next i at))) (more_left n i h)
@@ -81,9 +151,35 @@ module _ {A : Type 0} (f : Wires → ℕ → A → Writer Wires) (value : ℕ �
       ap (λ (k : ℕ). each_of f m₁ (suc i) (records_at value next (n - suc i) k)) (sym (end_more next i at))
       ∙ ap (λ (k : ℕ). left m₁ k) (sym (add-one i))))
 
-  pub left_done : (m : Wires) (i : ℕ) → n ≤ i → left m i ≡ pure m
+  left_done : (m : Wires) (i : ℕ) → n ≤ i → left m i ≡ pure m
   unfolding left each_of records_at
   left_done m i h = ap (λ (k : ℕ). each_of f m i (records_at value next k (end_at next i at))) (none_left n i h)
+
+  -- the loop is at record i
+  pub record Loop (P : Limits → Type 0) (r₀ : Reserver) (whole : Writer Wires) (r : Reserver) (i : ℕ) : Type 0 where
+    pub now : Reserving P r₀ whole r (left (map_in r) i)
+
+module _ {A : Type 0} {f : Wires → ℕ → A → Writer Wires} {value : ℕ → A} {next : ℕ → ℕ} {n at : ℕ} {P : Limits → Type 0} {r₀ : Reserver} {whole : Writer Wires} where
+  pub loop_start : whole ≡ each_of f (map_in r₀) 0 (records_at value next n at) → Loop f value next n at P r₀ whole r₀ 0
+  loop_start e = record { now = reserving_start (e ∙ left_all f value next n at (map_in r₀)) }
+
+  module _ {r : Reserver} {i : ℕ} (loop : Loop f value next n at P r₀ whole r i) where
+    -- the code has the record x
+    module _ (inside : i < n) {x : A} (is : (limits : Limits) → P limits → x ≡ value (end_at next i at)) {Q : Limits → Type 0} (u : Under r P Q) where
+      abbrev rest : Wires → Writer Wires
+      rest m = left f value next n at m (i + 1)
+
+      begins : (limits : Limits) → P limits → left f value next n at (map_in r) i ≡ (f (map_in r) i x >>= rest)
+      begins limits p = left_more f value next n at (map_in r) i inside ∙ ap (λ (y : A). f (map_in r) i y >>= rest) (sym (is limits p))
+
+      pub loop_step : {r₁ : Reserver} → Reserves Q r (f (map_in r) i x) (Ok tt) r₁ → Loop f value next n at P r₀ whole r₁ (i + 1)
+      loop_step h = record { now = reserving_step loop.now rest begins u h }
+
+      pub loop_err : {y : Refusal} {r₁ : Reserver} → Reserves Q r (f (map_in r) i x) (Err y) r₁ → (q : Result (Unit {0}) Refusal) → IsErrAnd q (λ z. z ≡ y) → Reserves P r₀ whole q r₁
+      loop_err h q e = reserving_err loop.now rest begins u h q e
+
+    pub loop_end : n ≤ i → Reserves P r₀ whole (Ok tt) r
+    loop_end h = reserving_end loop.now (λ limits p. left_done f value next n at (map_in r) i h)
 
 -- where the code's index is
 pub place_start : (next : ℕ → ℕ) (at : ℕ) → at ≡ end_at next 0 at
@@ -98,6 +194,14 @@ place_step next {end = end} {at = at} {i = i} {place = place} fit h e c =
     omega arith
 
 -- the definitions are such loops
+abbrev pub held_one : ℕ → ℕ → Wires → ℕ → Bit → Writer Wires
+held_one s n m i b = insert_wire m b (record { signal = s; lsb = i; width = n })
+
+pub bits_each : (bits : List Bit) (m : Wires) (s n i : ℕ) → insert_bits m s n i bits ≡ each_of (held_one s n) m i bits
+unfolding insert_bits each_of
+bits_each [] m s n i = refl
+bits_each (b ∷ bits) m s n i = ap (λ (k : Wires → Writer Wires). held_one s n m i b >>= k) (fun_ext (λ m₁. bits_each bits m₁ s n (suc i)))
+
 pub scalars_each : (ws : List ℕ) (m : Wires) (label owner i : ℕ) → reserve_scalars m label owner ws ≡ each_of (λ m' j w. reserve_scalar m' label owner w) m i ws
 unfolding reserve_scalars each_of
 scalars_each [] m label owner i = refl
@@ -117,70 +221,3 @@ pub ports_each : (xs : List Port) (m : Wires) (i : ℕ) → reserve_ports m i xs
 unfolding reserve_ports each_of
 ports_each [] m i = refl
 ports_each (x ∷ xs) m i = ap (λ (k : Wires → Writer Wires). reserve_port m i x >>= k) (fun_ext (λ m₁. ports_each xs m₁ (suc i)))
-
--- TABLES WITH ROOM
-
-pub room_keep : {limits : Limits} {wires places wires' places' : List ℕ} → length wires' ≡ length wires → length places' ≡ length places → Room limits wires places → Room limits wires' places'
-room_keep p q h = record { wires_long = omega (arith, h.wires_long); places_long = omega (arith, h.places_long); narrow = h.narrow }
-
-pub room_tabled : {limits : Limits} {wires places : List ℕ} → Room limits wires places → (w : ℕ) → FitsWire limits w → Tabled wires places w
-room_tabled h w f = (omega (arith, h.wires_long), omega (arith, h.places_long))
-
-room_bit : {limits : Limits} {wires places : List ℕ} → Room limits wires places → (b : Bit) → FitsBit limits b → TabledBit wires places b
-room_bit h Zero f = tt
-room_bit h One f = tt
-room_bit h (Wire w) f = room_tabled h w f
-
-pub room_bits : {limits : Limits} {wires places : List ℕ} → Room limits wires places → (bits : List Bit) → Each (FitsBit limits) bits → TabledBits wires places bits
-room_bits h [] f = tt
-room_bits h (b ∷ bits) f = (room_bit h b f.0, room_bits h bits f.1)
-
--- WIRES IN A ROW
-
--- a row from an index that was cut to the number of words
-records_same : {A : Type 0} (value : ℕ → A) (n i j : ℕ) → ((k : ℕ) → value (i + k) ≡ value (j + k)) → records_at value after n i ≡ records_at value after n j
-unfolding records_at
-records_same value zero i j h = refl
-records_same value (suc n) i j h =
-    ap₂ (λ x xs. x ∷ xs) (ap value (sym (add-zero i)) ∙ h 0 ∙ ap value (add-zero j))
-    (records_same value n (i + 1) (j + 1) (λ k. ap value (up i k) ∙ h (1 + k) ∙ ap value (sym (up j k))))
-  where
-    up : (a k : ℕ) → a + 1 + k ≡ a + (1 + k)
-    up a k = omega arith
-
-module _ (words : List ℕ) (n : ℕ) {i : ℕ} (cut : i ≡ min n (length words)) where
-  pub wires_ahead : (k : ℕ) → wires_at words i k ≡ wires_at words n k
-  wires_ahead k = records_same (word_at words) k i n (word_ahead words n i cut)
-
-  pub held_ahead : (kind k : ℕ) → held_bits words kind i k ≡ held_bits words kind n k
-  held_ahead zero k = records_same (bit_at words) k i n (λ j. ap bit_of (word_ahead words n i cut j))
-  held_ahead (suc kind) k = records_same (λ j. Wire (word_at words j)) k i n (λ j. ap Wire (word_ahead words n i cut j))
-
-pub wire_of_each : (words : List ℕ) (limits : Limits) (n at i : ℕ) → Each (FitsWire limits) (wires_at words at n) → i < n → FitsWire limits (word_at words (at + i))
-unfolding records_at
-wire_of_each words limits zero at i e h = absurd (omega arith)
-wire_of_each words limits (suc n) at zero e h = subst (λ (k : ℕ). FitsWire limits (word_at words k)) (sym (add-zero at)) e.0
-wire_of_each words limits (suc n) at (suc i) e h = subst (λ (k : ℕ). FitsWire limits (word_at words k)) (up at i) (wire_of_each words limits n (at + 1) i e.1 (omega arith))
-  where
-    up : (a k : ℕ) → a + 1 + k ≡ a + suc k
-    up a k = omega arith
-
--- wires as bits
-pub wires_bits : (words : List ℕ) (n at : ℕ) (m : Wires) (s width lsb : ℕ) → insert_wires m s width lsb (wires_at words at n) ≡ insert_bits m s width lsb (held_bits words 1 at n)
-unfolding records_at insert_wires insert_bits
-wires_bits words zero at m s width lsb = refl
-wires_bits words (suc n) at m s width lsb =
-    ap (λ (k : Wires → Writer Wires). insert_wire m (Wire (word_at words at)) (record { signal = s; lsb = lsb; width = width }) >>= k) (fun_ext (λ m₁. wires_bits words n (at + 1) m₁ s width (suc lsb)))
-
-pub each_bits : (words : List ℕ) (limits : Limits) (n at : ℕ) → Each (FitsWire limits) (wires_at words at n) → Each (FitsBit limits) (held_bits words 1 at n)
-unfolding records_at
-each_bits words limits zero at e = tt
-each_bits words limits (suc n) at e = (e.0, each_bits words limits n (at + 1) e.1)
-
--- a vector of wires
-pub vector_as : (words : List ℕ) (at n : ℕ) (m : Wires) (label owner : ℕ)
-    → reserve_vector m label owner (wires_at words at n) ≡ (declare (signal_of label n owner) >>= λ s. insert_bits m s n 0 (held_bits words 1 at n))
-unfolding reserve_vector
-vector_as words at n m label owner =
-    ap (λ (k : ℕ). declare (signal_of label k owner) >>= λ s. insert_wires m s k 0 (wires_at words at n)) (wires_length words at n)
-    ∙ ap (λ (k : ℕ → Writer Wires). declare (signal_of label n owner) >>= k) (fun_ext (λ s. wires_bits words n at m s n 0))

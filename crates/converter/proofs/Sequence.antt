@@ -1,201 +1,208 @@
--- One step after another. Assumes nothing.
-use Prim.Native.Nat.{ℕ, zero, suc, min, ◌≤◌}
-use lib.Seq.{length-take-le}
-use mathlib.Core.Path.{◌≡◌, refl, sym, ◌∙◌, ap, subst}
-use mathlib.Core.Bool.{Bool}
-use mathlib.Core.List.{List}
+-- The steps one after another.
+use mathlib.Core.Path.{◌≡◌, refl, ap, sym, ◌∙◌, subst}
+use mathlib.Core.List.{List, []}
+use Prim.Native.Nat.{ℕ, zero, suc, ◌≤◌, ◌<◌, min}
 use native.Mathlib.Omega.{arith}
-use lib.ListN.{length, take, get_or, replicate}
-use Rattle.std.proofs.lemmas.List.{length-replicate}
-use borrow.Author.Tests.{le-leb}
-use Rattle.bits.specs.Bits.{pick}
-use Rattle.refusal.specs.declared.Refusal.{Refusal}
+use lib.ListN.{length, take, get_or, replicate, length-replicate}
+use lib.Seq.{length-take-le}
+use Rattle.std.specs.Prelude.{Result, Ok, Err, IsErrAnd}
+use Rattle.std.proofs.lemmas.Result.{err_from_is_err_and}
 use Rattle.netlist.specs.declared.Limits.{Limits}
-use Rattle.netlist.specs.declared.Layout.{Layout}
+use Rattle.netlist.specs.declared.fields.Fields.{Fields}
 use Rattle.netlist.specs.Fields.{ports_at, cells_at}
+use Rattle.refusal.specs.declared.Refusal.{Refusal}
+use Rattle.refusal.specs.Refusal.{number_of, place_of}
 use Rattle.behaviour.specs.Banks.{collect_flip_flop_banks}
+use Rattle.recorder.specs.declared.Recorder.{Recorder}
+use Rattle.recorder.specs.Writer.{Writer, End, End.ok, End.no, ◌>>=◌, ◌>>◌}
 use Rattle.recorder.specs.declared.Tapes.{Tapes}
-use Rattle.recorder.specs.declared.Stated as r
-use Rattle.recorder.specs.Writer.{Writer, refuse, ◌>>=◌, ◌>>◌}
-use Rattle.recorder.specs.Lists.{Lists, lists, stated, Wrote, WroteSignals, WroteBoth}
-use Rattle.recorder.proofs.Wrote.{then_done, then_stop, then_same, wrote_as}
+use denote.Ref.{Bor}
+use Rattle.netlist.specs.declared.Layout.{Layout}
+use Rattle.converter.specs.Banked.{Collects}
+use Rattle.recorder.specs.Lists.{Lists, Wrote}
+use Rattle.recorder.specs.Calls.{lists_in, tapes_in, SameLists, Writes, ended}
+use Rattle.recorder.proofs.Calls.{same_lists, writes_as, writes_then, writes_stop, writes_err}
 use Rattle.wires.specs.declared.Constants.{Constants}
-use Rattle.wires.specs.Wires.{Wires, wires_of}
+use Rattle.wires.specs.declared.Emitter.{Emitter}
+use Rattle.wires.specs.declared.WireMap.{WireMap}
+use Rattle.wires.specs.Wires.{Wires, wires_in, wires_of}
 use Rattle.wires.specs.Expressions.{roomy}
-use Rattle.converter.specs.Tables.{mapped}
+use Rattle.wires.proofs.Laws.{roomy_yes}
+use Rattle.address_mux.specs.declared.Works.{Works}
 use Rattle.lowering.specs.Reserve.{reserve_ports, reserve_cells, reserve_flip_flop_banks}
-use Rattle.converter.specs.Reserves.{Room, ReservesPorts, ReservesCells}
 use Rattle.lowering.specs.Emit.{emit_cells, emit_banks, emit_outputs}
 use Rattle.lowering.specs.Lower.{start, emit_constants, reserve_netlist, emit_netlist, lower_netlist}
-use Rattle.converter.specs.Banked.{Collects}
-use Rattle.converter.specs.Reserved.{ReservesBanks}
+use Rattle.converter.specs.declared.Reserver.{Reserver}
+use Rattle.converter.specs.declared.members.Banks.{Banks}
+use Rattle.converter.specs.Tables.{map_in, Room, Reserves}
+use Rattle.converter.specs.Reserved.{BanksFit}
 use Rattle.converter.specs.BankEmits.{EmitsBanks}
-use Rattle.converter.specs.declared.constants.Started as s
-use Rattle.converter.specs.Emits.{started, Old, EmitsCells, EmitsAll, EmitsPorts}
-use Rattle.converter.specs.Steps.{netlist_by, Within, Checked, Unmapped, Noted, ReservesNetlist, emit_rest, EmitsRest, EmitsNetlist, Roomy, RecordsNetlist, unstarted_of}
-
-room : {limits : Limits} {wires places : List ℕ} → Within limits → 16384 ≤ length wires → 16384 ≤ length places → Room limits wires places
-room w h g = record { wires_long = omega (arith, w.wires); places_long = omega (arith, w.wires); narrow = omega (arith, w.width) }
+use Rattle.converter.specs.Emits.{Work, Old, CellsFit, PortsFit, EmitsCells, EmitsAll, EmitsPorts}
+use Rattle.converter.specs.Steps.{Within, Ordered, Unmapped, netlist_of, netlist_by, recorded, ReservesNetlist, EmitsNetlist, RecordsParts, RecordsNetlist}
+use Rattle.converter.proofs.Reserving.{reserves_then, reserves_err}
+use Rattle.converter.proofs.Rows.{CellsIn, PortsIn}
 
 -- RESERVING
 
-module _ (signals wires places words : List ℕ) (l : Layout) (banks : List ℕ) (count : ℕ) where
-  abbrev after_cells : Wires → Writer Wires
-  after_cells m = reserve_flip_flop_banks m 0 (collect_flip_flop_banks (cells_at words l.start l.cells))
+module _ (r : Reserver) (ports : Fields) (n : ℕ) (b : Banks) where
+  abbrev ports_from : Wires → Writer Wires
+  ports_from m = reserve_ports m 0 (ports_at ports.words.now ports.at n)
 
-  abbrev after_ports : Wires → Writer Wires
-  after_ports m = reserve_cells m 0 (cells_at words l.start l.cells) >>= after_cells
+  abbrev cells_from : Wires → Writer Wires
+  cells_from m = reserve_cells m 0 (cells_at b.cells.words.now b.cells.at b.n)
 
-  reserve_is : Unmapped wires places → reserve_netlist (netlist_by words l) ≡ (reserve_ports (wires_of wires places) 0 (ports_at words 0 l.ports) >>= after_ports)
+  abbrev banks_from : Wires → Writer Wires
+  banks_from m = reserve_flip_flop_banks m 0 (collect_flip_flop_banks (cells_at b.cells.words.now b.cells.at b.n))
+
+  abbrev pub Fit : Limits → Type 0
+  Fit limits = Ordered limits ports n b
+
+  abbrev pub whole : Writer Wires
+  whole = ports_from (map_in r) >>= λ m. cells_from m >>= banks_from
+
+  banks_fit : (limits : Limits) → Fit limits → BanksFit b limits
+  banks_fit limits p = (p.cells_fit, omega (arith, p.few), p.noted)
+
+  module _ {r₁ : Reserver} where
+    pub ports_err : (x : Refusal) → Reserves (PortsIn ports.words.now ports.at n r) r (ports_from (map_in r)) (Err x) r₁ → (q : Result (Unit {0}) Refusal) → IsErrAnd q (λ y. y ≡ x) → Reserves Fit r whole q r₁
+    ports_err x h q e = reserves_err (λ limits room p. p.ports_fit) (λ m. cells_from m >>= banks_from) h q e
+
+    module _ (h : Reserves (PortsIn ports.words.now ports.at n r) r (ports_from (map_in r)) (Ok tt) r₁) {r₂ : Reserver} where
+      pub cells_err : (x : Refusal) → Reserves (CellsIn b.cells.words.now b.cells.at b.n r₁) r₁ (cells_from (map_in r₁)) (Err x) r₂ → (q : Result (Unit {0}) Refusal) → IsErrAnd q (λ y. y ≡ x) → Reserves Fit r whole q r₂
+      cells_err x g q e = reserves_then (λ limits room p. p.ports_fit) (λ m. cells_from m >>= banks_from) h (λ limits room p. p) (reserves_err {P = Fit} (λ limits room p. p.cells_fit) banks_from g q e)
+
+      pub banks_last : Reserves (CellsIn b.cells.words.now b.cells.at b.n r₁) r₁ (cells_from (map_in r₁)) (Ok tt) r₂ → {q : Result (Unit {0}) Refusal} {r₃ : Reserver} → Reserves (BanksFit b) r₂ (banks_from (map_in r₂)) q r₃ → Reserves Fit r whole q r₃
+      banks_last g k = reserves_then (λ limits room p. p.ports_fit) (λ m. cells_from m >>= banks_from) h (λ limits room p. p) (reserves_then {P = Fit} (λ limits room p. p.cells_fit) banks_from g (λ limits room p. banks_fit limits p) k)
+
+  pub reserved : {q : Result (Unit {0}) Refusal} {r' : Reserver} → Reserves Fit r whole q r' → ReservesNetlist r.recorder.now r.wires.now r.places.now ports n b q r'.recorder.now r'.wires.now r'.places.now
   unfolding reserve_netlist
-  reserve_is u = ap (λ (m : Wires). reserve_ports m 0 (ports_at words 0 l.ports) >>= after_ports) (sym u.none_yet)
-
-  module _ {t : Tapes} {p : r.Stated} (signals₁ wires₁ places₁ : List ℕ) (zero_tapes : t ≡ start) (first : ReservesPorts signals wires places t words 0 l.ports p signals₁ wires₁ places₁) where
-    wrote_ports : (limits : Limits) → Checked limits words l → Unmapped wires places → WroteSignals signals start (reserve_ports (wires_of wires places) 0 (ports_at words 0 l.ports)) (mapped p (wires_of wires₁ places₁)) signals₁
-    wrote_ports limits c u e m =
-        subst (λ (x : Tapes). Wrote (lists signals e m) x (reserve_ports (wires_of wires places) 0 (ports_at words 0 l.ports)) (mapped p (wires_of wires₁ places₁)) (lists signals₁ e m)) zero_tapes
-        (first.so limits (room c.within u.wires_long u.places_long, c.ports) e m)
-
-    pub reserve_stop : {x : Refusal} → p ≡ r.TheVariants.Refused x → ReservesNetlist signals wires places words l banks count p signals₁ wires₁ places₁
-    reserve_stop d = record { so = λ limits c u n e m. wrote_as (reserve_is u) (then_same (wrote_ports limits c u e m) after_ports (ap (λ (y : r.Stated). mapped y (wires_of wires₁ places₁)) d)) }
-
-    module _ {t₁ : Tapes} (done : p ≡ r.TheVariants.Done t₁) (same_ss : length wires₁ ≡ length wires) (same_ps : length places₁ ≡ length places)
-        {q : r.Stated} (signals₂ wires₂ places₂ : List ℕ) (second : ReservesCells signals₁ wires₁ places₁ t₁ words l.start l.cells q signals₂ wires₂ places₂) where
-      wrote_cells : (limits : Limits) → Checked limits words l → Unmapped wires places → WroteSignals signals₁ t₁ (reserve_cells (wires_of wires₁ places₁) 0 (cells_at words l.start l.cells)) (mapped q (wires_of wires₂ places₂)) signals₂
-      wrote_cells limits c u e m = second.so limits (room c.within (omega (arith, u.wires_long)) (omega (arith, u.places_long)), c.cells) e m
-
-      pub reserve_stop_2 : {x : Refusal} → q ≡ r.TheVariants.Refused x → ReservesNetlist signals wires places words l banks count q signals₂ wires₂ places₂
-      reserve_stop_2 d = record {
-        so = λ limits c u n e m.
-            wrote_as (reserve_is u)
-            (then_done (wrote_ports limits c u e m) after_ports (ap (λ (y : r.Stated). mapped y (wires_of wires₁ places₁)) done)
-            (then_same (wrote_cells limits c u e m) after_cells (ap (λ (y : r.Stated). mapped y (wires_of wires₂ places₂)) d)));
-      }
-
-      pub reserve_end : {t₂ : Tapes} → q ≡ r.TheVariants.Done t₂ → length wires₂ ≡ length wires₁ → length places₂ ≡ length places₁
-          → {o : r.Stated} (signals₃ wires₃ places₃ : List ℕ) → ReservesBanks signals₂ wires₂ places₂ t₂ words l.start l.cells banks count o signals₃ wires₃ places₃
-          → ReservesNetlist signals wires places words l banks count o signals₃ wires₃ places₃
-      reserve_end d es ep signals₃ wires₃ places₃ third = record {
-        so = λ limits c u n e m.
-            wrote_as (reserve_is u)
-            (then_done (wrote_ports limits c u e m) after_ports (ap (λ (y : r.Stated). mapped y (wires_of wires₁ places₁)) done)
-            (then_done (wrote_cells limits c u e m) after_cells (ap (λ (y : r.Stated). mapped y (wires_of wires₂ places₂)) d)
-            (third.so limits ((room c.within (omega (arith, u.wires_long)) (omega (arith, u.places_long)), c.cells), omega (arith, c.few), n) e m)));
-      }
-
--- BANKS AND OUTPUTS
-
-roomy_is : {A : Type 0} (n : ℕ) (work : List ℕ) (w : Writer A) → n ≤ length work → w ≡ roomy n work w
-unfolding roomy
-roomy_is {A} n work w h = sym (ap (λ (b : Bool). pick {A = Writer A} b w (refuse 1 n)) (le-leb n (length work) h))
-
-module _ (e s parts wires places : List ℕ) (t : Tapes) (z : Constants) (words : List ℕ) (l : Layout) (banks : List ℕ) (count : ℕ) (p : r.Stated) (e₁ s₁ : List ℕ)
-    (first : EmitsBanks e s parts wires places t z words l.start l.cells banks count p e₁ s₁) where
-  wrote_banks : (limits : Limits) → Checked limits words l → Noted words l banks count → 16384 ≤ length parts → WroteBoth e s t (emit_banks (wires_of wires places) z (collect_flip_flop_banks (cells_at words l.start l.cells))) (stated p) e₁ s₁
-  wrote_banks limits c n h signals = wrote_as (roomy_is l.cells parts (emit_banks (wires_of wires places) z (collect_flip_flop_banks (cells_at words l.start l.cells))) (omega (arith, c.few))) (first.so n signals)
-
-  pub rest_stop : {x : Refusal} → p ≡ r.TheVariants.Refused x → EmitsRest e s parts wires places t z words l banks count p e₁ s₁
-  rest_stop d = record { so = λ limits c n h signals. then_same (wrote_banks limits c n h signals) (λ u. emit_outputs (wires_of wires places) 0 (ports_at words 0 l.ports)) (ap stated d) }
-
-  pub rest_end : {t₁ : Tapes} (parts₁ : List ℕ) → p ≡ r.TheVariants.Done t₁ → length parts₁ ≡ length parts → {q : r.Stated} (e₂ s₂ : List ℕ) → EmitsPorts e₁ s₁ parts₁ t₁ (wires_of wires places) words 0 l.ports q e₂ s₂
-      → EmitsRest e s parts wires places t z words l banks count q e₂ s₂
-  rest_end parts₁ d ep e₂ s₂ second = record {
-    so = λ limits c n h signals.
-        then_done (wrote_banks limits c n h signals) (λ u. emit_outputs (wires_of wires places) 0 (ports_at words 0 l.ports)) (ap stated d)
-        ((second signals).so limits (omega (arith, c.within.width), c.ports));
+  reserved {q} {r'} h = record {
+    same = h.same.lists;
+    so = λ limits p u.
+        writes_as (ap (λ (m : Wires). ports_from m >>= λ k. cells_from k >>= banks_from) (sym u.none_yet))
+        (h.so limits (record { wires_long = omega (arith, p.within.wires, u.wires_long); places_long = omega (arith, p.within.wires, u.places_long); narrow = omega (arith, p.within.width) }) p);
   }
 
 -- ALL CELLS, with a table of zeros
 
-pub zeros_old : (t : Tapes) (k n : ℕ) → Old t (take k (replicate n 0))
-zeros_old t k n w = omega (arith, zero_at k n w)
-  where
-    zero_at : (k n w : ℕ) → get_or (take k (replicate {A = ℕ} n 0)) w 0 ≡ 0
-    zero_at zero n w = refl
-    zero_at (suc k) zero w = refl
-    zero_at (suc k) (suc n) zero = refl
-    zero_at (suc k) (suc n) (suc w) = zero_at k n w
+zeros_low : (k n w : ℕ) → get_or (take k (replicate {A = ℕ} n 0)) w 0 ≡ 0
+zeros_low zero n w = refl
+zeros_low (suc k) zero w = refl
+zeros_low (suc k) (suc n) zero = refl
+zeros_low (suc k) (suc n) (suc w) = zeros_low k n w
 
-pub shared_cells : (l : Lists) (parts values : List ℕ) (t : Tapes) (m : Wires) (z : Constants) (words : List ℕ) (layout : Layout) (shared : ℕ) (k n : ℕ) {r : r.Stated} {l' : Lists} {seen : List ℕ}
-    → k ≡ 16384 → {w : ℕ} → w ≡ shared → n ≡ min w (length (replicate {A = ℕ} k 0)) → EmitsCells l parts values (take n (replicate k 0)) t m z words layout.start layout.cells r l' seen → EmitsAll l parts values t m z words layout shared r l'
-shared_cells l parts values t m z words layout shared k n {r} {l'} {seen} is {w} wide cut h = record {
+pub shared_cells : {e : Emitter} {works : Works} {words : List ℕ} {at n : ℕ} {r : End (Unit {0})} {e' : Emitter} (k end shared : ℕ) → k ≡ 16384 → end ≡ min k shared → e.seen.now ≡ take end (replicate {A = ℕ} k 0)
+    → EmitsCells e works words at n r e' → EmitsAll e.recorder.now works e.map words at n shared r e'.recorder.now
+shared_cells {e} {works} {words} {at} {n} {r} {e'} k end shared is cut table h = record {
+  same = h.same.lists;
   so = λ few limits p.
       let all : length (replicate {A = ℕ} k 0) ≡ k = length-replicate k 0 in
-      let room : n ≤ length (replicate {A = ℕ} k 0) = omega arith in
-      let long : length (take n (replicate {A = ℕ} k 0)) ≡ n = length-take-le n (replicate k 0) room in
-      let same : length (take n (replicate {A = ℕ} k 0)) ≡ shared = omega arith in
-      subst (λ (i : ℕ). Wrote l t (emit_cells i m z 0 (cells_at words layout.start layout.cells)) (stated r) l') same (h.so limits p (zeros_old t n k));
+      let long : length (take end (replicate {A = ℕ} k 0)) ≡ end = length-take-le end (replicate k 0) (omega arith) in
+      let same : length e.seen.now ≡ shared = omega (arith, ap length table) in
+      let old : Old e = λ w. omega (arith, ap (λ (l : List ℕ). get_or l w 0) table, zeros_low end k w) in
+      subst (λ (i : ℕ). Writes e.recorder.now (emit_cells i (wires_in e.map) e.map.constants 0 (cells_at words at n)) r e'.recorder.now) same (h.so limits p old);
 }
 
 -- ALL THAT IS EMITTED
 
-module _ (l₀ : Lists) (parts values wires places : List ℕ) (t : Tapes) (words : List ℕ) (l : Layout) (banks : List ℕ) (count shared : ℕ) (p : s.Started) (l₁ : Lists) (first : Wrote l₀ t emit_constants (started p) l₁) where
+module _ (works : Works) (wires places : List ℕ) (ports : Fields) (n : ℕ) (b : Banks) (shared : ℕ) where
+  abbrev Fits : Limits → Type 0
+  Fits limits = Ordered limits ports n b
+
+  abbrev m : Wires
+  m = wires_of wires places
+
+  abbrev after_banks : Writer (Unit {0})
+  after_banks = emit_outputs m 0 (ports_at ports.words.now ports.at n)
+
+  abbrev after_cells : Constants → Writer (Unit {0})
+  after_cells z = emit_banks m z (collect_flip_flop_banks (cells_at b.cells.words.now b.cells.at b.n)) >>= λ u. after_banks
+
   abbrev after_start : Constants → Writer (Unit {0})
-  after_start z = emit_cells shared (wires_of wires places) z 0 (cells_at words l.start l.cells) >> emit_rest (wires_of wires places) z (netlist_by words l)
+  after_start z = emit_cells shared m z 0 (cells_at b.cells.words.now b.cells.at b.n) >>= λ u. after_cells z
 
-  emit_is : emit_netlist shared (netlist_by words l) (wires_of wires places) ≡ (emit_constants >>= after_start)
-  unfolding emit_netlist
-  emit_is = refl
+  module _ {r : Recorder} where
+    pub constants_err : {r₁ : Recorder} (x : Refusal) → Writes r emit_constants (no (number_of x) (place_of x)) r₁ → {C : Type 0} (g : C → Unit {0}) (q : Result C Refusal) → IsErrAnd q (λ y. y ≡ x) → EmitsNetlist r works wires places ports n b shared (ended g q) r₁
+    unfolding emit_netlist
+    constants_err x h g q e = record { same = h.same; so = λ few limits p a c. writes_err h after_start g q x refl e }
 
-  pub emit_stop : {x : Refusal} {q : r.Stated} → p ≡ s.TheVariants.Refused x → q ≡ unstarted_of p → EmitsNetlist l₀ parts values wires places t words l banks count shared q l₁
-  emit_stop d e = record {
-    so = λ k limits c n h g.
-        wrote_as emit_is
-        (subst (λ (y : r.Stated). Wrote l₀ t (emit_constants >>= after_start) (stated y) l₁) (sym (e ∙ ap unstarted_of d)) (then_stop first after_start (ap started d)));
-  }
+    module _ {z : Constants} {r₁ : Recorder} (first : Writes r emit_constants (ok z) r₁) {map : WireMap} (is : wires_in map ≡ m) (of_z : map.constants ≡ z) where
+      module _ {e : End (Unit {0})} {r₂ : Recorder} (cells : EmitsAll r₁ works map b.cells.words.now b.cells.at b.n shared e r₂) where
+        wrote_cells : shared ≤ 16384 → (limits : Limits) → Fits limits → Work works.parts.now → Work works.values.now → Writes r₁ (emit_cells shared m z 0 (cells_at b.cells.words.now b.cells.at b.n)) e r₂
+        wrote_cells few limits p a c = writes_as (λ i. emit_cells shared (sym is i) (sym of_z i) 0 (cells_at b.cells.words.now b.cells.at b.n)) (cells.so few limits (a, c, p.cells_fit))
 
-  module _ {z : Constants} {t₁ : Tapes} (done : p ≡ s.TheVariants.Done z t₁) {q : r.Stated} (l₂ : Lists) (second : EmitsAll l₁ parts values t₁ (wires_of wires places) z words l shared q l₂) where
-    wrote_all_cells : shared ≤ 16384 → (limits : Limits) → Checked limits words l → 16384 ≤ length parts → 16384 ≤ length values → Wrote l₁ t₁ (emit_cells shared (wires_of wires places) z 0 (cells_at words l.start l.cells)) (stated q) l₂
-    wrote_all_cells k limits c h g = second.so k limits (h, g, c.cells)
+      pub cells_refused : (x : Refusal) {r₂ : Recorder} → EmitsAll r₁ works map b.cells.words.now b.cells.at b.n shared (no (number_of x) (place_of x)) r₂ → {C : Type 0} (g : C → Unit {0}) (q : Result C Refusal) → IsErrAnd q (λ y. y ≡ x) → EmitsNetlist r works wires places ports n b shared (ended g q) r₂
+      unfolding emit_netlist
+      cells_refused x h g q e = record { same = same_lists first.same h.same; so = λ few limits p a c. writes_then first after_start refl (writes_err (wrote_cells h few limits p a c) (λ u. after_cells z) g q x refl e) }
 
-    pub emit_stop_2 : {x : Refusal} → q ≡ r.TheVariants.Refused x → EmitsNetlist l₀ parts values wires places t words l banks count shared q l₂
-    emit_stop_2 d = record {
-      so = λ k limits c n h g.
-          wrote_as emit_is
-          (then_done first after_start (ap started done)
-          (then_same (wrote_all_cells k limits c h g) (λ u. emit_rest (wires_of wires places) z (netlist_by words l)) (ap stated d)));
-    }
+      module _ {r₂ : Recorder} (cells : EmitsAll r₁ works map b.cells.words.now b.cells.at b.n shared (ok tt) r₂) {parts : List ℕ} (kept : length parts ≡ length works.parts.now) where
+        wrote_banks : {e : End (Unit {0})} {r₃ : Recorder} → EmitsBanks r₂ parts map b e r₃ → (limits : Limits) → Fits limits → Work works.parts.now → Writes r₂ (emit_banks m z (collect_flip_flop_banks (cells_at b.cells.words.now b.cells.at b.n))) e r₃
+        wrote_banks h limits p a =
+            writes_as ((λ i. emit_banks (sym is i) (sym of_z i) (collect_flip_flop_banks (cells_at b.cells.words.now b.cells.at b.n))) ∙ sym (roomy_yes b.n parts (emit_banks (wires_in map) map.constants (collect_flip_flop_banks (cells_at b.cells.words.now b.cells.at b.n))) (omega (arith, p.few, a, kept)))) (h.so p.noted)
 
-    pub emit_end : {t₂ : Tapes} → q ≡ r.TheVariants.Done t₂ → (parts₁ : List ℕ) → length parts₁ ≡ length parts → {o : r.Stated} (e s : List ℕ)
-        → EmitsRest l₂.exprs l₂.stmts parts₁ wires places t₂ z words l banks count o e s
-        → EmitsNetlist l₀ parts values wires places t words l banks count shared o (lists l₂.signals e s)
-    emit_end d parts₁ ep e s third = record {
-      so = λ k limits c n h g.
-          let room : 16384 ≤ length parts₁ = omega arith in
-          wrote_as emit_is
-          (then_done first after_start (ap started done)
-          (then_done (wrote_all_cells k limits c h g) (λ u. emit_rest (wires_of wires places) z (netlist_by words l)) (ap stated d)
-          (third.so limits c n room l₂.signals)));
-    }
+        pub banks_refused : (x : Refusal) {r₃ : Recorder} → EmitsBanks r₂ parts map b (no (number_of x) (place_of x)) r₃ → {C : Type 0} (g : C → Unit {0}) (q : Result C Refusal) → IsErrAnd q (λ y. y ≡ x) → EmitsNetlist r works wires places ports n b shared (ended g q) r₃
+        unfolding emit_netlist
+        banks_refused x h g q e = record {
+          same = same_lists first.same (same_lists cells.same h.same);
+          so = λ few limits p a c. writes_then first after_start refl (writes_then (wrote_cells cells few limits p a c) (λ u. after_cells z) refl (writes_err (wrote_banks h limits p a) (λ u. after_banks) g q x refl e));
+        }
+
+        pub outputs_last : {r₃ : Recorder} → EmitsBanks r₂ parts map b (ok tt) r₃ → (parts' : List ℕ) → length parts' ≡ length parts → {e : End (Unit {0})} {r₄ : Recorder} → EmitsPorts r₃ parts' (wires_in map) ports.words.now ports.at n e r₄ → EmitsNetlist r works wires places ports n b shared e r₄
+        unfolding emit_netlist
+        outputs_last h parts' k g = record {
+          same = same_lists first.same (same_lists cells.same (same_lists h.same g.same));
+          so = λ few limits p a c.
+              writes_then first after_start refl
+              (writes_then (wrote_cells cells few limits p a c) (λ u. after_cells z) refl
+              (writes_then (wrote_banks h limits p a) (λ u. after_banks) refl
+              (writes_as (λ i. emit_outputs (sym is i) 0 (ports_at ports.words.now ports.at n)) (g.so limits (omega (arith, p.within.width, a, kept, k), p.ports_fit)))));
+        }
 
 -- THE WHOLE
 
-module _ (e s wires places parts values banks words : List ℕ) (l : Layout) (count : ℕ) (banks₁ : List ℕ) (shared : ℕ) (noting : Collects words l.start l.cells banks parts values count banks₁) where
-  noted : (limits : Limits) → Checked limits words l → Roomy parts values banks → Noted words l banks₁ count
-  noted limits c k =
-      noting limits (omega (arith, c.within.wires)) c.cells
-      (record { numbers = omega (arith, c.few, k.banks_long); clocks = omega (arith, c.few, k.parts_long); resets = omega (arith, c.few, k.values_long) })
+module _ (r : Recorder) (wires places : List ℕ) (works : Works) (ports : Fields) (n : ℕ) (b : Banks) (shared : ℕ) where
+  abbrev emitted_from : Wires → Writer (Unit {0})
+  emitted_from m = emit_netlist shared (netlist_of ports n b) m
 
-  module _ (signals : List ℕ) {p : r.Stated} (signals₁ wires₁ places₁ : List ℕ) (first : ReservesNetlist signals wires places words l banks₁ count p signals₁ wires₁ places₁) where
-    lower_is : lower_netlist shared (netlist_by words l) ≡ (reserve_netlist (netlist_by words l) >>= λ m. emit_netlist shared (netlist_by words l) m)
+  pub reserve_refused : (x : Refusal) {r₁ : Recorder} {wires₁ places₁ : List ℕ} → ReservesNetlist r wires places ports n b (Err x) r₁ wires₁ places₁ → (q : Result Tapes Refusal) → IsErrAnd q (λ y. y ≡ x) → RecordsParts r wires places works ports n b shared q r₁
+  unfolding lower_netlist
+  reserve_refused x {r₁} h q e =
+      let p = err_from_is_err_and q e in
+      subst (λ (y : Result Tapes Refusal). RecordsParts r wires places works ports n b shared y r₁) (sym (p.1 ∙ ap Err p.2)) (record { same = h.same; so = λ few limits o u a c. (writes_stop (h.so limits o u) emitted_from refl).wrote })
+
+  module _ {r₁ : Recorder} {wires₁ places₁ : List ℕ} (h : ReservesNetlist r wires places ports n b (Ok tt) r₁ wires₁ places₁) where
+    wrote_both : {e : End (Unit {0})} {r₂ : Recorder} → EmitsNetlist r₁ works wires₁ places₁ ports n b shared e r₂ → shared ≤ 16384 → (limits : Limits) → Ordered limits ports n b → Unmapped wires places → Work works.parts.now → Work works.values.now
+        → Writes r (lower_netlist shared (netlist_of ports n b)) e r₂
     unfolding lower_netlist
-    lower_is = refl
+    wrote_both g few limits o u a c = writes_then (h.so limits o u) emitted_from refl (g.so few limits o a c)
 
-    pub record_stop : {x : Refusal} → p ≡ r.TheVariants.Refused x → RecordsNetlist (lists signals e s) wires places parts values banks words l shared p (lists signals₁ e s)
-    record_stop d = record {
-      so = λ few limits c u k.
-          wrote_as lower_is
-          (subst (λ (y : r.Stated). Wrote (lists signals e s) start (reserve_netlist (netlist_by words l) >>= λ m. emit_netlist shared (netlist_by words l) m) (stated y) (lists signals₁ e s)) (sym d)
-          (then_stop (first.so limits c u (noted limits c k) e s) (λ m. emit_netlist shared (netlist_by words l) m) (ap (λ (y : r.Stated). mapped y (wires_of wires₁ places₁)) d)));
-    }
+    pub emit_refused : (x : Refusal) {r₂ : Recorder} → EmitsNetlist r₁ works wires₁ places₁ ports n b shared (no (number_of x) (place_of x)) r₂ → (q : Result Tapes Refusal) → IsErrAnd q (λ y. y ≡ x) → RecordsParts r wires places works ports n b shared q r₂
+    emit_refused x {r₂} g q e =
+        let p = err_from_is_err_and q e in
+        subst (λ (y : Result Tapes Refusal). RecordsParts r wires places works ports n b shared y r₂) (sym (p.1 ∙ ap Err p.2)) (record { same = same_lists h.same g.same; so = λ few limits o u a c. (wrote_both g few limits o u a c).wrote })
 
-    pub record_end : {t : Tapes} (parts₁ values₁ : List ℕ) → p ≡ r.TheVariants.Done t → length parts₁ ≡ length parts → length values₁ ≡ length values → {q : r.Stated} {l₂ : Lists}
-        → EmitsNetlist (lists signals₁ e s) parts₁ values₁ wires₁ places₁ t words l banks₁ count shared q l₂
-        → RecordsNetlist (lists signals e s) wires places parts values banks words l shared q l₂
-    record_end parts₁ values₁ d ep ev second = record {
-      so = λ few limits c u k.
-          let n = noted limits c k in
-          wrote_as lower_is
-          (then_done (first.so limits c u n e s) (λ m. emit_netlist shared (netlist_by words l) m) (ap (λ (y : r.Stated). mapped y (wires_of wires₁ places₁)) d)
-          (second.so few limits c n (omega (arith, k.parts_long)) (omega (arith, k.values_long))));
-    }
+    pub recorded_all : {r₂ : Recorder} → EmitsNetlist r₁ works wires₁ places₁ ports n b shared (ok tt) r₂ → {t : Tapes} → t ≡ tapes_in r₂ → RecordsParts r wires places works ports n b shared (Ok t) r₂
+    recorded_all {r₂} g {t} is = subst (λ (v : Tapes). RecordsParts r wires places works ports n b shared (Ok v) r₂) (sym is) (record { same = same_lists h.same g.same; so = λ few limits o u a c. (wrote_both g few limits o u a c).wrote })
+
+-- the words of a checked netlist, whose banks are collected
+module _ (words numbers : Bor (List ℕ)) (l : Layout) (count : ℕ) where
+  abbrev the_ports : Fields
+  the_ports = record { words = words; at = 0 }
+
+  abbrev the_banks : Banks
+  the_banks = record { cells = record { words = words; at = l.start }; n = l.cells; numbers = numbers; count = count }
+
+  pub recorded_netlist : (r : Recorder) (wires places parts values banks : List ℕ) (works : Works) (shared : ℕ) {q : Result Tapes Refusal} {r' : Recorder} → tapes_in r ≡ start → Collects words.now l.start l.cells banks parts values count numbers.now
+      → length works.parts.now ≡ length parts → length works.values.now ≡ length values → RecordsParts r wires places works the_ports l.ports the_banks shared q r'
+      → RecordsNetlist (lists_in r) wires places parts values banks words.now l shared q (lists_in r')
+  recorded_netlist r wires places parts values banks works shared {q} {r'} begun noting lp lv h = record {
+    so = λ few limits c u room.
+        let noted = noting limits (omega (arith, c.within.wires)) c.cells (record { numbers = omega (arith, c.few, room.banks_long); clocks = omega (arith, c.few, room.parts_long); resets = omega (arith, c.few, room.values_long) }) in
+        subst (λ (t : Tapes). Wrote (lists_in r) t (lower_netlist shared (netlist_by words.now l)) (recorded q) (lists_in r')) begun
+        (h.so few limits (record { within = c.within; ports_fit = c.ports; cells_fit = c.cells; few = c.few; noted = noted }) u (omega (arith, lp, room.parts_long)) (omega (arith, lv, room.values_long)));
+  }
+
+-- the lists by other names
+pub by_lists : {l₀ : Lists} {wires places parts values banks words : List ℕ} {l : Layout} {shared : ℕ} {q : Result Tapes Refusal} {l₁ l₂ : Lists} → RecordsNetlist l₀ wires places parts values banks words l shared q l₁ → l₂.signals ≡ l₁.signals → l₂.exprs ≡ l₁.exprs → l₂.stmts ≡ l₁.stmts
+    → RecordsNetlist l₀ wires places parts values banks words l shared q l₂
+by_lists {l₀} {wires} {places} {parts} {values} {banks} {words} {l} {shared} {q} h s e t = subst (λ (k : Lists). RecordsNetlist l₀ wires places parts values banks words l shared q k) (λ i. sym (λ j. record { signals = s j; exprs = e j; stmts = t j }) i) h

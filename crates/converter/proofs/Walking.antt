@@ -1,4 +1,4 @@
--- The walk from one member of a bank to the next.
+-- The walk over the cells to the next member of a bank.
 use mathlib.Core.Path.{◌≡◌, refl, ap, ap₂, sym, ◌∙◌}
 use mathlib.Core.Bool.{Bool, true, false}
 use mathlib.Core.List.{List, [], ◌∷◌}
@@ -10,13 +10,13 @@ use lib.Dec.{eqb, leb, ltb}
 use lib.ListN.{length, get_or}
 use borrow.Author.Tests.{eq-eqb, ne_eqb, leb-true, leb-false, ltb-true, ltb-false}
 use Rattle.netlist.specs.Netlist.{FlipFlop, bit_of}
-use Rattle.netlist.specs.Fields.{word_at, when_set, control_at, reset_at, cell_end}
+use Rattle.netlist.specs.declared.fields.Fields.{Fields}
+use Rattle.netlist.specs.Fields.{word_at, when_set, control_at, reset_at, cell_size, cell_end}
 use Rattle.netlist.proofs.WordLaws.{word_past}
 use Rattle.behaviour.specs.Banks.{Member, kept, outputs_of}
-use Rattle.converter.specs.declared.members.Scan.{Scan}
-use Rattle.converter.specs.declared.members.Cursor.{Cursor}
 use Rattle.converter.specs.Banked.{flop_at}
-use Rattle.converter.specs.Members.{noted, members_in, rest_at, rest_from, Stands, Finds, Goes}
+use Rattle.converter.specs.declared.members.Members.{Members}
+use Rattle.converter.specs.Members.{noted, member_of, members_left}
 
 -- PAST THE LAST WORD
 
@@ -51,93 +51,67 @@ noted_cut words banks number n c i j e = go (leb j (length words)) refl
     go true q = let h = leb-true j (length words) q in ap (noted words banks number n c) (let z : i ≡ j = omega arith in z)
     go false q = let h = leb-false j (length words) q in noted_past words banks number n c i j (omega arith) (omega arith)
 
-module _ (words banks : List ℕ) (s : Scan) where
-  -- ONE CELL MORE
+module _ (words banks : List ℕ) (number : ℕ) where
+  -- those that are left of n cells, from cell c on
+  abbrev pub rest_at : ℕ → ℕ → ℕ → List Member
+  rest_at n c i = noted words banks number (n - c) c i
 
-  rest_more : (c i : ℕ) → c < s.n → rest_at words banks s c i ≡ kept (eqb (get_or banks c 0) s.number) (record { cell = c; flop = flop_at words i }) (rest_at words banks s (suc c) (cell_end words i))
+  rest_more : (n c i : ℕ) → c < n → rest_at n c i ≡ kept (eqb (get_or banks c 0) number) (record { cell = c; flop = flop_at words i }) (rest_at n (suc c) (cell_end words i))
   unfolding noted
-  rest_more c i h = let e : s.n - c ≡ suc (s.n - suc c) = omega arith in ap (λ (k : ℕ). noted words banks s.number k c i) e
+  rest_more n c i h = let e : n - c ≡ suc (n - suc c) = omega arith in ap (λ (k : ℕ). noted words banks number k c i) e
 
-  rest_member : (c i : ℕ) → c < s.n → get_or banks c 0 ≡ s.number → rest_at words banks s c i ≡ record { cell = c; flop = flop_at words i } ∷ rest_at words banks s (suc c) (cell_end words i)
-  rest_member c i h e = rest_more c i h ∙ ap (λ (b : Bool). kept b (record { cell = c; flop = flop_at words i }) (rest_at words banks s (suc c) (cell_end words i))) (eq-eqb (get_or banks c 0) s.number e)
+  -- the cell behind, whose index was cut to the number of words
+  behind : (n c i : ℕ) {p : ℕ} → p ≡ min (cell_end words i) (length words) → rest_at n (suc c) (cell_end words i) ≡ rest_at n (c + 1) p
+  behind n c i {p} e = sym (ap (λ (k : ℕ). rest_at n k p) (add-one c) ∙ noted_cut words banks number (n - suc c) (suc c) p (cell_end words i) e)
 
-  rest_other : (c i : ℕ) → c < s.n → (get_or banks c 0 ≡ s.number → ⊥) → rest_at words banks s c i ≡ rest_at words banks s (suc c) (cell_end words i)
-  rest_other c i h e = rest_more c i h ∙ ap (λ (b : Bool). kept b (record { cell = c; flop = flop_at words i }) (rest_at words banks s (suc c) (cell_end words i))) (ne_eqb (get_or banks c 0) s.number e)
+  -- a member, or another cell
+  pub rest_member : (n c i : ℕ) {p : ℕ} → c < n → get_or banks c 0 ≡ number → p ≡ min (cell_end words i) (length words) → rest_at n c i ≡ record { cell = c; flop = flop_at words i } ∷ rest_at n (c + 1) p
+  rest_member n c i {p} h e cut =
+      rest_more n c i h ∙ ap (λ (b : Bool). kept b (record { cell = c; flop = flop_at words i }) (rest_at n (suc c) (cell_end words i))) (eq-eqb (get_or banks c 0) number e)
+      ∙ ap (λ (ms : List Member). record { cell = c; flop = flop_at words i } ∷ ms) (behind n c i cut)
 
-  pub rest_end : (c i : ℕ) → s.n ≤ c → rest_at words banks s c i ≡ []
+  pub rest_other : (n c i : ℕ) {p : ℕ} → c < n → (get_or banks c 0 ≡ number → ⊥) → p ≡ min (cell_end words i) (length words) → rest_at n c i ≡ rest_at n (c + 1) p
+  rest_other n c i {p} h e cut =
+      rest_more n c i h ∙ ap (λ (b : Bool). kept b (record { cell = c; flop = flop_at words i }) (rest_at n (suc c) (cell_end words i))) (ne_eqb (get_or banks c 0) number e)
+      ∙ behind n c i cut
+
+  pub rest_end : (n c i : ℕ) → n ≤ c → rest_at n c i ≡ []
   unfolding noted
-  rest_end c i h = let e : s.n - c ≡ 0 = omega arith in ap (λ (k : ℕ). noted words banks s.number k c i) e
+  rest_end n c i h = let e : n - c ≡ 0 = omega arith in ap (λ (k : ℕ). noted words banks number k c i) e
 
-  rest_cut : (c i j : ℕ) → i ≡ min j (length words) → rest_at words banks s c i ≡ rest_at words banks s c j
-  rest_cut c i j e = noted_cut words banks s.number (s.n - c) c i j e
+-- no more than cells are left
+noted_few : (words banks : List ℕ) (number n c i : ℕ) → length (noted words banks number n c i) ≤ n
+unfolding noted
+noted_few words banks number zero c i = omega arith
+noted_few words banks number (suc n) c i = go (eqb (get_or banks c 0) number) (noted_few words banks number n (suc c) (cell_end words i))
+  where
+    go : (b : Bool) → length (noted words banks number n (suc c) (cell_end words i)) ≤ n → length (kept b (record { cell = c; flop = flop_at words i }) (noted words banks number n (suc c) (cell_end words i))) ≤ suc n
+    go true h = omega arith
+    go false h = omega arith
 
-  pub rest_all : rest_at words banks s 0 s.at ≡ members_in words banks s
-  rest_all = let e : s.n - 0 ≡ s.n = omega arith in ap (λ (k : ℕ). noted words banks s.number k 0 s.at) e
+pub members_few : (m : Members) → length (members_left m) ≤ m.end
+members_few m = omega (arith, noted_few m.cell.fields.words.now m.numbers.now m.bank (m.end - m.cell.number) m.cell.number m.cell.fields.at)
 
-  -- the code passes a cell
-  pub pass : {c x w p : ℕ} (i : ℕ) → c < s.n → x ≡ get_or banks w 0 → w ≡ c → (x ≡ s.number → ⊥) → p ≡ min (cell_end words i) (length words) → rest_at words banks s (c + 1) p ≡ rest_at words banks s c i
-  pass {c} {x} {w} {p} i h e f n cut =
-      ap (λ (k : ℕ). rest_at words banks s k p) (add-one c) ∙ rest_cut (suc c) p (cell_end words i) cut
-      ∙ sym (rest_other c i h (λ q. n (e ∙ ap (λ (k : ℕ). get_or banks k 0) f ∙ q)))
+-- the cell that stands first is a member, or it is another cell
+module _ (m : Members) (less : m.cell.number < m.end) {f : Fields} {size : ℕ} (is_size : size ≡ cell_size m.cell.fields.words.now m.cell.fields.at) (on : f ≡ record m.cell.fields { at = min (m.cell.fields.at + size) (length m.cell.fields.words.now) }) where
+  abbrev behind_it : Members
+  behind_it = record m { cell = record { number = m.cell.number + 1; fields = f } }
 
-  -- from one member to the next
-  pub next_stands : {c r : Cursor} {p : ℕ} → p ≡ min (cell_end words c.place) (length words) → Finds words banks s (record { cell = c.cell + 1; place = p }) r → Goes words banks s c r
-  next_stands {c} {r} {p} cut h = record {
-    next = λ q. record {
-      rest = h.found.rest ∙ ap (λ (k : ℕ). rest_at words banks s k p) (add-one c.cell) ∙ rest_cut (suc c.cell) p (cell_end words c.place) cut;
-      member = h.found.member;
-    };
-    onward = λ q. omega (arith, h.onward);
-  }
+  cut : min (m.cell.fields.at + size) (length m.cell.fields.words.now) ≡ min (cell_end m.cell.fields.words.now m.cell.fields.at) (length m.cell.fields.words.now)
+  cut = ap (λ (k : ℕ). min (m.cell.fields.at + k) (length m.cell.fields.words.now)) is_size
 
-  pub start_stands : {r : Cursor} → Finds words banks s (record { cell = 0; place = s.at }) r → Stands words banks s r (members_in words banks s)
-  start_stands h = record { rest = h.found.rest ∙ rest_all; member = h.found.member }
+  moved : rest_at m.cell.fields.words.now m.numbers.now m.bank m.end (m.cell.number + 1) (min (m.cell.fields.at + size) (length m.cell.fields.words.now)) ≡ members_left behind_it
+  moved = ap (λ (g : Fields). rest_at g.words.now m.numbers.now m.bank m.end (m.cell.number + 1) g.at) (sym on)
 
-  -- WHAT A WALKER KNOWS: it stands on a member, and has seen not more members than cells
-  pub record Walks (c : Cursor) (done : ℕ) : Type 0 where
-    pub on : c.cell < s.n → get_or banks c.cell 0 ≡ s.number
-    pub few : done ≤ c.cell
+  pub member_here : {x : ℕ} → x ≡ get_or m.numbers.now m.cell.number 0 → x ≡ m.bank → members_left m ≡ member_of m.cell ∷ members_left behind_it
+  member_here e q = rest_member m.cell.fields.words.now m.numbers.now m.bank m.end m.cell.number m.cell.fields.at less (sym e ∙ q) cut ∙ ap (λ (ms : List Member). member_of m.cell ∷ ms) moved
 
-  pub walk_start : {c : Cursor} → Stands words banks s c (members_in words banks s) → Walks c 0
-  walk_start h = record { on = h.member; few = omega arith }
+  pub member_other : {x : ℕ} → x ≡ get_or m.numbers.now m.cell.number 0 → (x ≡ m.bank → ⊥) → members_left m ≡ members_left behind_it
+  member_other e q = rest_other m.cell.fields.words.now m.numbers.now m.bank m.end m.cell.number m.cell.fields.at less (λ z. q (e ∙ z)) cut ∙ moved
 
-  pub walk_next : {c r : Cursor} {done : ℕ} → Walks c done → c.cell < s.n → Goes words banks s c r → Walks r (done + 1)
-  walk_next w h g = record { on = (g.next h).member; few = omega (arith, w.few, g.onward h) }
+  -- one is left less
+  pub member_less : {all : List Member} → members_left m ≡ all → {x : ℕ} → x ≡ get_or m.numbers.now m.cell.number 0 → x ≡ m.bank → length (members_left behind_it) < length all
+  member_less a e q = omega (arith, ap length (member_here e q), ap length a)
 
-  pub walk_past : {c r : Cursor} {done : ℕ} → Walks c done → c.cell < s.n → Goes words banks s c r → Walks r 0
-  walk_past w h g = record { on = (g.next h).member; few = omega arith }
-
-  -- the first of what is left
-  pub walk_first : {c : Cursor} {done : ℕ} → Walks c done → c.cell < s.n → rest_from words banks s c ≡ record { cell = c.cell; flop = flop_at words c.place } ∷ rest_at words banks s (suc c.cell) (cell_end words c.place)
-  walk_first {c} w h = rest_member c.cell c.place h (w.on h)
-
-  -- and the others
-  pub walk_here : {c r : Cursor} {done : ℕ} → Walks c done → c.cell < s.n → Goes words banks s c r → rest_from words banks s c ≡ record { cell = c.cell; flop = flop_at words c.place } ∷ rest_from words banks s r
-  walk_here {c} w h g = walk_first w h ∙ ap (λ (ms : List Member). record { cell = c.cell; flop = flop_at words c.place } ∷ ms) (sym (g.next h).rest)
-
-  -- the first of all
-  pub leader_is : {c : Cursor} {m : Member} {ms more : List Member} → Stands words banks s c ms → ms ≡ m ∷ more → m.flop ≡ flop_at words c.place
-  leader_is {c} {m} {ms} {more} h e = go (ltb c.cell s.n) refl
-    where
-      go : (b : Bool) → ltb c.cell s.n ≡ b → m.flop ≡ flop_at words c.place
-      go true q =
-          let less : c.cell < s.n = ltb-true c.cell s.n q in
-          let both : record { cell = c.cell; flop = flop_at words c.place } ∷ rest_at words banks s (suc c.cell) (cell_end words c.place) ≡ m ∷ more = sym (rest_member c.cell c.place less (h.member less)) ∙ h.rest ∙ e in
-          let same : record { cell = c.cell; flop = flop_at words c.place } ≡ m = cc in
-          sym (ap (λ (x : Member). x.flop) same)
-      go false q =
-          let None : [] ≡ m ∷ more = sym (rest_end c.cell c.place (ltb-false c.cell s.n q)) ∙ h.rest ∙ e in
-          absurd (omega (arith, ap length None))
-
--- one member less
-pub count_on : (k : ℕ) {total : ℕ} {m : Member} {ms more : List Member} → k + length ms ≡ total → ms ≡ m ∷ more → k + 1 + length more ≡ total
-count_on k h e = omega (arith, h, ap length e)
-
-pub count_end : {k total : ℕ} {ms : List Member} → k + length ms ≡ total → ms ≡ [] → k ≡ total
-count_end h e = omega (arith, h, ap length e)
-
-pub count_start : {ms all : List Member} → ms ≡ all → 0 + length ms ≡ length all
-count_start e = omega (arith, ap length e)
-
-pub outputs_on : (words : List ℕ) {w cell : ℕ} (place : ℕ) {ms more : List Member} → ms ≡ record { cell = cell; flop = flop_at words place } ∷ more → w ≡ word_at words (place + 2) → outputs_of ms ≡ w ∷ outputs_of more
-outputs_on words place {more = more} e f = ap outputs_of e ∙ ap (λ (x : ℕ). x ∷ outputs_of more) (sym f)
+pub members_end : (m : Members) → m.end ≤ m.cell.number → members_left m ≡ []
+members_end m h = rest_end m.cell.fields.words.now m.numbers.now m.bank m.end m.cell.number m.cell.fields.at h

@@ -1,22 +1,20 @@
 -- The call of `lower` as a value: the answer, the three lists and the five works, for whatever is lent.
-use Rattle.std.specs.Prelude.{Bool, true, false, List, [], ◌∷◌, map, ◌≡◌, ℕ, ◌≤◌, ltb, length}
+use Rattle.std.specs.Prelude.{Bool, true, false, List, [], ◌∷◌, map, Result, Ok, Err, ◌≡◌, ℕ, ◌≤◌, ltb, length}
 use Rattle.bits.specs.Bits.{pick}
 use Rattle.refusal.specs.Refusal.{number_of, place_of}
 use Rattle.refusal.specs.declared.Refusal as x
 use Rattle.netlist.specs.declared.Limits.{Limits}
 use Rattle.recorder.specs.declared.Tapes.{Tapes}
-use Rattle.recorder.specs.declared.Stated as r
 use Rattle.recorder.specs.Record.{Signal, Stmt, signal_words, stmt_words}
 use Rattle.recorder.specs.Lists.{Lists}
 use Rattle.recorder.specs.Words.{list_words, holding, blank, zeroed}
 use Rattle.lowering.specs.Lower.{Lowered, Accepted, Refused, Lowering, overdriven_from, judged, lower_words}
 use Rattle.converter.specs.Steps.{Within}
-use Rattle.converter.specs.declared.Lowered as c
 
 -- the code's answer by number and values
-abbrev pub answer_of : c.Lowered → Lowered
-answer_of (c.TheVariants.Accepted t) = Accepted t
-answer_of (c.TheVariants.Refused x) = Refused (number_of x) (place_of x)
+abbrev pub answer_of : Result Tapes x.Refusal → Lowered
+answer_of (Ok t) = Accepted t
+answer_of (Err x) = Refused (number_of x) (place_of x)
 
 -- a work of so many words is too short
 unfoldable pub short : ℕ → Bool
@@ -34,17 +32,17 @@ abbrev pub call_of : Limits → List ℕ → Lists → List (List ℕ) → Lower
 call_of limits words l works = lower_call limits words (length l.signals) (length l.exprs) (length l.stmts) (map length works)
 
 -- words, lists and works at entry; the answer, lists and works at exit
-pub record Lowers (limits : Limits) (words : List ℕ) (l : Lists) (works : List (List ℕ)) (r : c.Lowered) (l' : Lists) (works' : List (List ℕ)) : Type 0 where
+pub record Lowers (limits : Limits) (words : List ℕ) (l : Lists) (works : List (List ℕ)) (r : Result Tapes x.Refusal) (l' : Lists) (works' : List (List ℕ)) : Type 0 where
   pub value : record { answer = answer_of r; lists = l' } ≡ call_of limits words l works
   pub zeros : works' ≡ map zeroed works
 
-pub record LowersWithin (limits : Limits) (words : List ℕ) (l : Lists) (works : List (List ℕ)) (r : c.Lowered) (l' : Lists) (works' : List (List ℕ)) : Type 0 where
+pub record LowersWithin (limits : Limits) (words : List ℕ) (l : Lists) (works : List (List ℕ)) (r : Result Tapes x.Refusal) (l' : Lists) (works' : List (List ℕ)) : Type 0 where
   pub so : Within limits → Lowers limits words l works r l' works'
 
 -- FOR ITS PARTS
 
 -- all but the works' zeroing
-pub record LowersLists (limits : Limits) (words : List ℕ) (l : Lists) (works : List (List ℕ)) (r : c.Lowered) (l' : Lists) : Type 0 where
+pub record LowersLists (limits : Limits) (words : List ℕ) (l : Lists) (works : List (List ℕ)) (r : Result Tapes x.Refusal) (l' : Lists) : Type 0 where
   pub so : Within limits → record { answer = answer_of r; lists = l' } ≡ call_of limits words l works
 
 -- a refusal leaves zeros
@@ -55,7 +53,7 @@ kept (Refused number place) l zeroed = zeroed
 abbrev pub blank_of : Lists → Lists
 blank_of l = blank (length l.signals) (length l.exprs) (length l.stmts)
 
-abbrev pub Keeps : c.Lowered → Lists → Lists → Type 0
+abbrev pub Keeps : Result Tapes x.Refusal → Lists → Lists → Type 0
 Keeps r l l' = l' ≡ kept (answer_of r) l (blank_of l)
 
 -- what the works hold once they are known to be long enough: the first two are the wire map's tables, and empty
@@ -69,26 +67,12 @@ pub record Ready (wires places parts values banks : List ℕ) : Type 0 where
   pub banks_long : 16384 ≤ length banks
 
 -- from lists of zeros: the answer, and the lists if it is a model
-pub record Attempts (limits : Limits) (words : List ℕ) (l : Lists) (wires places parts values banks : List ℕ) (r : c.Lowered) (l' : Lists) : Type 0 where
+pub record Attempts (limits : Limits) (words : List ℕ) (l : Lists) (wires places parts values banks : List ℕ) (r : Result Tapes x.Refusal) (l' : Lists) : Type 0 where
   pub value : Within limits → Ready wires places parts values banks → (s e t : ℕ) → l ≡ blank s e t → record { answer = answer_of r; lists = kept (answer_of r) l' (blank s e t) } ≡ lower_words limits words s e t
 
 -- what was recorded, p, judged on the signals s and the statements m
-pub record AnswersTo (s m : List ℕ) (p : r.Stated) (q : c.Lowered) (s' : List ℕ) : Type 0 where
-  pub refused : (x : x.Refusal) → p ≡ r.TheVariants.Refused x → answer_of q ≡ Refused (number_of x) (place_of x)
-  pub recorded : (t : Tapes) → p ≡ r.TheVariants.Done t → (a b : ℕ) (xs : List Signal) (ts : List Stmt) → s ≡ holding a (list_words signal_words xs) → m ≡ holding b (list_words stmt_words ts)
+pub record AnswersTo (s m : List ℕ) (p q : Result Tapes x.Refusal) (s' : List ℕ) : Type 0 where
+  pub refused : (x : x.Refusal) → p ≡ Err x → answer_of q ≡ Refused (number_of x) (place_of x)
+  pub recorded : (t : Tapes) → p ≡ Ok t → (a b : ℕ) (xs : List Signal) (ts : List Stmt) → s ≡ holding a (list_words signal_words xs) → m ≡ holding b (list_words stmt_words ts)
       → (l : Lists) → answer_of q ≡ (judged (overdriven_from 0 xs ts) t l l).answer
-  pub same : (t : Tapes) → p ≡ r.TheVariants.Done t → (a b : ℕ) (xs : List Signal) (ts : List Stmt) → s ≡ holding a (list_words signal_words xs) → m ≡ holding b (list_words stmt_words ts) → s' ≡ s
-
--- zeros of the same lengths
-pub record ZerosTwo (a b a' b' : List ℕ) : Type 0 where
-  pub first : a' ≡ zeroed a
-  pub second : b' ≡ zeroed b
-
-pub record ZerosThree (a b c a' b' c' : List ℕ) : Type 0 where
-  pub first : a' ≡ zeroed a
-  pub second : b' ≡ zeroed b
-  pub third : c' ≡ zeroed c
-
-pub record ZerosFive (a b c d e a' b' c' d' e' : List ℕ) : Type 0 where
-  pub two : ZerosTwo a b a' b'
-  pub three : ZerosThree c d e c' d' e'
+  pub same : (t : Tapes) → p ≡ Ok t → (a b : ℕ) (xs : List Signal) (ts : List Stmt) → s ≡ holding a (list_words signal_words xs) → m ≡ holding b (list_words stmt_words ts) → s' ≡ s

@@ -1,75 +1,89 @@
--- What the functions of insert.rt and scalar.rt say of the tables that hold the wire map.
-use Rattle.std.specs.Prelude.{◌≡◌, List, [], ◌∷◌, ℕ, zero, suc, ◌<◌, length}
+-- What the methods of a `Reserver` promise.
+use Rattle.std.specs.Prelude.{◌≡◌, List, ℕ, ◌<◌, ◌≤◌, length, Result}
+use Rattle.netlist.specs.declared.Limits.{Limits}
 use Rattle.netlist.specs.declared.Bit.{Bit}
-use Rattle.netlist.specs.declared.Bit.TheVariants.{Zero, One, Wire}
+use Rattle.netlist.specs.declared.Bit.TheVariants.{Wire}
 use Rattle.netlist.specs.Fields.{records_at, after, word_at, bit_at}
-use Rattle.refusal.specs.Refusal.{number_of, place_of}
-use Rattle.recorder.specs.declared.Tapes.{Tapes}
-use Rattle.recorder.specs.declared.Declared.{Declared}
-use Rattle.recorder.specs.declared.Declared.TheVariants as D
-use Rattle.refusal.specs.declared.Refusal.TheVariants.{BufferTooShort}
-use Rattle.recorder.specs.declared.Stated.{Stated}
-use Rattle.recorder.specs.declared.Stated.TheVariants as S
-use Rattle.recorder.specs.Writer.{Writer, pure, refuse}
-use Rattle.recorder.specs.Lists.{WroteSignals, Answer, Answer.Done, Answer.Failed}
+use Rattle.refusal.specs.declared.Refusal.{Refusal}
+use Rattle.recorder.specs.Writer.{Writer, End, declare, ◌>>=◌}
+use Rattle.recorder.specs.Record.{Signal}
+use Rattle.recorder.specs.Calls.{SameLists, Writes, ended}
+use Rattle.wires.specs.declared.WireRef.{WireRef}
 use Rattle.wires.specs.Wires.{Wires, wires_of}
-use Rattle.converter.specs.declared.insert.Inserted.{Inserted}
-use Rattle.converter.specs.declared.insert.Inserted.TheVariants as I
-use Rattle.lowering.specs.Reserve.{insert_wire, insert_bits, reserve_scalar}
+use Rattle.lowering.specs.Reserve.{signal_of, insert_bits}
+use Rattle.converter.specs.declared.Reserver.{Reserver}
+use Rattle.converter.specs.declared.Content.{Content}
+use Rattle.converter.specs.declared.Content.TheVariants as C
+use Rattle.converter.specs.declared.Label.{Label}
+use Rattle.converter.specs.declared.Label.TheVariants as L
 
--- no record: the map after it, or a refusal
-abbrev pub quiet : Inserted → Wires → Writer Wires
-quiet I.Done m = pure m
-quiet (I.Refused x) m = refuse (number_of x) (place_of x)
+-- the wire map in the tables
+abbrev pub map_in : Reserver → Wires
+map_in r = wires_of r.wires.now r.places.now
 
-abbrev pub mapped : Stated → Wires → Answer Wires
-mapped (S.Done t) m = Done m t
-mapped (S.Refused x) m = Failed (number_of x) (place_of x)
+-- it still has what it was lent
+pub record SameTables (r r' : Reserver) : Type 0 where
+  pub recorder : r'.recorder.ghost_name ≡ r.recorder.ghost_name
+  pub lists : SameLists r.recorder.now r'.recorder.now
+  pub wires : r'.wires.ghost_name ≡ r.wires.ghost_name
+  pub places : r'.places.ghost_name ≡ r.places.ghost_name
+  pub wires_size : length r'.wires.now ≡ length r.wires.now
+  pub places_size : length r'.places.now ≡ length r.places.now
 
--- the tables have the wire
-abbrev pub Tabled : List ℕ → List ℕ → ℕ → Type 0
-Tabled wires places w = (w < length wires) × (w < length places)
+-- the tables have the wires, and hold the widths
+pub record Room (limits : Limits) (r : Reserver) : Type 0 where
+  pub wires_long : limits.wires ≤ length r.wires.now
+  pub places_long : limits.wires ≤ length r.places.now
+  pub narrow : limits.width < 65536
 
-abbrev pub TabledBit : List ℕ → List ℕ → Bit → Type 0
-TabledBit wires places Zero = Unit {0}
-TabledBit wires places One = Unit {0}
-TabledBit wires places (Wire w) = Tabled wires places w
+-- the answer, with the map that the tables then hold
+abbrev pub mapped : Result (Unit {0}) Refusal → Wires → End Wires
+mapped q m = ended (λ (u : Unit {0}). m) q
 
-abbrev pub TabledBits : List ℕ → List ℕ → List Bit → Type 0
-TabledBits wires places [] = Unit {0}
-TabledBits wires places (b ∷ bs) = TabledBit wires places b × TabledBits wires places bs
+-- with tables that have room, and if P holds, a call wrote w, and the tables hold its map
+pub record Reserves (P : Limits → Type 0) (r : Reserver) (w : Writer Wires) (q : Result (Unit {0}) Refusal) (r' : Reserver) : Type 0 where
+  pub same : SameTables r r'
+  pub so : (limits : Limits) → Room limits r → P limits → Writes r.recorder.now w (mapped q (map_in r')) r'.recorder.now
 
--- and its entry can be written
-pub record Small (s lsb width : ℕ) : Type 0 where
-  pub numbered : s < 4294967295
-  pub placed : lsb < 65536
-  pub narrow : width < 65536
+-- a signal was declared, and the tables hold the map that they held
+pub record Declares (r : Reserver) (x : Signal) (e : End ℕ) (r' : Reserver) : Type 0 where
+  pub same : SameTables r r'
+  pub map : map_in r' ≡ map_in r
+  pub wrote : Writes r.recorder.now (declare x) e r'.recorder.now
 
-abbrev pub Inserts : List ℕ → List ℕ → ℕ → ℕ → ℕ → ℕ → Inserted → List ℕ → List ℕ → Type 0
-Inserts wires places w s lsb width r wires' places' = Tabled wires places w → Small s lsb width → insert_wire (wires_of wires places) (Wire w) (record { signal = s; lsb = lsb; width = width }) ≡ quiet r (wires_of wires' places')
+-- an entry that the tables can hold
+pub record Small (r : WireRef) : Type 0 where
+  pub numbered : r.signal.0 < 4294967295
+  pub placed : r.lsb < 65536
+  pub narrow : r.width < 65536
 
-abbrev pub InsertsBit : List ℕ → List ℕ → Bit → ℕ → ℕ → ℕ → Inserted → List ℕ → List ℕ → Type 0
-InsertsBit wires places b s lsb width r wires' places' = TabledBit wires places b → Small s lsb width → insert_wire (wires_of wires places) b (record { signal = s; lsb = lsb; width = width }) ≡ quiet r (wires_of wires' places')
+-- the fields hold bits or wires
+abbrev pub held_bit : List ℕ → Content → ℕ → Bit
+held_bit words C.Bits i = bit_at words i
+held_bit words C.Wires i = Wire (word_at words i)
 
--- the words hold bit words (0) or wires
-abbrev pub held_bit : List ℕ → ℕ → ℕ → Bit
-held_bit words zero i = bit_at words i
-held_bit words (suc k) i = Wire (word_at words i)
+abbrev pub held_bits : List ℕ → Content → ℕ → ℕ → List Bit
+held_bits words content at n = records_at (held_bit words content) after n at
 
-abbrev pub held_bits : List ℕ → ℕ → ℕ → ℕ → List Bit
-held_bits words kind at n = records_at (held_bit words kind) after n at
+-- a signal of n bits
+abbrev pub reserve_bits : Wires → ℕ → ℕ → ℕ → List Bit → Writer Wires
+reserve_bits m label owner n bits = declare (signal_of label n owner) >>= λ s. insert_bits m s n 0 bits
 
-abbrev pub InsertsBits : List ℕ → List ℕ → List Bit → ℕ → ℕ → Inserted → List ℕ → List ℕ → Type 0
-InsertsBits wires places bits s n r wires' places' = TabledBits wires places bits → s < 4294967295 → n < 65536 → insert_bits (wires_of wires places) s n 0 bits ≡ quiet r (wires_of wires' places')
-
-abbrev pub ReservesScalar : List ℕ → List ℕ → List ℕ → Tapes → ℕ → ℕ → ℕ → Stated → List ℕ → List ℕ → List ℕ → Type 0
-ReservesScalar l wires places t label owner w r l' wires' places' = Tabled wires places w → WroteSignals l t (reserve_scalar (wires_of wires places) label owner w) (mapped r (wires_of wires' places')) l'
-
--- refusals handed on
-abbrev pub undeclared_of : Declared → Stated
-undeclared_of (D.Done s t) = S.Done t
-undeclared_of (D.Refused x) = S.Refused x
-
-abbrev pub not_inserted_of : Inserted → Stated
-not_inserted_of I.Done = S.Refused (BufferTooShort 0)
-not_inserted_of (I.Refused x) = S.Refused x
+-- a label's number
+abbrev pub label_of : Label → ℕ
+label_of L.Input = 0
+label_of L.Output = 1
+label_of L.Lut4 = 2
+label_of L.Pfumx = 3
+label_of L.L6mux21 = 4
+label_of L.Ccu2c = 5
+label_of L.Multiplier = 6
+label_of L.FlipFlops = 7
+label_of L.BlockRam = 8
+label_of L.DistributedRam = 9
+label_of L.Io = 10
+label_of L.Jtagg = 11
+label_of L.Pll = 12
+label_of L.RamWord = 13
+label_of L.Zero = 14
+label_of L.One = 15

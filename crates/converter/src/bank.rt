@@ -1,93 +1,54 @@
 // The signals of banks and the wires that they hold.
-ghost use Rattle.converter.specs.Members.{members_in};
-ghost use Rattle.behaviour.specs.Banks.{outputs_of};
-ghost use Rattle.converter.specs.Reserved.{InsertsWires, ReservesBank, ReservesBanks};
+ghost use Rattle.std.specs.Prelude.{◌≡◌, ◌<◌, ◌≤◌, length};
+ghost use Rattle.netlist.specs.Shape.{Each, FitsWire};
+ghost use Rattle.netlist.specs.Fields.{cells_at};
+ghost use Rattle.behaviour.specs.Banks.{outputs_of, collect_flip_flop_banks};
+ghost use Rattle.lowering.specs.Reserve.{insert_wires, reserve_vector, reserve_flip_flop_banks};
+ghost use Rattle.converter.specs.Tables.{map_in, Reserves};
+ghost use Rattle.converter.specs.Members.{members_left};
+ghost use Rattle.converter.specs.Reserved.{BanksFit};
 
-use crate::insert::{Inserted, insert_wire, not_inserted};
-use crate::members::{Scan, count_members, first_member, next_member};
-use crate::scalar::undeclared;
-use netlist::fields::field;
-use recorder::{Declared, SignalId, Stated, Tapes, builder};
+use crate::members::{Banks, Members};
+use crate::{Label, Reserver};
+use recorder::SignalId;
+use refusal::Refusal;
+use wires::WireRef;
 
-// A signal holds the outputs of a bank's members, the first in its lowest bit.
-fn insert_members(
-    wires: &mut [u32],
-    places: &mut [u32],
-    words: &[u32],
-    banks: &[u32],
-    scan: Scan,
-    signal: SignalId,
-    width: u32,
-) -> Inserted
-    ensures { InsertsWires wires.old places.old (outputs_of (members_in words.now banks.now scan)) signal.0 width result wires.new places.new }
-{
-    let mut lsb = 0;
-    let mut c = first_member(words, banks, scan);
-    while c.cell < scan.n {
-        let wire = field(words, c.place, 2);
-        let r = insert_wire(wires, places, wire, signal, lsb, width);
-        let Inserted::Done = r else {
-            return r;
-        };
-        lsb += 1;
-        c = next_member(words, banks, scan, c);
+impl Reserver<'_, '_> {
+    // A signal holds the outputs of a bank's members, the first in its lowest bit.
+    fn insert_members(
+        &mut self,
+        members: Members,
+        signal: SignalId,
+        width: u32,
+    ) -> Result<(), Refusal>
+        ensures { Reserves (λ limits. Each (FitsWire limits) (outputs_of (members_left members.entry)) × (signal.0 < 4294967295) × (width < 65536) × (length (members_left members.entry) ≤ width)) self.old (insert_wires (map_in self.old) signal.0 width 0 (outputs_of (members_left members.entry))) result self.new }
+    {
+        let mut lsb = 0;
+        for cell in members {
+            let wire = cell.fields.word(2);
+            self.insert_wire(wire, WireRef { signal, lsb, width })?;
+            lsb += 1;
+        }
+        Ok(())
     }
-    Inserted::Done
-}
 
-// The signal of one bank.
-fn reserve_flip_flop_bank(
-    signals: &mut [u32],
-    wires: &mut [u32],
-    places: &mut [u32],
-    t: Tapes,
-    words: &[u32],
-    banks: &[u32],
-    scan: Scan,
-    owner: u32,
-) -> Stated
-    ensures { ReservesBank signals.old wires.old places.old t words.now banks.now scan owner result signals.new wires.new places.new }
-{
-    let width = count_members(words, banks, scan);
-    let d = builder::signal(signals, t, 7, width, owner);
-    let Declared::Done(s, next) = d else {
-        return undeclared(d);
-    };
-    let r = insert_members(wires, places, words, banks, scan, s, width);
-    let Inserted::Done = r else {
-        return not_inserted(r);
-    };
-    Stated::Done(next)
-}
-
-// The signals of all banks of n cells that stand from an index on.
-pub fn reserve_flip_flop_banks(
-    signals: &mut [u32],
-    wires: &mut [u32],
-    places: &mut [u32],
-    t: Tapes,
-    words: &[u32],
-    at: usize,
-    n: u32,
-    banks: &[u32],
-    count: u32,
-) -> Stated
-    ensures { ReservesBanks signals.old wires.old places.old t words.now at n banks.now count result signals.new wires.new places.new }
-{
-    let mut now = t;
-    let mut b = 0;
-    while b < count {
-        let scan = Scan {
-            at,
-            n,
-            number: b + 1,
-        };
-        let r = reserve_flip_flop_bank(signals, wires, places, now, words, banks, scan, b);
-        let Stated::Done(next) = r else {
-            return r;
-        };
-        now = next;
-        b += 1;
+    // The signal of one bank.
+    fn reserve_bank(&mut self, owner: u32, members: Members) -> Result<(), Refusal>
+        ensures { Reserves (λ limits. Each (FitsWire limits) (outputs_of (members_left members.entry)) × (length (members_left members.entry) < 65536)) self.old (reserve_vector (map_in self.old) 7 owner (outputs_of (members_left members.entry))) result self.new }
+    {
+        let width = members.width();
+        let signal = self.signal(Label::FlipFlops, width, owner)?;
+        self.insert_members(members, signal, width)
     }
-    Stated::Done(now)
+
+    // The signals of all banks.
+    pub fn reserve_banks(&mut self, banks: Banks) -> Result<(), Refusal>
+        ensures { Reserves (BanksFit banks.entry) self.old (reserve_flip_flop_banks (map_in self.old) 0 (collect_flip_flop_banks (cells_at banks.entry.cells.words.now banks.entry.cells.at banks.entry.n))) result self.new }
+    {
+        for b in 0..banks.count {
+            self.reserve_bank(b, banks.members(b + 1))?;
+        }
+        Ok(())
+    }
 }

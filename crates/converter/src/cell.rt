@@ -1,112 +1,92 @@
 // Every cell by its kind.
-ghost use Rattle.std.specs.Prelude.{◌≡◌, ◌⊎◌};
-ghost use Rattle.netlist.specs.Fields.{word_at, cell_at};
-ghost use Rattle.wires.specs.Wires.{wires_of};
-ghost use Rattle.recorder.specs.Lists.{lists};
-ghost use Rattle.converter.specs.Emits.{EmitsCell, EmitsCells};
+ghost use Rattle.std.specs.Prelude.{◌≡◌, ◌%◌};
+ghost use Rattle.netlist.specs.Fields.{cell_at, ccu2c_at};
+ghost use Rattle.recorder.specs.Calls.{stated};
+ghost use Rattle.address_mux.specs.Candidates.{SameWorks};
+ghost use Rattle.converter.specs.Emits.{EmitsKind, EmitsCell, EmitsCells};
 
-use crate::kinds::emit_small;
 use crate::rams::{block_ram_cell, distributed_ram_cell};
-use netlist::fields::{cell_end, field};
-use recorder::{Stated, Tapes};
-use wires::Constants;
+use address_mux::Works;
+use carry::ccu2c::emit_ccu2c;
+use cells::emit::{emit_io, emit_l6mux21, emit_lut4, emit_multiplier, emit_pfumx};
+use clocking::jtagg::emit_idle_jtagg;
+use clocking::pll::emit_cycle_pll;
+use netlist::Kind;
+use netlist::fields::Fields;
+use refusal::Refusal;
+use wires::Emitter;
 
-// A RAM. It is called from two places, so that the compiler keeps its code out of the loop over all cells.
-fn emit_ram(
-    signals: &mut [u32],
-    exprs: &mut [u32],
-    stmts: &mut [u32],
-    parts: &mut [u32],
-    values: &mut [u32],
-    seen: &mut [u32],
-    wires: &[u32],
-    places: &[u32],
-    t: Tapes,
-    constants: Constants,
-    owner: u32,
-    words: &[u32],
-    at: usize,
-) -> Stated
-    requires { (word_at words.now at ≡ 6) ⊎ (word_at words.now at ≡ 7) }
-    ensures { EmitsCell (lists signals.old exprs.old stmts.old) parts.old values.old seen.old t (wires_of wires.now places.now) constants owner (cell_at words.now at) result (lists signals.new exprs.new stmts.new) seen.new }
+// A truth table is the lower half of its word; a checked one is all of it.
+fn truth_table(word: u32) -> u16
+    ensures { result ≡ word % 65536 }
 {
-    if field(words, at, 0) == 6 {
-        return block_ram_cell(
-            signals, exprs, stmts, parts, values, seen, wires, places, t, constants, owner, words,
-            at,
-        );
-    }
-    distributed_ram_cell(
-        signals, exprs, stmts, seen, wires, places, t, constants, owner, words, at,
+    (word % 65536) as u16
+}
+
+fn ccu2c_cell(emitter: &mut Emitter, cell: Fields) -> Result<(), Refusal>
+    ensures { EmitsKind emitter.old (ccu2c_at cell.entry.words.now cell.entry.at) (stated result) emitter.new }
+{
+    let f = cell.ccu2c();
+    emit_ccu2c(
+        emitter,
+        cell.ccu2c_inputs(),
+        f.carry_in,
+        [f.sum0, f.sum1],
+        f.carry,
+        [truth_table(f.init0), truth_table(f.init1)],
+        [f.inject0, f.inject1],
     )
 }
 
-// The cell at an index; `owner` is its number. Both works, `parts` and `values`, have 16,384 words or more.
+// The cell whose fields these are; `owner` is its number. Both works have 16,384 words or more.
 fn emit_cell(
-    signals: &mut [u32],
-    exprs: &mut [u32],
-    stmts: &mut [u32],
-    parts: &mut [u32],
-    values: &mut [u32],
-    seen: &mut [u32],
-    wires: &[u32],
-    places: &[u32],
-    t: Tapes,
-    constants: Constants,
+    emitter: &mut Emitter,
+    works: &mut Works,
     owner: u32,
-    words: &[u32],
-    at: usize,
-) -> Stated
-    ensures { EmitsCell (lists signals.old exprs.old stmts.old) parts.old values.old seen.old t (wires_of wires.now places.now) constants owner (cell_at words.now at) result (lists signals.new exprs.new stmts.new) seen.new }
+    cell: Fields,
+) -> Result<(), Refusal>
+    ensures wrote { EmitsCell emitter.old works.old owner (cell_at cell.entry.words.now cell.entry.at) (stated result) emitter.new }
+    ensures works { SameWorks works.old works.new }
 {
-    let kind = field(words, at, 0);
-    if kind == 6 {
-        return emit_ram(
-            signals, exprs, stmts, parts, values, seen, wires, places, t, constants, owner, words,
-            at,
-        );
+    match cell.kind() {
+        Kind::Lut4 => emit_lut4(
+            emitter,
+            cell.bits(1),
+            cell.word(5),
+            truth_table(cell.word(6)),
+        ),
+        Kind::Pfumx => emit_pfumx(emitter, cell.pfumx()),
+        Kind::L6mux21 => emit_l6mux21(emitter, cell.l6mux21()),
+        Kind::Ccu2c => ccu2c_cell(emitter, cell),
+        Kind::Multiplier => emit_multiplier(emitter, cell),
+        // It comes by its bank.
+        Kind::FlipFlop => Ok(()),
+        Kind::BlockRam => block_ram_cell(emitter, works, owner, cell),
+        Kind::DistributedRam => distributed_ram_cell(emitter, owner, cell),
+        Kind::Io => emit_io(emitter, cell.io()),
+        Kind::Jtagg => emit_idle_jtagg(emitter.recorder, emitter.map, cell),
+        Kind::Pll => emit_cycle_pll(emitter.recorder, emitter.map, cell),
     }
-    if kind == 7 {
-        return emit_ram(
-            signals, exprs, stmts, parts, values, seen, wires, places, t, constants, owner, words,
-            at,
-        );
-    }
-    emit_small(exprs, stmts, seen, wires, places, t, words, at, kind)
 }
 
-// The n cells from an index on, numbered from 0.
+// The n cells from the first one's fields on, numbered from 0.
 pub fn emit_cells(
-    signals: &mut [u32],
-    exprs: &mut [u32],
-    stmts: &mut [u32],
-    parts: &mut [u32],
-    values: &mut [u32],
-    seen: &mut [u32],
-    wires: &[u32],
-    places: &[u32],
-    t: Tapes,
-    constants: Constants,
-    words: &[u32],
-    at: usize,
+    emitter: &mut Emitter,
+    works: &mut Works,
+    cells: Fields,
     n: u32,
-) -> Stated
-    ensures { EmitsCells (lists signals.old exprs.old stmts.old) parts.old values.old seen.old t (wires_of wires.now places.now) constants words.now at n result (lists signals.new exprs.new stmts.new) seen.new }
+) -> Result<(), Refusal>
+    ensures wrote { EmitsCells emitter.old works.old cells.entry.words.now cells.entry.at n (stated result) emitter.new }
+    ensures works { SameWorks works.old works.new }
 {
-    let mut now = t;
-    let mut place = at;
-    let mut i = 0;
-    while i < n {
-        let r = emit_cell(
-            signals, exprs, stmts, parts, values, seen, wires, places, now, constants, i, words,
-            place,
-        );
-        let Stated::Done(next) = r else {
-            return r;
+    let mut at = cells.at;
+    for owner in 0..n {
+        let cell = Fields {
+            words: cells.words,
+            at,
         };
-        now = next;
-        place = cell_end(words, place);
-        i += 1;
+        emit_cell(emitter, works, owner, cell)?;
+        at = cell.cell_end();
     }
-    Stated::Done(now)
+    Ok(())
 }

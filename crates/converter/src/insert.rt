@@ -1,116 +1,76 @@
 // Wires put into the wire map: two tables by wire.
 //
-// A number that a table can't hold is none that a checked netlist has; it is answered `out_of_range`, and the contracts speak of the others.
-ghost use Rattle.std.specs.Prelude.{◌≡◌, ◌+◌};
-ghost use Rattle.converter.specs.Tables.{Inserts, InsertsBit, InsertsBits, held_bit, held_bits, not_inserted_of};
+// A number that a table can't hold is none that a checked netlist has; it is answered 1, and the contracts speak of the others.
+ghost use Rattle.std.specs.Prelude.{◌≡◌, ◌+◌, ◌<◌};
+ghost use Rattle.netlist.specs.declared.Bit.TheVariants.{Wire};
+ghost use Rattle.netlist.specs.Shape.{Each, FitsBit, FitsWire};
+ghost use Rattle.wires.specs.Wires.{ref_in};
+ghost use Rattle.lowering.specs.Reserve.{insert_wire, insert_bits};
+ghost use Rattle.converter.specs.Tables.{map_in, Reserves, Small, held_bit, held_bits};
 
+use crate::{Content, Reserver};
 use netlist::Bit;
-use netlist::fields::{bit_at, field, wide};
-use recorder::{SignalId, Stated};
+use netlist::fields::Fields;
+use recorder::SignalId;
 use refusal::Refusal;
+use wires::WireRef;
 
-#[derive(Clone, Copy)]
-pub enum Inserted {
-    Done,
-    Refused(Refusal),
-}
-
-fn out_of_range() -> Inserted {
-    Inserted::Refused(Refusal::BufferTooShort(0))
-}
-
-pub fn insert_wire(
-    wires: &mut [u32],
-    places: &mut [u32],
-    wire: u32,
-    signal: SignalId,
-    lsb: u32,
-    width: u32,
-) -> Inserted
-    ensures { Inserts wires.old places.old wire signal.0 lsb width result wires.new places.new }
-{
-    let i = wide(wire);
-    let s = signal.0;
-    if wires.len() <= i {
-        return out_of_range();
-    }
-    if places.len() <= i {
-        return out_of_range();
-    }
-    if 65535 < lsb {
-        return out_of_range();
-    }
-    if 65535 < width {
-        return out_of_range();
-    }
-    if 4294967295 <= s {
-        return out_of_range();
-    }
-    if wires[i] != 0 {
-        return Inserted::Refused(Refusal::DuplicateWire(i));
-    }
-    wires[i] = s + 1;
-    places[i] = lsb * 65536 + width;
-    Inserted::Done
-}
-
-// A constant is no wire.
-fn insert_bit(
-    wires: &mut [u32],
-    places: &mut [u32],
-    bit: Bit,
-    signal: SignalId,
-    lsb: u32,
-    width: u32,
-) -> Inserted
-    ensures { InsertsBit wires.old places.old bit signal.0 lsb width result wires.new places.new }
-{
-    match bit {
-        Bit::Zero => Inserted::Done,
-        Bit::One => Inserted::Done,
-        Bit::Wire(wire) => insert_wire(wires, places, wire, signal, lsb, width),
+impl Content {
+    // The bit in a field.
+    fn bit(self, fields: Fields, i: usize) -> Bit
+        ensures { result ≡ held_bit fields.entry.words.now self (fields.entry.at + i) }
+    {
+        match self {
+            Content::Bits => fields.bit(i),
+            Content::Wires => Bit::Wire(fields.word(i)),
+        }
     }
 }
 
-// The words hold bit words (0) or wires (1).
-fn held_bit(words: &[u32], at: usize, i: usize, kind: u32) -> Bit
-    ensures { result ≡ held_bit words.now kind (at + i) }
-{
-    if kind == 0 {
-        return bit_at(words, at, i);
+impl Reserver<'_, '_> {
+    // A wire that is there already is refused.
+    pub fn insert_wire(&mut self, wire: u32, held: WireRef) -> Result<(), Refusal>
+        ensures { Reserves (λ limits. FitsWire limits wire × Small held) self.old (insert_wire (map_in self.old) (Wire wire) (ref_in held)) result self.new }
+    {
+        let i = wire as usize;
+        if self.wires.len() <= i || self.places.len() <= i {
+            return Err(Refusal::BufferTooShort(0));
+        }
+        if held.lsb > 65535 || held.width > 65535 || held.signal.0 == 4294967295 {
+            return Err(Refusal::BufferTooShort(0));
+        }
+        if self.wires[i] != 0 {
+            return Err(Refusal::DuplicateWire(i));
+        }
+        self.wires[i] = held.signal.0 + 1;
+        self.places[i] = held.lsb * 65536 + held.width;
+        Ok(())
     }
-    Bit::Wire(field(words, at, i))
-}
 
-// A signal holds n bits that stand from an index on, the lowest first.
-pub fn insert_bits(
-    wires: &mut [u32],
-    places: &mut [u32],
-    words: &[u32],
-    at: usize,
-    kind: u32,
-    signal: SignalId,
-    n: u32,
-) -> Inserted
-    ensures { InsertsBits wires.old places.old (held_bits words.now kind at n) signal.0 n result wires.new places.new }
-{
-    let mut i = 0;
-    while i < n {
-        let bit = held_bit(words, at, wide(i), kind);
-        let r = insert_bit(wires, places, bit, signal, i, n);
-        let Inserted::Done = r else {
-            return r;
-        };
-        i += 1;
+    // A constant is no wire.
+    fn insert_bit(&mut self, bit: Bit, held: WireRef) -> Result<(), Refusal>
+        ensures { Reserves (λ limits. FitsBit limits bit × Small held) self.old (insert_wire (map_in self.old) bit (ref_in held)) result self.new }
+    {
+        match bit {
+            Bit::Zero | Bit::One => Ok(()),
+            Bit::Wire(wire) => self.insert_wire(wire, held),
+        }
     }
-    Inserted::Done
-}
 
-pub fn not_inserted(r: Inserted) -> Stated
-    ensures { result ≡ not_inserted_of r }
-{
-    match r {
-        Inserted::Done => Stated::Refused(Refusal::BufferTooShort(0)),
-        Inserted::Refused(x) => Stated::Refused(x),
+    // A signal holds the bits of n fields, the lowest first.
+    pub fn insert_bits(
+        &mut self,
+        fields: Fields,
+        content: Content,
+        signal: SignalId,
+        n: u32,
+    ) -> Result<(), Refusal>
+        ensures { Reserves (λ limits. Each (FitsBit limits) (held_bits fields.entry.words.now content fields.entry.at n) × (signal.0 < 4294967295) × (n < 65536)) self.old (insert_bits (map_in self.old) signal.0 n 0 (held_bits fields.entry.words.now content fields.entry.at n)) result self.new }
+    {
+        for lsb in 0..n {
+            let bit = content.bit(fields, lsb as usize);
+            self.insert_bit(bit, WireRef { signal, lsb, width: n })?;
+        }
+        Ok(())
     }
 }

@@ -1,40 +1,32 @@
-// The answer, once all is recorded: 11 comes last, and a refusal leaves lists of zeros.
+// The answer, once all is recorded: 11 comes last.
 ghost use Rattle.std.specs.Prelude.{◌≡◌};
-ghost use Rattle.recorder.specs.Lists.{Lists, lists};
-ghost use Rattle.conflict.specs.Conflicts.{found_of};
+ghost use Rattle.recorder.specs.Lists.{Lists};
 ghost use Rattle.lowering.specs.Lower.{judged as judged_of};
-ghost use Rattle.converter.specs.Entry.{AnswersTo, Keeps, answer_of};
+ghost use Rattle.converter.specs.Entry.{AnswersTo, answer_of};
 
-use crate::Lowered;
-use crate::zeros::zero_lists;
-use conflict::{Conflict, overdriven};
-use recorder::{Stated, Tapes};
+use conflict::overdriven;
+use recorder::Tapes;
 use refusal::Refusal;
 
-fn judged(t: Tapes, found: Conflict) -> Lowered
-    ensures { (l : Lists) → answer_of result ≡ (judged_of (found_of found) t l l).answer }
+fn judged(t: Tapes, found: Option<usize>) -> Result<Tapes, Refusal>
+    ensures { (l : Lists) → answer_of result ≡ (judged_of found t l l).answer }
 {
     match found {
-        Conflict::Absent => Lowered::Accepted(t),
-        Conflict::Signal(s) => Lowered::Refused(Refusal::StatementConflict(s)),
+        Some(s) => Err(Refusal::StatementConflict(s)),
+        None => Ok(t),
     }
 }
 
 // What was recorded from lists of zeros on, judged.
-pub fn answered(signals: &mut [u32], stmts: &[u32], r: Stated) -> Lowered
+pub fn answered(
+    signals: &mut [u32],
+    stmts: &[u32],
+    r: Result<Tapes, Refusal>,
+) -> Result<Tapes, Refusal>
     ensures { AnswersTo signals.old stmts.now r result signals.new }
 {
     match r {
-        Stated::Done(t) => judged(t, overdriven(signals, stmts)),
-        Stated::Refused(x) => Lowered::Refused(x),
+        Ok(t) => judged(t, overdriven(signals, stmts)),
+        Err(x) => Err(x),
     }
-}
-
-pub fn zero_refused(signals: &mut [u32], exprs: &mut [u32], stmts: &mut [u32], r: Lowered)
-    ensures { Keeps r (lists signals.old exprs.old stmts.old) (lists signals.new exprs.new stmts.new) }
-{
-    let Lowered::Refused(_) = r else {
-        return;
-    };
-    zero_lists(signals, exprs, stmts);
 }

@@ -3,45 +3,72 @@
 
 #![tactic(auto)]
 
+mod record; // the records of a checked netlist
 mod steps; // the steps in the Rust's order
+mod judge; // the answer, once all is recorded: 11
+mod constants; // the constants' signals
+mod cell; // every cell by its kind (emit_cell)
+mod rams; // the RAMs
+mod outputs; // output ports (emit_outputs)
 mod ports; // signals of ports
 mod reserve; // signals of cells (reserve_cell_output)
 mod scalar; // a signal for a wire, or for several (reserve_scalar)
-mod cell; // every cell by its kind (emit_cell)
-mod kinds; // the small cells
-mod rams; // the RAMs
-mod outputs; // output ports (emit_outputs)
-mod constants; // the constants' signals
-mod collect; // the bank of each flip-flop (collect_flip_flop_banks)
-mod members; // the members of a bank
-mod bank; // signals of banks (reserve_flip_flop_banks)
 mod insert; // the wire map's tables (insert_wire)
+mod members; // the banks of flip-flops
+mod bank; // signals of banks (reserve_flip_flop_banks)
 mod next; // the next value of a bank
 mod register; // registers of banks (emit_flip_flop_bank)
-mod judge; // the answer, once all is recorded: 11
-mod zeros; // lists and works of zeros
+mod collect; // the bank of each flip-flop (collect_flip_flop_banks)
 
-ghost use Rattle.std.specs.Prelude.{[], ◌∷◌};
+ghost use Rattle.std.specs.Prelude.{◌≡◌, [], ◌∷◌, length};
 ghost use Rattle.netlist.specs.Reader.{base};
 ghost use Rattle.recorder.specs.Lists.{lists};
-ghost use Rattle.converter.specs.Entry.{Lowers, LowersWithin, LowersLists, Attempts};
+ghost use Rattle.converter.specs.Entry.{any_short, Lowers, LowersWithin, LowersLists, Attempts};
 
-use judge::{answered, zero_refused};
+use judge::answered;
 use netlist::Limits;
-use reader::{Checked, check};
-use recorder::Tapes;
+use reader::check;
+use record::record_netlist;
+use recorder::{Recorder, Tapes};
 use refusal::Refusal;
-use steps::record_netlist;
-use zeros::{short_work, zero_lists, zero_tables, zero_works};
 
 // The work that lowering is lent: five buffers of so many words.
 pub const WORK: usize = 16384;
 
-// Each list's records and words used, or the refusal.
-#[derive(Clone, Copy)]
-pub enum Lowered {
-    Accepted(Tapes),
-    Refused(Refusal),
+// What a signal is of, numbered from 0 in this order.
+#[derive(Clone, Copy, Debug, PartialEq, Eq)]
+pub enum Label {
+    Input,
+    Output,
+    Lut4,
+    Pfumx,
+    L6mux21,
+    Ccu2c,
+    Multiplier,
+    FlipFlops,
+    BlockRam,
+    DistributedRam,
+    Io,
+    Jtagg,
+    Pll,
+    RamWord,
+    Zero,
+    One,
+}
+
+// The wire map as it is filled, and where the signals are recorded.
+#[derive(Drop)]
+pub struct Reserver<'a, 'b> {
+    pub recorder: &'a mut Recorder<'b>,
+    pub wires: &'a mut [u32],
+    pub places: &'a mut [u32],
+}
+
+// What the fields of a record hold, one in each word.
+#[derive(Clone, Copy, Debug, PartialEq, Eq)]
+pub enum Content {
+    Bits,
+    Wires,
 }
 
 // Lists of zeros in, and works of which the first two, the wire map's tables, are zeros. On a refusal the lists are left as they are then.
@@ -56,32 +83,34 @@ fn lower_checked(
     parts: &mut [u32],
     values: &mut [u32],
     banks: &mut [u32],
-) -> Lowered
+) -> Result<Tapes, Refusal>
     ensures { Attempts limits words.now (lists signals.old exprs.old stmts.old) wires.old places.old parts.old values.old banks.old result (lists signals.new exprs.new stmts.new) }
 {
-    let checked = check(limits, words);
-    match checked {
-        Checked::Netlist(layout) => {
-            let r = record_netlist(
-                signals,
-                exprs,
-                stmts,
-                wires,
-                places,
-                parts,
-                values,
-                banks,
-                words,
-                layout,
-                limits.wires,
-            );
-            answered(signals, stmts, r)
-        }
-        Checked::Refused(x) => Lowered::Refused(x),
-    }
+    let layout = check(limits, words)?;
+    let r = record_netlist(
+        signals,
+        exprs,
+        stmts,
+        wires,
+        places,
+        parts,
+        values,
+        banks,
+        words,
+        layout,
+        limits.wires,
+    );
+    answered(signals, stmts, r)
 }
 
-// All but the zeroing of the works.
+// Whether one of the works has fewer words than lowering needs.
+fn short_work(a: &[u32], b: &[u32], c: &[u32], d: &[u32], e: &[u32]) -> bool
+    ensures { result ≡ any_short (length a.now ∷ length b.now ∷ length c.now ∷ length d.now ∷ length e.now ∷ []) }
+{
+    a.len() < WORK || b.len() < WORK || c.len() < WORK || d.len() < WORK || e.len() < WORK
+}
+
+// All but the zeroing of the works. A refusal leaves lists of zeros.
 fn lower_works(
     limits: Limits,
     words: &[u32],
@@ -93,18 +122,25 @@ fn lower_works(
     parts: &mut [u32],
     values: &mut [u32],
     banks: &mut [u32],
-) -> Lowered
+) -> Result<Tapes, Refusal>
     ensures { LowersLists limits words.now (lists signals.old exprs.old stmts.old) (wires.old ∷ places.old ∷ parts.old ∷ values.old ∷ banks.old ∷ []) result (lists signals.new exprs.new stmts.new) }
 {
-    zero_lists(signals, exprs, stmts);
+    signals.fill(0);
+    exprs.fill(0);
+    stmts.fill(0);
     if short_work(wires, places, parts, values, banks) {
-        return Lowered::Refused(Refusal::BufferTooShort(WORK));
+        return Err(Refusal::BufferTooShort(WORK));
     }
-    zero_tables(wires, places);
+    wires.fill(0);
+    places.fill(0);
     let r = lower_checked(
         limits, words, signals, exprs, stmts, wires, places, parts, values, banks,
     );
-    zero_refused(signals, exprs, stmts, r);
+    if r.is_err() {
+        signals.fill(0);
+        exprs.fill(0);
+        stmts.fill(0);
+    }
     r
 }
 
@@ -120,17 +156,21 @@ fn lower_within(
     parts: &mut [u32],
     values: &mut [u32],
     banks: &mut [u32],
-) -> Lowered
+) -> Result<Tapes, Refusal>
     ensures { LowersWithin limits words.now (lists signals.old exprs.old stmts.old) (wires.old ∷ places.old ∷ parts.old ∷ values.old ∷ banks.old ∷ []) result (lists signals.new exprs.new stmts.new) (wires.new ∷ places.new ∷ parts.new ∷ values.new ∷ banks.new ∷ []) }
 {
     let r = lower_works(
         limits, words, signals, exprs, stmts, wires, places, parts, values, banks,
     );
-    zero_works(wires, places, parts, values, banks);
+    wires.fill(0);
+    places.fill(0);
+    parts.fill(0);
+    values.fill(0);
+    banks.fill(0);
     r
 }
 
-// A netlist's model in the three lists, or its refusal and lists of zeros. The five works are zeros in the end.
+// A netlist's model in the three lists, and how far each is written; or its refusal and lists of zeros. The five works are zeros in the end.
 pub fn lower(
     words: &[u32],
     signals: &mut [u32],
@@ -141,7 +181,7 @@ pub fn lower(
     parts: &mut [u32],
     values: &mut [u32],
     banks: &mut [u32],
-) -> Lowered
+) -> Result<Tapes, Refusal>
     ensures { Lowers base words.now (lists signals.old exprs.old stmts.old) (wires.old ∷ places.old ∷ parts.old ∷ values.old ∷ banks.old ∷ []) result (lists signals.new exprs.new stmts.new) (wires.new ∷ places.new ∷ parts.new ∷ values.new ∷ banks.new ∷ []) }
 {
     lower_within(

@@ -1,73 +1,83 @@
-// The members of a bank, in cell order: a walk from one to the next.
-ghost use Rattle.std.specs.Prelude.{◌≡◌, length};
-ghost use Rattle.converter.specs.Members.{members_in, Finds, Starts, Goes};
+// The banks of flip-flops, and the members of each, in cell order.
+ghost use Rattle.std.specs.Prelude.{◌≡◌, ◌≤◌, length};
 
-use netlist::fields::{cell_end, wide, word};
+use netlist::fields::{Fields, word};
 
-// The members of a bank: those of n cells, from an index on, that have its number.
+// The banks of n cells, numbered from 1: a word for each cell has its bank's number, or 0.
 #[derive(Clone, Copy)]
-pub struct Scan {
-    pub at: usize,
+pub struct Banks<'a> {
+    pub cells: Fields<'a>,
     pub n: u32,
-    pub number: u32,
+    pub numbers: &'a [u32],
+    pub count: u32,
 }
 
-// A cell and the index where it stands.
+// A cell of the netlist: its number and its fields.
 #[derive(Clone, Copy)]
-pub struct Cursor {
-    pub cell: u32,
-    pub place: usize,
+pub struct Cell<'a> {
+    pub number: u32,
+    pub fields: Fields<'a>,
 }
 
-// The first member from a cell on; none is left where it is past the last cell.
-fn find_member(words: &[u32], banks: &[u32], scan: Scan, from: Cursor) -> Cursor
-    ensures { Finds words.now banks.now scan from result }
-{
-    let mut i = from.cell;
-    let mut place = from.place;
-    while i < scan.n {
-        if word(banks, wide(i)) == scan.number {
-            return Cursor { cell: i, place };
+// What is left of a bank: those cells that have its number, from a cell on.
+#[derive(Clone, Copy)]
+pub struct Members<'a> {
+    pub cell: Cell<'a>,
+    pub end: u32,
+    pub numbers: &'a [u32],
+    pub bank: u32,
+}
+
+impl<'a> Banks<'a> {
+    // The members of the bank of a number.
+    pub fn members(self, bank: u32) -> Members<'a>
+        ensures { result ≡ record { cell = record { number = 0; fields = self.entry.cells }; end = self.entry.n; numbers = self.entry.numbers; bank = bank } }
+    {
+        Members {
+            cell: Cell {
+                number: 0,
+                fields: self.cells,
+            },
+            end: self.n,
+            numbers: self.numbers,
+            bank,
         }
-        place = cell_end(words, place);
-        i += 1;
     }
-    Cursor { cell: i, place }
 }
 
-pub fn first_member(words: &[u32], banks: &[u32], scan: Scan) -> Cursor
-    ensures { Starts words.now banks.now scan result }
-{
-    let at = scan.at;
-    find_member(words, banks, scan, Cursor { cell: 0, place: at })
+impl<'a> Iterator for Members<'a> {
+    ghost use Rattle.std.specs.Iterator.{YieldsFirstBy, item_count};
+    ghost use Rattle.converter.specs.Members.{member_of, members_left};
+
+    type Item = Cell<'a>;
+
+    ghost next_gives = { YieldsFirstBy member_of members_left };
+
+    ghost remaining = { item_count members_left };
+
+    fn next(&mut self) -> Option<Cell<'a>> {
+        while self.cell.number < self.end {
+            let cell = self.cell;
+            let numbers = self.numbers;
+            self.cell = Cell {
+                number: cell.number + 1,
+                fields: cell.fields.from(cell.fields.cell_size()),
+            };
+            if word(numbers, cell.number as usize) == self.bank {
+                return Some(cell);
+            }
+        }
+        None
+    }
 }
 
-pub fn next_member(words: &[u32], banks: &[u32], scan: Scan, c: Cursor) -> Cursor
-    ensures { Goes words.now banks.now scan c result }
-{
-    if scan.n <= c.cell {
-        return c;
-    }
-    let place = cell_end(words, c.place);
-    find_member(
-        words,
-        banks,
-        scan,
-        Cursor {
-            cell: c.cell + 1,
-            place,
-        },
-    )
-}
+impl Members<'_> {
+    ghost use Rattle.converter.specs.Members.{members_left};
 
-pub fn count_members(words: &[u32], banks: &[u32], scan: Scan) -> u32
-    ensures { result ≡ length (members_in words.now banks.now scan) }
-{
-    let mut k = 0;
-    let mut c = first_member(words, banks, scan);
-    while c.cell < scan.n {
-        k += 1;
-        c = next_member(words, banks, scan, c);
+    // How many are left.
+    pub fn width(self) -> u32
+        ensures { result ≡ length (members_left self.entry) }
+    {
+        self.count() as u32
     }
-    k
 }

@@ -1,172 +1,120 @@
 // The next value of a bank: each flip-flop's input, held while it is not enabled, reset where its reset is synchronous.
 ghost use Rattle.std.specs.Prelude.{◌≡◌, length, take, [], ◌≤◌};
-ghost use Rattle.wires.specs.Wires.{wires_of};
-ghost use Rattle.converter.specs.Members.{members_in};
-ghost use Rattle.netlist.specs.FieldForms.{presence, reset_presence};
-ghost use Rattle.recorder.specs.Lists.{WroteExprs, emitted};
+ghost use Rattle.recorder.specs.Calls.{Writes, emitted};
+ghost use Rattle.wires.specs.Wires.{wires_in};
 ghost use Rattle.wires.specs.Expressions.{concat_parts};
 ghost use Rattle.lowering.specs.Emit.{with_enable, with_reset, reset_bit as reset_bit_of, reset_bits, next_bit};
+ghost use Rattle.converter.specs.Members.{members_left};
 ghost use Rattle.converter.specs.Banked.{flop_at};
 ghost use Rattle.converter.specs.BankEmits.{next_value};
 
-use crate::members::{Scan, first_member, next_member};
-use netlist::fields::{
-    OptionalControl, OptionalReset, bit_at, field, optional_control, optional_reset, wide,
-};
-use netlist::{Bit, Control};
-use recorder::{Emitted, ExprId, Tapes, builder};
-use wires::expressions::{asserted_expression, bit_expression, concat_parts};
+use crate::members::Members;
+use netlist::fields::Fields;
+use netlist::{Bit, Control, Reset};
+use recorder::{ExprId, Recorder};
+use refusal::Refusal;
+use wires::WireMap;
+use wires::expressions::concat_parts;
 
 fn with_enable(
-    exprs: &mut [u32],
-    wires: &[u32],
-    places: &[u32],
-    t: Tapes,
+    recorder: &mut Recorder,
+    map: WireMap,
     output: u32,
-    enable: OptionalControl,
+    enable: Option<Control>,
     next: ExprId,
-) -> Emitted
-    ensures { WroteExprs exprs.old t (with_enable (wires_of wires.now places.now) output (presence enable) next.0) (emitted result) exprs.new }
+) -> Result<ExprId, Refusal>
+    ensures { Writes recorder.old (with_enable (wires_in map.entry) output enable next.0) (emitted result) recorder.new }
 {
-    let OptionalControl::Present(control) = enable else {
-        return Emitted::Done(next, t);
+    let Some(control) = enable else {
+        return Ok(next);
     };
-    let r = bit_expression(exprs, wires, places, t, Bit::Wire(output));
-    let Emitted::Done(q, after_held) = r else {
-        return r;
-    };
-    let r2 = asserted_expression(exprs, wires, places, after_held, control);
-    let Emitted::Done(y, after_enable) = r2 else {
-        return r2;
-    };
-    builder::mux(exprs, after_enable, 1, y, next, q)
+    let held = map.bit_expression(recorder, Bit::Wire(output))?;
+    let enabled = map.asserted_expression(recorder, control)?;
+    recorder.mux(1, enabled, next, held)
 }
 
 // The expression of the value that a reset loads.
-fn reset_bit(reset: OptionalReset) -> ExprId
-    ensures { result.0 ≡ reset_bit_of (reset_presence reset) }
+fn reset_bit(reset: Option<Reset>) -> ExprId
+    ensures { result.0 ≡ reset_bit_of reset }
 {
-    let OptionalReset::Present(r) = reset else {
-        return ExprId::ZERO;
-    };
-    if r.value == 1 {
-        return ExprId::ONE;
+    match reset {
+        Some(r) if r.value == 1 => ExprId::ONE,
+        _ => ExprId::ZERO,
     }
-    ExprId::ZERO
 }
 
 fn with_reset(
-    exprs: &mut [u32],
-    wires: &[u32],
-    places: &[u32],
-    t: Tapes,
-    reset: OptionalReset,
+    recorder: &mut Recorder,
+    map: WireMap,
+    reset: Option<Reset>,
     next: ExprId,
-) -> Emitted
-    ensures { WroteExprs exprs.old t (with_reset (wires_of wires.now places.now) (reset_presence reset) next.0) (emitted result) exprs.new }
+) -> Result<ExprId, Refusal>
+    ensures { Writes recorder.old (with_reset (wires_in map.entry) reset next.0) (emitted result) recorder.new }
 {
-    let OptionalReset::Present(r) = reset else {
-        return Emitted::Done(next, t);
+    let Some(r) = reset else {
+        return Ok(next);
     };
     if r.asynchronous == 1 {
-        return Emitted::Done(next, t);
+        return Ok(next);
     }
-    let bit = r.signal;
-    let active = r.active;
     let control = Control {
-        signal: bit,
-        active,
+        signal: r.signal,
+        active: r.active,
     };
-    let e = asserted_expression(exprs, wires, places, t, control);
-    let Emitted::Done(y, after_reset) = e else {
-        return e;
-    };
-    builder::mux(exprs, after_reset, 1, y, reset_bit(reset), next)
+    let asserted = map.asserted_expression(recorder, control)?;
+    recorder.mux(1, asserted, reset_bit(reset), next)
 }
 
-// The next bit of the flip-flop at an index.
-fn next_bit(
-    exprs: &mut [u32],
-    wires: &[u32],
-    places: &[u32],
-    t: Tapes,
-    words: &[u32],
-    at: usize,
-) -> Emitted
-    ensures { WroteExprs exprs.old t (next_bit (wires_of wires.now places.now) (flop_at words.now at)) (emitted result) exprs.new }
+// The next bit of the flip-flop whose fields these are.
+fn next_bit(recorder: &mut Recorder, map: WireMap, flop: Fields) -> Result<ExprId, Refusal>
+    ensures { Writes recorder.old (next_bit (wires_in map.entry) (flop_at flop.entry.words.now flop.entry.at)) (emitted result) recorder.new }
 {
-    let r = bit_expression(exprs, wires, places, t, bit_at(words, at, 1));
-    let Emitted::Done(d, after_input) = r else {
-        return r;
-    };
-    let output = field(words, at, 2);
-    let enable = optional_control(words, at, 5);
-    let r2 = with_enable(exprs, wires, places, after_input, output, enable, d);
-    let Emitted::Done(e, after_enable) = r2 else {
-        return r2;
-    };
-    let reset = optional_reset(words, at, 8);
-    with_reset(exprs, wires, places, after_enable, reset, e)
+    let input = map.bit_expression(recorder, flop.bit(1))?;
+    let kept = with_enable(recorder, map, flop.word(2), flop.optional_control(5), input)?;
+    with_reset(recorder, map, flop.optional_reset(8), kept)
 }
 
 // The next value of a bank's members, `width` of them: the first is read first, and stands last.
 pub fn next_value(
-    exprs: &mut [u32],
+    recorder: &mut Recorder,
     parts: &mut [u32],
-    wires: &[u32],
-    places: &[u32],
-    t: Tapes,
-    words: &[u32],
-    banks: &[u32],
-    scan: Scan,
+    map: WireMap,
+    members: Members,
     width: u32,
-) -> Emitted
-    requires { (width ≤ length parts.old) × (width ≡ length (members_in words.now banks.now scan)) }
-    ensures { WroteExprs exprs.old t (next_value (wires_of wires.now places.now) (members_in words.now banks.now scan)) (emitted result) exprs.new }
+) -> Result<ExprId, Refusal>
+    requires { (width ≤ length parts.old) × (width ≡ length (members_left members)) }
+    ensures { Writes recorder.old (next_value (wires_in map.entry) (members_left members.entry)) (emitted result) recorder.new }
 {
-    let mut now = t;
-    let mut left = wide(width);
-    let mut c = first_member(words, banks, scan);
-    while c.cell < scan.n {
+    let mut left = width as usize;
+    for cell in members {
         left -= 1;
-        let r = next_bit(exprs, wires, places, now, words, c.place);
-        let Emitted::Done(e, next) = r else {
-            return r;
-        };
-        parts[left] = e.0;
-        now = next;
-        c = next_member(words, banks, scan, c);
+        parts[left] = next_bit(recorder, map, cell.fields)?.0;
     }
-    concat_parts(exprs, now, parts, width)
+    concat_parts(recorder, parts, width)
 }
 
 // The constants that a reset loads, in the same order.
-fn reset_bits(parts: &mut [u32], words: &[u32], banks: &[u32], scan: Scan, width: u32)
-    requires { (width ≤ length parts.old) × (width ≡ length (members_in words.now banks.now scan)) }
-    ensures { take width parts.new ≡ reset_bits (members_in words.now banks.now scan) [] }
+fn reset_bits(parts: &mut [u32], members: Members, width: u32)
+    requires { (width ≤ length parts.old) × (width ≡ length (members_left members)) }
+    ensures { take width parts.new ≡ reset_bits (members_left members.entry) [] }
 {
-    let mut left = wide(width);
-    let mut c = first_member(words, banks, scan);
-    while c.cell < scan.n {
+    let mut left = width as usize;
+    for cell in members {
         left -= 1;
-        parts[left] = reset_bit(optional_reset(words, c.place, 8)).0;
-        c = next_member(words, banks, scan, c);
+        parts[left] = reset_bit(cell.fields.optional_reset(8)).0;
     }
 }
 
 // The value that a bank's reset loads.
 pub fn reset_value(
-    exprs: &mut [u32],
+    recorder: &mut Recorder,
     parts: &mut [u32],
-    t: Tapes,
-    words: &[u32],
-    banks: &[u32],
-    scan: Scan,
+    members: Members,
     width: u32,
-) -> Emitted
-    requires { (width ≤ length parts.old) × (width ≡ length (members_in words.now banks.now scan)) }
-    ensures { WroteExprs exprs.old t (concat_parts (reset_bits (members_in words.now banks.now scan) [])) (emitted result) exprs.new }
+) -> Result<ExprId, Refusal>
+    requires { (width ≤ length parts.old) × (width ≡ length (members_left members)) }
+    ensures { Writes recorder.old (concat_parts (reset_bits (members_left members.entry) [])) (emitted result) recorder.new }
 {
-    reset_bits(parts, words, banks, scan, width);
-    concat_parts(exprs, t, parts, width)
+    reset_bits(parts, members, width);
+    concat_parts(recorder, parts, width)
 }

@@ -1,64 +1,41 @@
 // The signals of ports and the wires that they hold.
-ghost use Rattle.netlist.specs.Fields.{port_at};
-ghost use Rattle.converter.specs.Reserves.{ReservesPort, ReservesPorts};
+ghost use Rattle.std.specs.Prelude.{◌≡◌, length};
+ghost use Rattle.netlist.specs.Fields.{port_at, port_end, ports_at};
+ghost use Rattle.netlist.specs.Shape.{FitsPort};
+ghost use Rattle.lowering.specs.Reserve.{reserve_port, reserve_ports};
+ghost use Rattle.converter.specs.Tables.{map_in, Reserves};
+ghost use Rattle.converter.specs.Reserves.{Fitting};
 
-use crate::scalar::{reserve_vector, undeclared};
-use netlist::fields::{ahead, field, port_end};
-use recorder::{Stated, Tapes, builder};
+use crate::{Content, Label, Reserver};
+use netlist::fields::Fields;
+use refusal::Refusal;
 
-// The signal of a port, which has the port's number. An output has no wires of its own.
-fn reserve_port(
-    signals: &mut [u32],
-    wires: &mut [u32],
-    places: &mut [u32],
-    t: Tapes,
-    p: u32,
-    words: &[u32],
-    at: usize,
-) -> Stated
-    ensures { ReservesPort signals.old wires.old places.old t p (port_at words.now at) result signals.new wires.new places.new }
-{
-    let width = field(words, at, 1);
-    if field(words, at, 0) == 1 {
-        return undeclared(builder::signal(signals, t, 1, width, p));
+impl Reserver<'_, '_> {
+    // The signal of a port, which has the port's number. An output has no wires of its own.
+    fn reserve_port(&mut self, p: u32, port: Fields) -> Result<(), Refusal>
+        ensures { Reserves (λ limits. FitsPort limits (port_at port.entry.words.now port.entry.at)) self.old (reserve_port (map_in self.old) p (port_at port.entry.words.now port.entry.at)) result self.new }
+    {
+        let width = port.word(1);
+        if port.word(0) == 1 {
+            self.signal(Label::Output, width, p)?;
+            return Ok(());
+        }
+        self.reserve_vector(Label::Input, p, port.from(2), Content::Bits, width)
     }
-    reserve_vector(
-        signals,
-        wires,
-        places,
-        t,
-        0,
-        p,
-        words,
-        ahead(words, at, 2),
-        0,
-        width,
-    )
-}
 
-// The signals of the n ports from an index on.
-pub fn reserve_ports(
-    signals: &mut [u32],
-    wires: &mut [u32],
-    places: &mut [u32],
-    t: Tapes,
-    words: &[u32],
-    at: usize,
-    n: u32,
-) -> Stated
-    ensures { ReservesPorts signals.old wires.old places.old t words.now at n result signals.new wires.new places.new }
-{
-    let mut now = t;
-    let mut place = at;
-    let mut i = 0;
-    while i < n {
-        let r = reserve_port(signals, wires, places, now, i, words, place);
-        let Stated::Done(next) = r else {
-            return r;
-        };
-        now = next;
-        place = port_end(words, place);
-        i += 1;
+    // The signals of n ports, from the first one's fields on.
+    pub fn reserve_ports(&mut self, ports: Fields, n: u32) -> Result<(), Refusal>
+        ensures { Reserves (λ limits. Fitting (port_at ports.entry.words.now) (port_end ports.entry.words.now) (FitsPort limits) (length ports.entry.words.now) n ports.entry.at) self.old (reserve_ports (map_in self.old) 0 (ports_at ports.entry.words.now ports.entry.at n)) result self.new }
+    {
+        let mut at = ports.at;
+        for p in 0..n {
+            let port = Fields {
+                words: ports.words,
+                at,
+            };
+            self.reserve_port(p, port)?;
+            at = port.port_end();
+        }
+        Ok(())
     }
-    Stated::Done(now)
 }

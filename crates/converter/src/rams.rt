@@ -1,83 +1,57 @@
 // The RAMs: their addresses are read here, and works are lent as far as they are needed.
 ghost use Rattle.netlist.specs.Fields.{block_ram_at, distributed_ram_at};
-ghost use Rattle.wires.specs.Wires.{wires_of};
-ghost use Rattle.recorder.specs.Lists.{lists};
-ghost use Rattle.converter.specs.Emits.{EmitsCell, EmitsDistributed};
+ghost use Rattle.recorder.specs.Calls.{stated};
+ghost use Rattle.address_mux.specs.Candidates.{SameWorks};
+ghost use Rattle.converter.specs.Emits.{EmitsCell, EmitsAlone};
 
-use crate::zeros::cut;
+use address_mux::Works;
 use memories::block_ram::{block_ram_work, emit_block_ram};
 use memories::distributed_ram::emit_distributed_ram;
-use netlist::fields::{address, bits4, field, wide};
-use netlist::records::second_start;
-use recorder::{Stated, Tapes};
+use netlist::fields::Fields;
 use refusal::Refusal;
-use wires::Constants;
+use wires::Emitter;
 
+// Kept out of the loop over all cells.
+#[inline(never)]
 pub fn block_ram_cell(
-    signals: &mut [u32],
-    exprs: &mut [u32],
-    stmts: &mut [u32],
-    parts: &mut [u32],
-    values: &mut [u32],
-    seen: &mut [u32],
-    wires: &[u32],
-    places: &[u32],
-    t: Tapes,
-    constants: Constants,
+    emitter: &mut Emitter,
+    works: &mut Works,
     owner: u32,
-    words: &[u32],
-    at: usize,
-) -> Stated
-    ensures { EmitsCell (lists signals.old exprs.old stmts.old) parts.old values.old seen.old t (wires_of wires.now places.now) constants owner (block_ram_at words.now at) result (lists signals.new exprs.new stmts.new) seen.new }
+    cell: Fields,
+) -> Result<(), Refusal>
+    ensures wrote { EmitsCell emitter.old works.old owner (block_ram_at cell.entry.words.now cell.entry.at) (stated result) emitter.new }
+    ensures works { SameWorks works.old works.new }
 {
-    let written = address(words, at, 4);
-    let read = address(words, at, 20);
-    let second = address(words, second_start(words, at), 0);
-    let work = block_ram_work(words, at);
-    let p = cut(parts, work);
-    let v = cut(values, work);
+    let work = block_ram_work(cell);
+    let p = work.min(works.parts.len());
+    let v = work.min(works.values.len());
+    let mut lent = Works {
+        parts: &mut works.parts[..p],
+        values: &mut works.values[..v],
+    };
+    let second = cell.second_port().bits(0);
     emit_block_ram(
-        signals,
-        exprs,
-        stmts,
-        &mut parts[..p],
-        &mut values[..v],
-        seen,
-        wires,
-        places,
-        t,
-        constants,
+        emitter,
+        &mut lent,
         owner,
-        words,
-        at,
-        written,
-        read,
+        cell,
+        cell.bits(4),
+        cell.bits(20),
         second,
     )
 }
 
 // One with a second port is refused (10).
+#[inline(never)]
 pub fn distributed_ram_cell(
-    signals: &mut [u32],
-    exprs: &mut [u32],
-    stmts: &mut [u32],
-    seen: &mut [u32],
-    wires: &[u32],
-    places: &[u32],
-    t: Tapes,
-    constants: Constants,
+    emitter: &mut Emitter,
     owner: u32,
-    words: &[u32],
-    at: usize,
-) -> Stated
-    ensures { EmitsDistributed (lists signals.old exprs.old stmts.old) seen.old t (wires_of wires.now places.now) constants owner (distributed_ram_at words.now at) result (lists signals.new exprs.new stmts.new) seen.new }
+    cell: Fields,
+) -> Result<(), Refusal>
+    ensures { EmitsAlone emitter.old owner (distributed_ram_at cell.entry.words.now cell.entry.at) (stated result) emitter.new }
 {
-    if field(words, at, 21) == 1 {
-        return Stated::Refused(Refusal::UnsupportedTrueDualPortMemory(wide(owner)));
+    if cell.word(21) == 1 {
+        return Err(Refusal::UnsupportedTrueDualPortMemory(owner as usize));
     }
-    let written = bits4(words, at, 1);
-    let read = bits4(words, at, 11);
-    emit_distributed_ram(
-        signals, exprs, stmts, seen, wires, places, t, constants, owner, words, at, written, read,
-    )
+    emit_distributed_ram(emitter, owner, cell, cell.bits(1), cell.bits(11))
 }

@@ -1,172 +1,76 @@
 // The signals of cells and the wires that they hold.
-ghost use Rattle.netlist.specs.Fields.{cell_at, pll_at, block_ram_at};
-ghost use Rattle.converter.specs.Reserves.{ReservesCell, ReservesCells, ReservesLate};
+ghost use Rattle.std.specs.Prelude.{◌≡◌, length};
+ghost use Rattle.netlist.specs.Fields.{cell_at, cell_end, cells_at, pll_at, block_ram_at};
+ghost use Rattle.netlist.specs.Shape.{FitsCell};
+ghost use Rattle.lowering.specs.Reserve.{reserve_cell_output, reserve_cells};
+ghost use Rattle.converter.specs.Tables.{map_in, Reserves};
+ghost use Rattle.converter.specs.Reserves.{Fitting};
 
-use crate::scalar::{reserve_absent, reserve_scalar, reserve_scalars, reserve_vector};
-use netlist::fields::{ahead, cell_end, field, wide};
-use netlist::records::second_start;
-use recorder::{Stated, Tapes};
+use crate::{Content, Label, Reserver};
+use netlist::Kind;
+use netlist::fields::Fields;
+use refusal::Refusal;
 
-// The PLL's feedback, output and locked wires, then the further ones: one that is there already adds nothing.
-fn reserve_pll(
-    signals: &mut [u32],
-    wires: &mut [u32],
-    places: &mut [u32],
-    t: Tapes,
-    owner: u32,
-    words: &[u32],
-    at: usize,
-) -> Stated
-    ensures { ReservesCell signals.old wires.old places.old t owner (pll_at words.now at) result signals.new wires.new places.new }
-{
-    let first = ahead(words, at, 2);
-    let r = reserve_absent(signals, wires, places, t, 12, owner, words, first, 3);
-    let Stated::Done(next) = r else {
-        return r;
-    };
-    let more = ahead(words, at, 6);
-    let n = field(words, at, 5);
-    reserve_absent(signals, wires, places, next, 12, owner, words, more, n)
-}
-
-// The read wires of each port of a block RAM.
-fn reserve_block_ram(
-    signals: &mut [u32],
-    wires: &mut [u32],
-    places: &mut [u32],
-    t: Tapes,
-    owner: u32,
-    words: &[u32],
-    at: usize,
-) -> Stated
-    ensures { ReservesCell signals.old wires.old places.old t owner (block_ram_at words.now at) result signals.new wires.new places.new }
-{
-    let width = field(words, at, 2);
-    let first = ahead(words, at, 43 + wide(width));
-    let r = reserve_vector(signals, wires, places, t, 8, owner, words, first, 1, width);
-    let Stated::Done(next) = r else {
-        return r;
-    };
-    if field(words, at, 42) == 0 {
-        return Stated::Done(next);
+impl Reserver<'_, '_> {
+    // The PLL's feedback, output and locked wires, then the further ones: one that is there already adds nothing.
+    fn reserve_pll(&mut self, owner: u32, cell: Fields) -> Result<(), Refusal>
+        ensures { Reserves (λ limits. FitsCell limits (pll_at cell.entry.words.now cell.entry.at)) self.old (reserve_cell_output (map_in self.old) owner (pll_at cell.entry.words.now cell.entry.at)) result self.new }
+    {
+        self.reserve_absent(Label::Pll, owner, cell.from(2), 3)?;
+        self.reserve_absent(Label::Pll, owner, cell.from(6), cell.word(5))
     }
-    let second = second_start(words, at);
-    let more = ahead(words, second, 24 + wide(width));
-    reserve_vector(
-        signals, wires, places, next, 8, owner, words, more, 1, width,
-    )
-}
 
-fn reserve_late(
-    signals: &mut [u32],
-    wires: &mut [u32],
-    places: &mut [u32],
-    t: Tapes,
-    owner: u32,
-    words: &[u32],
-    at: usize,
-    kind: u32,
-) -> Stated
-    ensures { ReservesLate signals.old wires.old places.old t owner words.now at kind result signals.new wires.new places.new }
-{
-    match kind {
-        5 => Stated::Done(t),
-        6 => reserve_block_ram(signals, wires, places, t, owner, words, at),
-        7 => reserve_vector(
-            signals,
-            wires,
-            places,
-            t,
-            9,
-            owner,
-            words,
-            ahead(words, at, 15),
-            1,
-            4,
-        ),
-        8 => reserve_scalar(signals, wires, places, t, 10, owner, field(words, at, 3)),
-        9 => reserve_scalars(
-            signals,
-            wires,
-            places,
-            t,
-            11,
-            owner,
-            words,
-            ahead(words, at, 1),
-            9,
-        ),
-        _ => reserve_pll(signals, wires, places, t, owner, words, at),
+    // The read wires of each port of a block RAM.
+    fn reserve_block_ram(&mut self, owner: u32, cell: Fields) -> Result<(), Refusal>
+        ensures { Reserves (λ limits. FitsCell limits (block_ram_at cell.entry.words.now cell.entry.at)) self.old (reserve_cell_output (map_in self.old) owner (block_ram_at cell.entry.words.now cell.entry.at)) result self.new }
+    {
+        let width = cell.word(2);
+        let bits = width as usize;
+        let first = cell.from(43 + bits);
+        self.reserve_vector(Label::BlockRam, owner, first, Content::Wires, width)?;
+        if cell.word(42) == 0 {
+            return Ok(());
+        }
+        let second = cell.second_port().from(24 + bits);
+        self.reserve_vector(Label::BlockRam, owner, second, Content::Wires, width)
     }
-}
 
-// The signals that the outputs of a cell take. Those of flip-flops come by banks.
-fn reserve_cell_output(
-    signals: &mut [u32],
-    wires: &mut [u32],
-    places: &mut [u32],
-    t: Tapes,
-    owner: u32,
-    words: &[u32],
-    at: usize,
-) -> Stated
-    ensures { ReservesCell signals.old wires.old places.old t owner (cell_at words.now at) result signals.new wires.new places.new }
-{
-    let kind = field(words, at, 0);
-    match kind {
-        0 => reserve_scalar(signals, wires, places, t, 2, owner, field(words, at, 5)),
-        1 => reserve_scalar(signals, wires, places, t, 3, owner, field(words, at, 4)),
-        2 => reserve_scalar(signals, wires, places, t, 4, owner, field(words, at, 4)),
-        3 => reserve_scalars(
-            signals,
-            wires,
-            places,
-            t,
-            5,
-            owner,
-            words,
-            ahead(words, at, 10),
-            3,
-        ),
-        4 => reserve_vector(
-            signals,
-            wires,
-            places,
-            t,
-            6,
-            owner,
-            words,
-            ahead(words, at, 37),
-            1,
-            36,
-        ),
-        _ => reserve_late(signals, wires, places, t, owner, words, at, kind),
+    // The signals that the outputs of a cell take. Those of flip-flops come by banks.
+    fn reserve_cell_output(&mut self, owner: u32, cell: Fields) -> Result<(), Refusal>
+        ensures { Reserves (λ limits. FitsCell limits (cell_at cell.entry.words.now cell.entry.at)) self.old (reserve_cell_output (map_in self.old) owner (cell_at cell.entry.words.now cell.entry.at)) result self.new }
+    {
+        match cell.kind() {
+            Kind::Lut4 => self.reserve_scalar(Label::Lut4, owner, cell.word(5)),
+            Kind::Pfumx => self.reserve_scalar(Label::Pfumx, owner, cell.word(4)),
+            Kind::L6mux21 => self.reserve_scalar(Label::L6mux21, owner, cell.word(4)),
+            Kind::Ccu2c => self.reserve_scalars(Label::Ccu2c, owner, cell.from(10), 3),
+            Kind::Multiplier => {
+                self.reserve_vector(Label::Multiplier, owner, cell.from(37), Content::Wires, 36)
+            }
+            Kind::FlipFlop => Ok(()),
+            Kind::BlockRam => self.reserve_block_ram(owner, cell),
+            Kind::DistributedRam => {
+                self.reserve_vector(Label::DistributedRam, owner, cell.from(15), Content::Wires, 4)
+            }
+            Kind::Io => self.reserve_scalar(Label::Io, owner, cell.word(3)),
+            Kind::Jtagg => self.reserve_scalars(Label::Jtagg, owner, cell.from(1), 9),
+            Kind::Pll => self.reserve_pll(owner, cell),
+        }
     }
-}
 
-// The signals of the n cells from an index on.
-pub fn reserve_cells(
-    signals: &mut [u32],
-    wires: &mut [u32],
-    places: &mut [u32],
-    t: Tapes,
-    words: &[u32],
-    at: usize,
-    n: u32,
-) -> Stated
-    ensures { ReservesCells signals.old wires.old places.old t words.now at n result signals.new wires.new places.new }
-{
-    let mut now = t;
-    let mut place = at;
-    let mut i = 0;
-    while i < n {
-        let r = reserve_cell_output(signals, wires, places, now, i, words, place);
-        let Stated::Done(next) = r else {
-            return r;
-        };
-        now = next;
-        place = cell_end(words, place);
-        i += 1;
+    // The signals of n cells, from the first one's fields on.
+    pub fn reserve_cells(&mut self, cells: Fields, n: u32) -> Result<(), Refusal>
+        ensures { Reserves (λ limits. Fitting (cell_at cells.entry.words.now) (cell_end cells.entry.words.now) (FitsCell limits) (length cells.entry.words.now) n cells.entry.at) self.old (reserve_cells (map_in self.old) 0 (cells_at cells.entry.words.now cells.entry.at n)) result self.new }
+    {
+        let mut at = cells.at;
+        for owner in 0..n {
+            let cell = Fields {
+                words: cells.words,
+                at,
+            };
+            self.reserve_cell_output(owner, cell)?;
+            at = cell.cell_end();
+        }
+        Ok(())
     }
-    Stated::Done(now)
 }

@@ -1,142 +1,94 @@
 // A signal for a wire, for each of several wires, or for all of them.
-ghost use Rattle.std.specs.Prelude.{◌≡◌};
+ghost use Rattle.std.specs.Prelude.{◌≡◌, ◌<◌, get_or};
 ghost use Rattle.netlist.specs.Fields.{wires_at};
-ghost use Rattle.converter.specs.Tables.{held_bits, ReservesScalar, undeclared_of};
-ghost use Rattle.converter.specs.Reserves.{ReservesVector, ReservesScalars, ReservesUnless, ReservesAbsent};
+ghost use Rattle.netlist.specs.Shape.{Each, FitsBit, FitsWire};
+ghost use Rattle.recorder.specs.Calls.{declared};
+ghost use Rattle.lowering.specs.Reserve.{signal_of, reserve_scalar, reserve_scalars, reserve_unless, reserve_absent};
+ghost use Rattle.converter.specs.Tables.{map_in, Reserves, held_bits, label_of, reserve_bits, Declares};
 
-use crate::insert::{Inserted, insert_bits, insert_wire, not_inserted};
-use netlist::fields::{field, wide, word};
-use recorder::{Declared, Stated, Tapes, builder};
+use crate::{Content, Label, Reserver};
+use netlist::fields::{Fields, word};
+use recorder::SignalId;
+use refusal::Refusal;
+use wires::WireRef;
 
-// A refusal handed on.
-pub fn undeclared(r: Declared) -> Stated
-    ensures { result ≡ undeclared_of r }
-{
-    match r {
-        Declared::Done(_, t) => Stated::Done(t),
-        Declared::Refused(x) => Stated::Refused(x),
+impl Reserver<'_, '_> {
+    // The next signal. It holds no wires yet.
+    pub fn signal(&mut self, label: Label, width: u32, owner: u32) -> Result<SignalId, Refusal>
+        ensures { Declares self.old (signal_of (label_of label) width owner) (declared result) self.new }
+    {
+        self.recorder.signal(label as u32, width, owner)
     }
-}
 
-// A signal of one bit for a wire.
-pub fn reserve_scalar(
-    signals: &mut [u32],
-    wires: &mut [u32],
-    places: &mut [u32],
-    t: Tapes,
-    label: u32,
-    owner: u32,
-    wire: u32,
-) -> Stated
-    ensures { ReservesScalar signals.old wires.old places.old t label owner wire result signals.new wires.new places.new }
-{
-    let d = builder::signal(signals, t, label, 1, owner);
-    let Declared::Done(s, next) = d else {
-        return undeclared(d);
-    };
-    let r = insert_wire(wires, places, wire, s, 0, 1);
-    let Inserted::Done = r else {
-        return not_inserted(r);
-    };
-    Stated::Done(next)
-}
-
-// A signal of n bits, for the bit words (kind 0) or wires (1) that stand from an index on.
-pub fn reserve_vector(
-    signals: &mut [u32],
-    wires: &mut [u32],
-    places: &mut [u32],
-    t: Tapes,
-    label: u32,
-    owner: u32,
-    words: &[u32],
-    at: usize,
-    kind: u32,
-    n: u32,
-) -> Stated
-    ensures { ReservesVector signals.old wires.old places.old t label owner (held_bits words.now kind at n) n result signals.new wires.new places.new }
-{
-    let d = builder::signal(signals, t, label, n, owner);
-    let Declared::Done(s, next) = d else {
-        return undeclared(d);
-    };
-    let r = insert_bits(wires, places, words, at, kind, s, n);
-    let Inserted::Done = r else {
-        return not_inserted(r);
-    };
-    Stated::Done(next)
-}
-
-// A signal for each of n wires that stand from an index on.
-pub fn reserve_scalars(
-    signals: &mut [u32],
-    wires: &mut [u32],
-    places: &mut [u32],
-    t: Tapes,
-    label: u32,
-    owner: u32,
-    words: &[u32],
-    at: usize,
-    n: u32,
-) -> Stated
-    ensures { ReservesScalars signals.old wires.old places.old t label owner (wires_at words.now at n) result signals.new wires.new places.new }
-{
-    let mut now = t;
-    let mut i = 0;
-    while i < n {
-        let wire = field(words, at, wide(i));
-        let r = reserve_scalar(signals, wires, places, now, label, owner, wire);
-        let Stated::Done(next) = r else {
-            return r;
-        };
-        now = next;
-        i += 1;
+    // A signal of one bit for a wire.
+    pub fn reserve_scalar(&mut self, label: Label, owner: u32, wire: u32) -> Result<(), Refusal>
+        ensures { Reserves (λ limits. FitsWire limits wire) self.old (reserve_scalar (map_in self.old) (label_of label) owner wire) result self.new }
+    {
+        let signal = self.signal(label, 1, owner)?;
+        self.insert_wire(wire, WireRef { signal, lsb: 0, width: 1 })
     }
-    Stated::Done(now)
-}
 
-// A signal for a wire that is not there yet.
-fn reserve_unless(
-    signals: &mut [u32],
-    wires: &mut [u32],
-    places: &mut [u32],
-    t: Tapes,
-    label: u32,
-    owner: u32,
-    wire: u32,
-) -> Stated
-    ensures { ReservesUnless signals.old wires.old places.old t label owner wire result signals.new wires.new places.new }
-{
-    if word(wires, wide(wire)) != 0 {
-        return Stated::Done(t);
+    // A signal of the bits of n fields.
+    pub fn reserve_vector(
+        &mut self,
+        label: Label,
+        owner: u32,
+        fields: Fields,
+        content: Content,
+        n: u32,
+    ) -> Result<(), Refusal>
+        ensures { Reserves (λ limits. Each (FitsBit limits) (held_bits fields.entry.words.now content fields.entry.at n) × (n < 65536)) self.old (reserve_bits (map_in self.old) (label_of label) owner n (held_bits fields.entry.words.now content fields.entry.at n)) result self.new }
+    {
+        let signal = self.signal(label, n, owner)?;
+        self.insert_bits(fields, content, signal, n)
     }
-    reserve_scalar(signals, wires, places, t, label, owner, wire)
-}
 
-// A signal for each of n wires that is not there yet.
-pub fn reserve_absent(
-    signals: &mut [u32],
-    wires: &mut [u32],
-    places: &mut [u32],
-    t: Tapes,
-    label: u32,
-    owner: u32,
-    words: &[u32],
-    at: usize,
-    n: u32,
-) -> Stated
-    ensures { ReservesAbsent signals.old wires.old places.old t label owner (wires_at words.now at n) result signals.new wires.new places.new }
-{
-    let mut now = t;
-    let mut i = 0;
-    while i < n {
-        let wire = field(words, at, wide(i));
-        let r = reserve_unless(signals, wires, places, now, label, owner, wire);
-        let Stated::Done(next) = r else {
-            return r;
-        };
-        now = next;
-        i += 1;
+    // A signal for each of the wires in n fields.
+    pub fn reserve_scalars(
+        &mut self,
+        label: Label,
+        owner: u32,
+        fields: Fields,
+        n: u32,
+    ) -> Result<(), Refusal>
+        ensures { Reserves (λ limits. Each (FitsWire limits) (wires_at fields.entry.words.now fields.entry.at n)) self.old (reserve_scalars (map_in self.old) (label_of label) owner (wires_at fields.entry.words.now fields.entry.at n)) result self.new }
+    {
+        for i in 0..n {
+            self.reserve_scalar(label, owner, fields.word(i as usize))?;
+        }
+        Ok(())
     }
-    Stated::Done(now)
+
+    // The number plus 1 of the signal that holds a wire, or 0.
+    fn held(&self, wire: u32) -> u32
+        ensures { result ≡ get_or self.now.wires.now wire 0 }
+    {
+        word(self.wires, wire as usize)
+    }
+
+    // A signal for a wire that is not there yet.
+    fn reserve_unless(&mut self, label: Label, owner: u32, wire: u32) -> Result<(), Refusal>
+        ensures { Reserves (λ limits. FitsWire limits wire) self.old (reserve_unless (map_in self.old wire) (map_in self.old) (label_of label) owner wire) result self.new }
+    {
+        if self.held(wire) != 0 {
+            return Ok(());
+        }
+        self.reserve_scalar(label, owner, wire)
+    }
+
+    // A signal for each of the wires in n fields that is not there yet.
+    pub fn reserve_absent(
+        &mut self,
+        label: Label,
+        owner: u32,
+        fields: Fields,
+        n: u32,
+    ) -> Result<(), Refusal>
+        ensures { Reserves (λ limits. Each (FitsWire limits) (wires_at fields.entry.words.now fields.entry.at n)) self.old (reserve_absent (map_in self.old) (label_of label) owner (wires_at fields.entry.words.now fields.entry.at n)) result self.new }
+    {
+        for i in 0..n {
+            self.reserve_unless(label, owner, fields.word(i as usize))?;
+        }
+        Ok(())
+    }
 }

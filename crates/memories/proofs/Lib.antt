@@ -1,7 +1,5 @@
 -- What the proofs of memories share.
-pub mod Ended
-pub mod RamLaws
 pub mod PortLaws
-pub mod ReadLaws
-pub mod DramLaws
-pub mod BlockLaws
+mod WordLaws
+mod ReadLaws
+mod CellLaws

@@ -1,380 +1,152 @@
-// The expressions of a RAM's ports. What a refusal leaves of what has been read is not said here: the RAM is refused then.
-ghost use Rattle.std.specs.Prelude.{◌≡◌, [], ◌+◌, ◌≤◌, length};
-ghost use Rattle.std.specs.Prelude.{None};
-ghost use Rattle.netlist.specs.Fields.{word_at, bits_at, control_at, optional_control_at, first_size, ram_at};
-ghost use Rattle.recorder.specs.Lists.{emitted};
-ghost use Rattle.wires.specs.Wires.{wires_of};
-ghost use Rattle.wires.specs.Once.{OnceAt, Grows};
-ghost use Rattle.wires.specs.Expressions.{asserted_once, vector_once, bits_once};
+// The expressions of a RAM's ports.
+ghost use Rattle.std.specs.Prelude.{◌≡◌, [], ◌+◌, ◌≤◌, length, get_or, IfOk, IfSome};
+ghost use Rattle.netlist.specs.Fields.{word_at, bits_at, wires_at, ram_at};
+ghost use Rattle.recorder.specs.Calls.{emitted};
+ghost use Rattle.wires.specs.Wires.{wires_in};
+ghost use Rattle.wires.specs.Once.{seen_in, Once};
+ghost use Rattle.wires.specs.Expressions.{bits_once};
 ghost use Rattle.memories.specs.Memories.{gate, second_exprs};
 ghost use Rattle.memories.specs.Rams.{gated, ported, seconded, first_exprs, dram_exprs, dram_at, addressed, second_addressed, dram_addressed};
 ghost use Rattle.memories.specs.Steps.{second_at};
 
-use crate::{ClockEnabled, Gated, Port, Ported, Second, Seconded};
+use crate::{Gate, Port};
 use address_mux::address::address_once;
-use netlist::Bit;
-use netlist::fields::{OptionalControl, ahead, bits4, control, field, optional_control, wide};
-use recorder::{Emitted, Tapes, builder};
-use wires::expressions::concat_parts;
-use wires::once::{asserted_once, bit_once, bits_once};
+use netlist::fields::Fields;
+use netlist::{Bit, Control};
+use recorder::ExprId;
+use refusal::Refusal;
+use wires::Emitter;
 
 // The n bits at an offset of a record.
 fn data_expression(
-    exprs: &mut [u32],
+    emitter: &mut Emitter,
     parts: &mut [u32],
-    seen: &mut [u32],
-    wires: &[u32],
-    places: &[u32],
-    t: Tapes,
-    first: u32,
-    words: &[u32],
-    at: usize,
+    fields: Fields,
     offset: usize,
     n: u32,
-) -> Emitted
-    requires { (n ≤ length parts.old) × (first ≤ t.exprs.count) }
-    ensures wrote { OnceAt exprs.old t first seen.old (λ s. bits_once (wires_of wires.now places.now) s (bits_at words.now (at + offset) n)) (emitted result) exprs.new seen.new }
-    ensures grows { Grows t (emitted result) }
+) -> Result<ExprId, Refusal>
+    requires { n ≤ length parts.old }
+    ensures { Once emitter.old (bits_once (wires_in emitter.old.map) (seen_in emitter.old) (bits_at fields.entry.words.now (fields.entry.at + offset) n)) (emitted result) emitter.new }
 {
-    let i = ahead(words, at, offset);
-    let end = wide(n);
-    bits_once(
-        exprs,
-        &mut parts[..end],
-        seen,
-        wires,
-        places,
-        t,
-        first,
-        words,
-        i,
-        end,
-        n,
-    )
+    let end = n as usize;
+    emitter.bits_once(&mut parts[..end], fields.from(offset), end, n)
 }
 
-// So many bits of an address, from the shift on.
-fn address_part(
-    exprs: &mut [u32],
-    seen: &mut [u32],
-    wires: &[u32],
-    places: &[u32],
-    t: Tapes,
-    first: u32,
-    bits: [Bit; 14],
-    shift: u32,
-    width: u32,
-) -> Emitted
-    requires { (width ≤ 33) × (first ≤ t.exprs.count) }
-    ensures wrote { OnceAt exprs.old t first seen.old (λ s. vector_once (wires_of wires.now places.now) s bits shift width) (emitted result) exprs.new seen.new }
-    ensures grows { Grows t (emitted result) }
+// Whether a port writes, by its write control and, if it is there, its clock enable.
+fn gate(
+    emitter: &mut Emitter,
+    write: Control,
+    clock_enable: Option<Control>,
+) -> Result<Gate, Refusal>
+    ensures { Once emitter.old (gate (wires_in emitter.old.map) (seen_in emitter.old) write clock_enable) (gated result) emitter.new }
 {
-    address_once(exprs, seen, wires, places, t, first, bits, shift, width)
-}
-
-// Four bits, the highest read first.
-fn four_bits(
-    exprs: &mut [u32],
-    seen: &mut [u32],
-    wires: &[u32],
-    places: &[u32],
-    t: Tapes,
-    first: u32,
-    bits: [Bit; 4],
-) -> Emitted
-    requires { first ≤ t.exprs.count }
-    ensures wrote { OnceAt exprs.old t first seen.old (λ s. vector_once (wires_of wires.now places.now) s bits 0 4) (emitted result) exprs.new seen.new }
-    ensures grows { Grows t (emitted result) }
-{
-    let mut parts = [0u32; 4];
-    let mut now = t;
-    let mut left = 4;
-    while left > 0 {
-        left -= 1;
-        let bit = bits[left];
-        let r = bit_once(exprs, seen, wires, places, now, first, bit);
-        let Emitted::Done(e, next) = r else {
-            return r;
-        };
-        parts[3 - left] = e.0;
-        now = next;
-    }
-    concat_parts(exprs, now, &parts, 4)
-}
-
-// Whether the control at an offset of a record is asserted.
-fn asserted_at(
-    exprs: &mut [u32],
-    seen: &mut [u32],
-    wires: &[u32],
-    places: &[u32],
-    t: Tapes,
-    first: u32,
-    words: &[u32],
-    at: usize,
-    offset: usize,
-) -> Emitted
-    requires { first ≤ t.exprs.count }
-    ensures wrote { OnceAt exprs.old t first seen.old (λ s. asserted_once (wires_of wires.now places.now) s (control_at words.now (at + offset))) (emitted result) exprs.new seen.new }
-    ensures grows { Grows t (emitted result) }
-{
-    let write = control(words, at, offset);
-    asserted_once(exprs, seen, wires, places, t, first, write)
-}
-
-// Whether a port writes, by the control at one offset of a record and, if it is there, the clock enable at another.
-fn gated_at(
-    exprs: &mut [u32],
-    seen: &mut [u32],
-    wires: &[u32],
-    places: &[u32],
-    t: Tapes,
-    first: u32,
-    words: &[u32],
-    at: usize,
-    write_offset: usize,
-    enable_offset: usize,
-) -> Gated
-    requires { first ≤ t.exprs.count }
-    ensures wrote { OnceAt exprs.old t first seen.old (λ s. gate (wires_of wires.now places.now) s (control_at words.now (at + write_offset)) (optional_control_at words.now (at + enable_offset))) (gated result) exprs.new seen.new }
-    ensures grows { Grows t (gated result) }
-{
-    match asserted_at(
-        exprs,
-        seen,
-        wires,
-        places,
-        t,
-        first,
-        words,
-        at,
-        write_offset,
-    ) {
-        Emitted::Done(asserted, t2) => match optional_control(words, at, enable_offset) {
-            OptionalControl::Absent => Gated::Done(asserted, ClockEnabled::Absent, t2),
-            OptionalControl::Present(c) => {
-                match asserted_once(exprs, seen, wires, places, t2, first, c) {
-                    Emitted::Done(enabled, t3) => {
-                        match builder::and(exprs, t3, asserted, enabled) {
-                            Emitted::Done(both, t4) => {
-                                Gated::Done(both, ClockEnabled::Present(enabled), t4)
-                            }
-                            Emitted::Refused(x) => Gated::Refused(x),
-                        }
-                    }
-                    Emitted::Refused(x) => Gated::Refused(x),
-                }
-            }
-        },
-        Emitted::Refused(x) => Gated::Refused(x),
+    let asserted = emitter.asserted_once(write)?;
+    match clock_enable {
+        None => Ok(Gate {
+            write_asserted: asserted,
+            clock_enabled: None,
+        }),
+        Some(control) => {
+            let enabled = emitter.asserted_once(control)?;
+            let both = emitter.and(asserted, enabled)?;
+            Ok(Gate {
+                write_asserted: both,
+                clock_enabled: Some(enabled),
+            })
+        }
     }
 }
 
-// The first port of the block RAM at an index, whose addresses have so many bits from the shift on.
+// The first port of a block RAM, whose addresses have so many bits from the shift on.
 pub fn first_port(
-    exprs: &mut [u32],
+    emitter: &mut Emitter,
     parts: &mut [u32],
-    seen: &mut [u32],
-    wires: &[u32],
-    places: &[u32],
-    t: Tapes,
-    first: u32,
-    words: &[u32],
-    at: usize,
+    fields: Fields,
     write_address: [Bit; 14],
     read_address: [Bit; 14],
     shift: u32,
     address: u32,
-) -> Ported
-    requires { (address ≤ 33) × (word_at words.now (at + 2) ≤ length parts.old) × (first ≤ t.exprs.count) }
-    ensures wrote { OnceAt exprs.old t first seen.old (λ s. first_exprs (wires_of wires.now places.now) s shift address (addressed (ram_at words.now at) write_address read_address [])) (ported (ram_at words.now at).output (ram_at words.now at).read_enable result) exprs.new seen.new }
-    ensures grows { Grows t (ported (ram_at words.now at).output (ram_at words.now at).read_enable result) }
+) -> Result<Port, Refusal>
+    requires { (address ≤ 33) × (word_at fields.words.now (fields.at + 2) ≤ length parts.old) }
+    ensures wrote { Once emitter.old (first_exprs (wires_in emitter.old.map) (seen_in emitter.old) shift address (addressed (ram_at fields.entry.words.now fields.entry.at) write_address read_address [])) (ported (ram_at fields.entry.words.now fields.entry.at).output result) emitter.new }
+    ensures wire { IfOk result (λ p. p.read_data ≡ get_or (ram_at fields.entry.words.now fields.entry.at).output 0 0) }
 {
-    let width = field(words, at, 2);
-    match address_part(
-        exprs,
-        seen,
-        wires,
-        places,
-        t,
-        first,
-        write_address,
-        shift,
-        address,
-    ) {
-        Emitted::Done(writes, t2) => match address_part(
-            exprs,
-            seen,
-            wires,
-            places,
-            t2,
-            first,
-            read_address,
-            shift,
-            address,
-        ) {
-            Emitted::Done(reads, t3) => {
-                match data_expression(
-                    exprs, parts, seen, wires, places, t3, first, words, at, 43, width,
-                ) {
-                    Emitted::Done(input, t4) => {
-                        match gated_at(exprs, seen, wires, places, t4, first, words, at, 18, 37) {
-                            Gated::Done(asserted, clock_enabled, t5) => Ported::Done(
-                                Port {
-                                    writes,
-                                    data: input,
-                                    asserted,
-                                    reads,
-                                    clock_enabled,
-                                },
-                                t5,
-                            ),
-                            Gated::Refused(x) => Ported::Refused(x),
-                        }
-                    }
-                    Emitted::Refused(x) => Ported::Refused(x),
-                }
-            }
-            Emitted::Refused(x) => Ported::Refused(x),
-        },
-        Emitted::Refused(x) => Ported::Refused(x),
-    }
+    let width = fields.word(2);
+    let writes = address_once(emitter, write_address, shift, address)?;
+    let reads = address_once(emitter, read_address, shift, address)?;
+    let data = data_expression(emitter, parts, fields, 43, width)?;
+    let gate = gate(emitter, fields.control(18), fields.optional_control(37))?;
+    Ok(Port {
+        write_address: writes,
+        write_data: data,
+        write_asserted: gate.write_asserted,
+        read_address: reads,
+        read_data: first_wire(fields, 43 + width as usize, width),
+        read_enable: fields.optional_control(34),
+        clock_enabled: gate.clock_enabled,
+    })
 }
 
-// How many words the first port of the block RAM at an index has.
-pub fn first_size(words: &[u32], at: usize) -> usize
-    ensures { result ≡ first_size words.now (word_at words.now (at + 2)) }
+// The first of n wires at an offset of a record.
+fn first_wire(fields: Fields, offset: usize, n: u32) -> u32
+    ensures { result ≡ get_or (wires_at fields.entry.words.now (fields.entry.at + offset) n) 0 0 }
 {
-    let width = wide(field(words, at, 2));
-    43 + width + width
+    if n == 0 { 0 } else { fields.word(offset) }
 }
 
-// The second port of the block RAM at an index; its one address serves both.
+// The second port of a block RAM, if it has one; its one address serves both.
 pub fn second_port(
-    exprs: &mut [u32],
+    emitter: &mut Emitter,
     parts: &mut [u32],
-    seen: &mut [u32],
-    wires: &[u32],
-    places: &[u32],
-    t: Tapes,
-    first: u32,
-    words: &[u32],
-    at: usize,
+    fields: Fields,
     second_address: [Bit; 14],
     shift: u32,
     address: u32,
-) -> Seconded
-    requires { (address ≤ 33) × (word_at words.now (at + 2) ≤ length parts.old) × (first ≤ t.exprs.count) }
-    ensures wrote { OnceAt exprs.old t first seen.old (λ s. second_exprs (wires_of wires.now places.now) s shift address (second_addressed (ram_at words.now at).second second_address)) (seconded (second_at words.now at).output (second_at words.now at).read_enable result) exprs.new seen.new }
-    ensures grows { Grows t (seconded (second_at words.now at).output (second_at words.now at).read_enable result) }
+) -> Result<Option<Port>, Refusal>
+    requires { (address ≤ 33) × (word_at fields.words.now (fields.at + 2) ≤ length parts.old) }
+    ensures wrote { Once emitter.old (second_exprs (wires_in emitter.old.map) (seen_in emitter.old) shift address (second_addressed (ram_at fields.entry.words.now fields.entry.at).second second_address)) (seconded (second_at fields.entry.words.now fields.entry.at).output result) emitter.new }
+    ensures wire { IfOk result (λ b. IfSome b (λ p. p.read_data ≡ get_or (second_at fields.entry.words.now fields.entry.at).output 0 0)) }
 {
-    if field(words, at, 42) == 0 {
-        return Seconded::Done(Second::Absent, t);
+    if fields.word(42) == 0 {
+        return Ok(None);
     }
-    let start = first_size(words, at);
-    let width = field(words, at, 2);
-    match address_part(
-        exprs,
-        seen,
-        wires,
-        places,
-        t,
-        first,
-        second_address,
-        shift,
-        address,
-    ) {
-        Emitted::Done(a, t2) => {
-            match data_expression(
-                exprs,
-                parts,
-                seen,
-                wires,
-                places,
-                t2,
-                first,
-                words,
-                at,
-                start + 24,
-                width,
-            ) {
-                Emitted::Done(input, t3) => {
-                    match gated_at(
-                        exprs,
-                        seen,
-                        wires,
-                        places,
-                        t3,
-                        first,
-                        words,
-                        at,
-                        start + 14,
-                        start + 19,
-                    ) {
-                        Gated::Done(asserted, clock_enabled, t4) => Seconded::Done(
-                            Second::Present(Port {
-                                writes: a,
-                                data: input,
-                                asserted,
-                                reads: a,
-                                clock_enabled,
-                            }),
-                            t4,
-                        ),
-                        Gated::Refused(x) => Seconded::Refused(x),
-                    }
-                }
-                Emitted::Refused(x) => Seconded::Refused(x),
-            }
-        }
-        Emitted::Refused(x) => Seconded::Refused(x),
-    }
+    let width = fields.word(2);
+    let second = fields.second_port();
+    let addressed = address_once(emitter, second_address, shift, address)?;
+    let data = data_expression(emitter, parts, second, 24, width)?;
+    let gate = gate(emitter, second.control(14), second.optional_control(19))?;
+    Ok(Some(Port {
+        write_address: addressed,
+        write_data: data,
+        write_asserted: gate.write_asserted,
+        read_address: addressed,
+        read_data: first_wire(second, 24 + width as usize, width),
+        read_enable: second.optional_control(16),
+        clock_enabled: gate.clock_enabled,
+    }))
 }
 
-// The port of the distributed RAM at an index.
+// The port of a distributed RAM.
 pub fn dram_port(
-    exprs: &mut [u32],
-    seen: &mut [u32],
-    wires: &[u32],
-    places: &[u32],
-    t: Tapes,
-    first: u32,
-    words: &[u32],
-    at: usize,
+    emitter: &mut Emitter,
+    fields: Fields,
     write_address: [Bit; 4],
     read_address: [Bit; 4],
-) -> Ported
-    requires { first ≤ t.exprs.count }
-    ensures wrote { OnceAt exprs.old t first seen.old (λ s. dram_exprs (wires_of wires.now places.now) s (dram_addressed (dram_at words.now at) write_address read_address)) (ported (dram_at words.now at).output None result) exprs.new seen.new }
-    ensures grows { Grows t (ported (dram_at words.now at).output None result) }
+) -> Result<Port, Refusal>
+    ensures { Once emitter.old (dram_exprs (wires_in emitter.old.map) (seen_in emitter.old) (dram_addressed (dram_at fields.entry.words.now fields.entry.at) write_address read_address)) (ported (dram_at fields.entry.words.now fields.entry.at).output result) emitter.new }
 {
-    match four_bits(exprs, seen, wires, places, t, first, write_address) {
-        Emitted::Done(writes, t2) => {
-            match four_bits(exprs, seen, wires, places, t2, first, read_address) {
-                Emitted::Done(reads, t3) => {
-                    let data = bits4(words, at, 5);
-                    match four_bits(exprs, seen, wires, places, t3, first, data) {
-                        Emitted::Done(input, t4) => {
-                            match asserted_at(exprs, seen, wires, places, t4, first, words, at, 9) {
-                                Emitted::Done(asserted, t5) => Ported::Done(
-                                    Port {
-                                        writes,
-                                        data: input,
-                                        asserted,
-                                        reads,
-                                        clock_enabled: ClockEnabled::Absent,
-                                    },
-                                    t5,
-                                ),
-                                Emitted::Refused(x) => Ported::Refused(x),
-                            }
-                        }
-                        Emitted::Refused(x) => Ported::Refused(x),
-                    }
-                }
-                Emitted::Refused(x) => Ported::Refused(x),
-            }
-        }
-        Emitted::Refused(x) => Ported::Refused(x),
-    }
+    let input: [Bit; 4] = fields.bits(5);
+    let writes = address_once(emitter, write_address, 0, 4)?;
+    let reads = address_once(emitter, read_address, 0, 4)?;
+    let data = address_once(emitter, input, 0, 4)?;
+    let asserted = emitter.asserted_once(fields.control(9))?;
+    Ok(Port {
+        write_address: writes,
+        write_data: data,
+        write_asserted: asserted,
+        read_address: reads,
+        read_data: fields.word(15),
+        read_enable: None,
+        clock_enabled: None,
+    })
 }

@@ -1,149 +1,134 @@
 // The words of a RAM, and their registers.
-ghost use Rattle.std.specs.Prelude.{◌≡◌, []};
-ghost use Rattle.recorder.specs.Lists.{WroteExprs, WroteStmts, emitted, stated};
+ghost use Rattle.std.specs.Prelude.{◌≡◌, [], ◌<◌, ◌≤◌, IfOk};
+ghost use Rattle.recorder.specs.Calls.{Writes, emitted, stated, ended};
 ghost use Rattle.memories.specs.Memories.{write_word, write_second, ram_word, ram_words, update_words};
-ghost use Rattle.memories.specs.Rams.{WroteWords, writing, second_writing, last_of, worded, Filled, Spaced, words_of};
+ghost use Rattle.memories.specs.Rams.{port_in, second_in, last_of, word_of, worded, words_of, nth_word};
 
-use crate::{Port, RamWord, Second, Worded, Words};
+use crate::{Port, RamWord, Words};
 use address_mux::address::match_address;
-use recorder::{AsyncReset, Declared, Emitted, Enable, ExprId, SignalId, Stated, Tapes, builder};
+use recorder::{ExprId, Recorder, SignalId};
+use refusal::Refusal;
+
+impl Words {
+    // The word at an index.
+    pub(crate) fn word(self, index: u32) -> RamWord
+        requires { index < self.depth }
+        ensures { word_of result ≡ nth_word self index }
+    {
+        let current = self.current.0 + index * (self.last + 1);
+        RamWord {
+            signal: SignalId(self.signal.0 + index),
+            current: ExprId(current),
+            next: ExprId(current + self.last),
+        }
+    }
+}
 
 // What a port makes of a word.
 fn write_word(
-    exprs: &mut [u32],
-    t: Tapes,
+    recorder: &mut Recorder,
     port: Port,
     width: u32,
     address: u32,
     index: u32,
     old: ExprId,
-) -> Emitted
-    ensures { WroteExprs exprs.old t (write_word (writing port) width address index old.0) (emitted result) exprs.new }
+) -> Result<ExprId, Refusal>
+    ensures { Writes recorder.old (write_word (port_in port) width address index old.0) (emitted result) recorder.new }
 {
-    let a = match_address(exprs, t, port.writes, address, index);
-    let Emitted::Done(found, t2) = a else {
-        return a;
-    };
-    let b = builder::and(exprs, t2, port.asserted, found);
-    let Emitted::Done(write, t3) = b else {
-        return b;
-    };
-    builder::mux(exprs, t3, width, write, port.data, old)
+    let found = match_address(recorder, port.write_address, address, index)?;
+    let write = recorder.and(port.write_asserted, found)?;
+    recorder.mux(width, write, port.write_data, old)
 }
 
 // What the second port makes of it after the first.
 fn write_second(
-    exprs: &mut [u32],
-    t: Tapes,
-    second: Second,
+    recorder: &mut Recorder,
+    second: Option<Port>,
     width: u32,
     address: u32,
     index: u32,
     old: ExprId,
-) -> Emitted
-    ensures { WroteExprs exprs.old t (write_second (second_writing second) width address index old.0) (emitted result) exprs.new }
+) -> Result<ExprId, Refusal>
+    ensures { Writes recorder.old (write_second (second_in second) width address index old.0) (emitted result) recorder.new }
 {
     match second {
-        Second::Absent => Emitted::Done(old, t),
-        Second::Present(port) => write_word(exprs, t, port, width, address, index, old),
+        Some(port) => write_word(recorder, port, width, address, index, old),
+        None => Ok(old),
     }
 }
 
 // The word at an index: its signal, its read, and what the ports make of it.
 pub fn ram_word(
-    signals: &mut [u32],
-    exprs: &mut [u32],
-    t: Tapes,
+    recorder: &mut Recorder,
     first: Port,
-    second: Second,
+    second: Option<Port>,
     owner: u32,
     width: u32,
     address: u32,
     index: u32,
-) -> Worded
-    ensures { WroteWords signals.old exprs.old t (ram_word (writing first) (second_writing second) owner width address index) (worded result) signals.new exprs.new }
+) -> Result<RamWord, Refusal>
+    ensures { Writes recorder.old (ram_word (port_in first) (second_in second) owner width address index) (worded result) recorder.new }
 {
-    match builder::signal(signals, t, 13, width, owner) {
-        Declared::Done(signal, t2) => match builder::read(exprs, t2, width, signal, 0) {
-            Emitted::Done(current, t3) => {
-                match write_word(exprs, t3, first, width, address, index, current) {
-                    Emitted::Done(once, t4) => {
-                        match write_second(exprs, t4, second, width, address, index, once) {
-                            Emitted::Done(next, t5) => Worded::Done(
-                                RamWord {
-                                    signal,
-                                    current,
-                                    next,
-                                },
-                                t5,
-                            ),
-                            Emitted::Refused(x) => Worded::Refused(x),
-                        }
-                    }
-                    Emitted::Refused(x) => Worded::Refused(x),
-                }
-            }
-            Emitted::Refused(x) => Worded::Refused(x),
-        },
-        Declared::Refused(x) => Worded::Refused(x),
+    let signal = recorder.signal(13, width, owner)?;
+    let current = recorder.read(width, signal, 0)?;
+    let once = write_word(recorder, first, width, address, index, current)?;
+    let next = write_second(recorder, second, width, address, index, once)?;
+    Ok(RamWord {
+        signal,
+        current,
+        next,
+    })
+}
+
+// How far a word's next value stands behind its read: four records for each port that writes.
+fn last_of(second: Option<Port>) -> u32
+    ensures { result ≡ last_of second }
+{
+    match second {
+        Some(_) => 8,
+        None => 4,
     }
 }
 
-// All words. None is kept: their numbers follow from the tapes.
+// All words.
 pub fn ram_words(
-    signals: &mut [u32],
-    exprs: &mut [u32],
-    t: Tapes,
+    recorder: &mut Recorder,
     first: Port,
-    second: Second,
+    second: Option<Port>,
     owner: u32,
     width: u32,
     address: u32,
     depth: u32,
-) -> Stated
-    ensures { Filled signals.old exprs.old t (ram_words (writing first) (second_writing second) owner width address depth 0 []) (last_of second) depth result signals.new exprs.new }
+) -> Result<Words, Refusal>
+    requires { depth ≤ 16384 }
+    ensures wrote { Writes recorder.old (ram_words (port_in first) (second_in second) owner width address depth 0 []) (ended words_of result) recorder.new }
+    ensures depth { IfOk result (λ w. w.depth ≡ depth) }
 {
-    let mut now = t;
-    let mut i = 0;
-    while i < depth {
-        match ram_word(signals, exprs, now, first, second, owner, width, address, i) {
-            Worded::Done(_, next) => {
-                now = next;
-            }
-            Worded::Refused(x) => return Stated::Refused(x),
-        }
-        i += 1;
+    let start = recorder.tapes();
+    let last = last_of(second);
+    for index in 0..depth {
+        ram_word(recorder, first, second, owner, width, address, index)?;
     }
-    Stated::Done(now)
+    Ok(Words {
+        signal: SignalId(start.signals.count),
+        current: ExprId(start.exprs.count),
+        last,
+        depth,
+    })
 }
 
 // The words' registers.
-pub fn update_words(stmts: &mut [u32], t: Tapes, words: Words, clock: SignalId, edge: u32) -> Stated
-    requires { Spaced words }
-    ensures { WroteStmts stmts.old t (update_words (words_of words) clock.0 edge) (stated result) stmts.new }
+pub fn update_words(
+    recorder: &mut Recorder,
+    words: Words,
+    clock: SignalId,
+    edge: u32,
+) -> Result<(), Refusal>
+    ensures { Writes recorder.old (update_words (words_of words) clock.0 edge) (stated result) recorder.new }
 {
-    let mut signal = words.signal.0;
-    let mut current = words.current.0;
-    let mut now = t;
-    let mut i = 0;
-    while i < words.depth {
-        let r = builder::register(
-            stmts,
-            now,
-            SignalId(signal),
-            ExprId(current + words.last),
-            clock,
-            edge,
-            AsyncReset::Absent,
-            Enable::Absent,
-        );
-        let Stated::Done(next) = r else {
-            return r;
-        };
-        now = next;
-        signal += 1;
-        current += words.last + 1;
-        i += 1;
+    for index in 0..words.depth {
+        let word = words.word(index);
+        recorder.register(word.signal, word.next, clock, edge, None, None)?;
     }
-    Stated::Done(now)
+    Ok(())
 }

@@ -1,182 +1,98 @@
 // The word at a read port's address: the RAM's words become nodes of an address mux, in an array of the smallest size that holds them.
 ghost use Rattle.std.specs.Prelude.{◌≡◌, ◌≤◌, length};
-ghost use Rattle.recorder.specs.Lists.{WroteExprs, emitted};
-ghost use Rattle.memories.specs.Rams.{words_of, Spaced, select_word};
+ghost use Rattle.recorder.specs.Calls.{Writes, emitted};
+ghost use Rattle.address_mux.specs.Candidates.{SameWorks};
+ghost use Rattle.memories.specs.Rams.{words_of, select_word, Roomy};
 ghost use Rattle.memories.specs.Steps.{pick_word};
 
 use crate::Words;
-use address_mux::AddressMuxNode;
 use address_mux::address::match_address;
-use netlist::fields::wide;
-use nodes::{
-    balanced_address_mux_of_64, balanced_address_mux_of_1024, balanced_address_mux_of_16384,
-};
-use recorder::{Emitted, ExprId, Tapes, builder};
+use address_mux::{AddressMuxNode, Works};
+use nodes::balanced_address_mux_of_array;
+use recorder::{ExprId, Recorder};
+use refusal::Refusal;
 
-// Of up to 64 words. The next two differ in the array's size only: a size is part of a type here.
-fn select_64(
-    exprs: &mut [u32],
-    parts: &mut [u32],
-    values: &mut [u32],
-    t: Tapes,
-    made: Words,
+// Of up to N words.
+fn select_of<const N: usize>(
+    recorder: &mut Recorder,
+    works: &mut Works,
+    words: Words,
     reads: ExprId,
     width: u32,
     address: u32,
     zero: ExprId,
-) -> Emitted
-    requires { (made.depth ≤ length parts.old) × (made.depth ≤ length values.old) × Spaced made × (made.depth ≤ 64) }
-    ensures { WroteExprs exprs.old t (pick_word reads.0 (words_of made) width address zero.0) (emitted result) exprs.new }
+) -> Result<ExprId, Refusal>
+    requires { Roomy words.depth works.old × (words.depth ≤ N) × (N ≤ 16384) }
+    ensures wrote { Writes recorder.old (pick_word reads.0 (words_of words) width address zero.0) (emitted result) recorder.new }
+    ensures works { SameWorks works.old works.new }
 {
     let mut nodes = [AddressMuxNode {
         matched: zero,
         value: zero,
-    }; 64];
-    let mut current = made.current.0;
-    let mut now = t;
-    let mut i = 0;
-    while i < made.depth {
-        match match_address(exprs, now, reads, address, i) {
-            Emitted::Done(found, next) => {
-                let at = wide(i);
-                nodes[at] = AddressMuxNode {
-                    matched: found,
-                    value: ExprId(current),
-                };
-                now = next;
-            }
-            Emitted::Refused(x) => return Emitted::Refused(x),
-        }
-        current += made.last + 1;
-        i += 1;
+    }; N];
+    for index in 0..words.depth {
+        let matched = match_address(recorder, reads, address, index)?;
+        let value = words.word(index).current;
+        nodes[index as usize] = AddressMuxNode { matched, value };
     }
-    let n = wide(made.depth);
-    balanced_address_mux_of_64(exprs, nodes, n, parts, values, now, width, zero)
-}
-
-// Of up to 1,024.
-fn select_1024(
-    exprs: &mut [u32],
-    parts: &mut [u32],
-    values: &mut [u32],
-    t: Tapes,
-    made: Words,
-    reads: ExprId,
-    width: u32,
-    address: u32,
-    zero: ExprId,
-) -> Emitted
-    requires { (made.depth ≤ length parts.old) × (made.depth ≤ length values.old) × Spaced made × (made.depth ≤ 1024) }
-    ensures { WroteExprs exprs.old t (pick_word reads.0 (words_of made) width address zero.0) (emitted result) exprs.new }
-{
-    let mut nodes = [AddressMuxNode {
-        matched: zero,
-        value: zero,
-    }; 1024];
-    let mut current = made.current.0;
-    let mut now = t;
-    let mut i = 0;
-    while i < made.depth {
-        match match_address(exprs, now, reads, address, i) {
-            Emitted::Done(found, next) => {
-                let at = wide(i);
-                nodes[at] = AddressMuxNode {
-                    matched: found,
-                    value: ExprId(current),
-                };
-                now = next;
-            }
-            Emitted::Refused(x) => return Emitted::Refused(x),
-        }
-        current += made.last + 1;
-        i += 1;
-    }
-    let n = wide(made.depth);
-    balanced_address_mux_of_1024(exprs, nodes, n, parts, values, now, width, zero)
-}
-
-// Of up to 16,384, as many as a RAM can have.
-fn select_16384(
-    exprs: &mut [u32],
-    parts: &mut [u32],
-    values: &mut [u32],
-    t: Tapes,
-    made: Words,
-    reads: ExprId,
-    width: u32,
-    address: u32,
-    zero: ExprId,
-) -> Emitted
-    requires { (made.depth ≤ length parts.old) × (made.depth ≤ length values.old) × Spaced made × (made.depth ≤ 16384) }
-    ensures { WroteExprs exprs.old t (pick_word reads.0 (words_of made) width address zero.0) (emitted result) exprs.new }
-{
-    let mut nodes = [AddressMuxNode {
-        matched: zero,
-        value: zero,
-    }; 16384];
-    let mut current = made.current.0;
-    let mut now = t;
-    let mut i = 0;
-    while i < made.depth {
-        match match_address(exprs, now, reads, address, i) {
-            Emitted::Done(found, next) => {
-                let at = wide(i);
-                nodes[at] = AddressMuxNode {
-                    matched: found,
-                    value: ExprId(current),
-                };
-                now = next;
-            }
-            Emitted::Refused(x) => return Emitted::Refused(x),
-        }
-        current += made.last + 1;
-        i += 1;
-    }
-    let n = wide(made.depth);
-    balanced_address_mux_of_16384(exprs, nodes, n, parts, values, now, width, zero)
+    balanced_address_mux_of_array(recorder, nodes, words.depth as usize, works, width, zero)
 }
 
 // The word at an address, or zero, of up to 1,024 words.
-pub fn select_word(
-    exprs: &mut [u32],
-    parts: &mut [u32],
-    values: &mut [u32],
-    t: Tapes,
-    made: Words,
+fn select_few(
+    recorder: &mut Recorder,
+    works: &mut Works,
+    words: Words,
     reads: ExprId,
     width: u32,
     address: u32,
-) -> Emitted
-    requires { (made.depth ≤ length parts.old) × (made.depth ≤ length values.old) × Spaced made × (made.depth ≤ 1024) }
-    ensures { WroteExprs exprs.old t (select_word reads.0 (words_of made) width address) (emitted result) exprs.new }
+) -> Result<ExprId, Refusal>
+    requires { Roomy words.depth works.old × (words.depth ≤ 1024) }
+    ensures wrote { Writes recorder.old (select_word reads.0 (words_of words) width address) (emitted result) recorder.new }
+    ensures works { SameWorks works.old works.new }
 {
-    let a = builder::constant(exprs, t, width, 0);
-    let Emitted::Done(zero, t2) = a else {
-        return a;
-    };
-    if made.depth <= 64 {
-        return select_64(exprs, parts, values, t2, made, reads, width, address, zero);
+    let zero = recorder.constant(width, 0)?;
+    if words.depth <= 64 {
+        select_of::<64>(recorder, works, words, reads, width, address, zero)
+    } else {
+        select_of::<1024>(recorder, works, words, reads, width, address, zero)
     }
-    select_1024(exprs, parts, values, t2, made, reads, width, address, zero)
 }
 
-// Of more words.
-pub fn select_deep(
-    exprs: &mut [u32],
-    parts: &mut [u32],
-    values: &mut [u32],
-    t: Tapes,
-    made: Words,
+// Of more words, apart so that only a deep RAM pays for the room of so many nodes.
+#[inline(never)]
+fn select_deep(
+    recorder: &mut Recorder,
+    works: &mut Works,
+    words: Words,
     reads: ExprId,
     width: u32,
     address: u32,
-) -> Emitted
-    requires { (made.depth ≤ length parts.old) × (made.depth ≤ length values.old) × Spaced made }
-    ensures { WroteExprs exprs.old t (select_word reads.0 (words_of made) width address) (emitted result) exprs.new }
+) -> Result<ExprId, Refusal>
+    requires { Roomy words.depth works.old }
+    ensures wrote { Writes recorder.old (select_word reads.0 (words_of words) width address) (emitted result) recorder.new }
+    ensures works { SameWorks works.old works.new }
 {
-    let a = builder::constant(exprs, t, width, 0);
-    let Emitted::Done(zero, t2) = a else {
-        return a;
-    };
-    select_16384(exprs, parts, values, t2, made, reads, width, address, zero)
+    let zero = recorder.constant(width, 0)?;
+    select_of::<16384>(recorder, works, words, reads, width, address, zero)
+}
+
+// The word at an address, or zero.
+pub fn select_word(
+    recorder: &mut Recorder,
+    works: &mut Works,
+    words: Words,
+    reads: ExprId,
+    width: u32,
+    address: u32,
+) -> Result<ExprId, Refusal>
+    requires { Roomy words.depth works.old }
+    ensures wrote { Writes recorder.old (select_word reads.0 (words_of words) width address) (emitted result) recorder.new }
+    ensures works { SameWorks works.old works.new }
+{
+    if words.depth <= 1024 {
+        select_few(recorder, works, words, reads, width, address)
+    } else {
+        select_deep(recorder, works, words, reads, width, address)
+    }
 }

@@ -1,15 +1,16 @@
 -- What the reader takes is what the fields say: a cell, a port, the whole netlist.
 use mathlib.Core.Path.{◌≡◌, refl, sym, ◌∙◌, ap, subst}
-use mathlib.Core.List.{List, [], ◌∷◌}
+use mathlib.Core.List.{List, ◌∷◌}
 use Rattle.std.specs.Prelude.{Option}
 use mathlib.Core.Bool.{Bool, true, false, ◌&&◌}
 use Prim.Native.Nat.{ℕ, zero, suc, ◌+◌, ◌≤◌, ◌<◌}
 use native.Mathlib.Omega.{arith}
-use lib.ListN.{get_or}
 use lib.Dec.{ltb, leb, eqb}
 use borrow.Author.Tests.{leb-true, eqb-true}
 use Rattle.settle.specs.Tests.{and_left, and_right}
 use Rattle.netlist.specs.declared.Bit.{Bit}
+use Rattle.netlist.specs.declared.Kind.{Kind}
+use Rattle.netlist.specs.declared.Kind.TheVariants as K
 use Rattle.netlist.specs.Netlist.{bit_of, Control, Reset, Cell, Port, Netlist}
 use Rattle.netlist.specs.Reader
 use Rattle.netlist.specs.Reader.{Limits, netlist, Step, got, fault, Parser, and_then, ◌>>=◌, done, many, judged, fetched, closed}
@@ -19,7 +20,7 @@ use Rattle.netlist.proofs.ReaderFits.{Outcome, Sound, many_sound, cell_sound, po
 use Rattle.netlist.specs.Placed.{port_place, cell_place, Laid, PortPlaced, CellPlaced}
 use Rattle.netlist.proofs.RecordLaws.{end_after}
 use Rattle.netlist.specs.Fields.{records_at, end_at, after, when_set, size_if, word_at, bit_at, bits_at, wires_at, control_at, optional_control_at, reset_at, optional_reset_at}
-use Rattle.netlist.specs.Fields.{lut4_at, pfumx_at, l6mux21_at, ccu2c_at, multiplier_at, flip_flop_at, first_size, second_size, second_port_at, block_ram_at, distributed_ram_at, io_at, jtagg_at, pll_at, kinds_at, cell_at, block_ram_size, pll_size, sizes_at, cell_size, cell_end, port_at, port_size, port_end, ports_at, layout_of, netlist_at}
+use Rattle.netlist.specs.Fields.{lut4_at, pfumx_at, l6mux21_at, ccu2c_at, multiplier_at, flip_flop_at, first_size, second_size, second_port_at, block_ram_at, distributed_ram_at, io_at, jtagg_at, pll_at, kind_at, cell_as, cell_at, block_ram_size, size_as, cell_size, cell_end, port_at, port_size, port_end, ports_at, layout_of, netlist_at}
 
 -- a step that got something got this, and ends there
 abbrev pub Gives : {A : Type 0} → Step A → A → ℕ → Type 0
@@ -194,14 +195,14 @@ module _ (limits : Limits) (words : List ℕ) (end : ℕ) where
       (then_wires 9 (i + 1) (i + 10) _ _ _ (omega arith)
       (refl, refl))
 
-  gives_pll : (i : ℕ) → Gives (Reader.read_pll limits words end (i + 1)) (pll_at words i) (i + pll_size words i)
+  gives_pll : (i : ℕ) → Gives (Reader.read_pll limits words end (i + 1)) (pll_at words i) (i + size_as words K.Pll i)
   gives_pll i =
       (then_bit (i + 1) (i + 2) _ _ _ (omega arith)
       (then_wire (i + 2) (i + 3) _ _ _ (omega arith)
       (then_wire (i + 3) (i + 4) _ _ _ (omega arith)
       (then_wire (i + 4) (i + 5) _ _ _ (omega arith)
       (then_word _ (i + 5) (i + 6) _ _ _ (omega arith)
-      (then_wires (word_at words (i + 5)) (i + 6) (i + pll_size words i) _ _ _ (omega arith)
+      (then_wires (word_at words (i + 5)) (i + 6) (i + size_as words K.Pll i) _ _ _ (omega arith)
       (refl, refl)))))))
 
   gives_second : (width s flag : ℕ) → Gives (Reader.second_if limits words end flag width s) (when_set flag (second_port_at words s width)) (s + size_if flag (second_size words width))
@@ -236,26 +237,22 @@ module _ (limits : Limits) (words : List ℕ) (end : ℕ) where
       (gives_bind (Reader.second_if limits words end (word_at words (i + 42)) width) _ (i + first_size words width) (i + first_size words width + size_if (word_at words (i + 42)) (second_size words width)) _ _ _ (gives_second width (i + first_size words width) (word_at words (i + 42)))
       (refl, omega arith)))))))))))))))
 
-  gives_kind : (i kind : ℕ) → Gives (get_or (Reader.kinds limits words end) kind (Reader.read_pll limits words end) (i + 1)) (get_or (kinds_at words i) kind (pll_at words i)) (i + get_or (sizes_at words i) kind (pll_size words i))
-  gives_kind i zero = gives_lut4 i
-  gives_kind i (suc zero) = gives_pfumx i
-  gives_kind i (suc (suc zero)) = gives_l6mux21 i
-  gives_kind i (suc (suc (suc zero))) = gives_ccu2c i
-  gives_kind i (suc (suc (suc (suc zero)))) = gives_multiplier i
-  gives_kind i (suc (suc (suc (suc (suc zero))))) = gives_flip_flop i
-  gives_kind i (suc (suc (suc (suc (suc (suc zero)))))) = gives_block_ram i
-  gives_kind i (suc (suc (suc (suc (suc (suc (suc zero))))))) = gives_distributed_ram i
-  gives_kind i (suc (suc (suc (suc (suc (suc (suc (suc zero)))))))) = gives_io i
-  gives_kind i (suc (suc (suc (suc (suc (suc (suc (suc (suc zero))))))))) = gives_jtagg i
-  gives_kind i (suc (suc (suc (suc (suc (suc (suc (suc (suc (suc n)))))))))) = gives_pll_or n
-    where
-      gives_pll_or : (n : ℕ) → Gives (get_or (Reader.read_pll limits words end ∷ []) n (Reader.read_pll limits words end) (i + 1)) (get_or (pll_at words i ∷ []) n (pll_at words i)) (i + get_or (pll_size words i ∷ []) n (pll_size words i))
-      gives_pll_or zero = gives_pll i
-      gives_pll_or (suc n) = gives_pll i
+  gives_kind : (k : Kind) (i : ℕ) → Gives (Reader.read_as limits words end k (i + 1)) (cell_as words k i) (i + size_as words k i)
+  gives_kind K.Lut4 i = gives_lut4 i
+  gives_kind K.Pfumx i = gives_pfumx i
+  gives_kind K.L6mux21 i = gives_l6mux21 i
+  gives_kind K.Ccu2c i = gives_ccu2c i
+  gives_kind K.Multiplier i = gives_multiplier i
+  gives_kind K.FlipFlop i = gives_flip_flop i
+  gives_kind K.BlockRam i = gives_block_ram i
+  gives_kind K.DistributedRam i = gives_distributed_ram i
+  gives_kind K.Io i = gives_io i
+  gives_kind K.Jtagg i = gives_jtagg i
+  gives_kind K.Pll i = gives_pll i
 
   pub gives_cell : (i : ℕ) → Gives (Reader.read_cell limits words end i) (cell_at words i) (cell_end words i)
   unfolding cell_at cell_size
-  gives_cell i = then_word _ i (i + 1) _ _ _ refl (gives_kind i (word_at words i))
+  gives_cell i = then_word _ i (i + 1) _ _ _ refl (gives_kind (kind_at words i) i)
 
   pub gives_port : (i : ℕ) → Gives (Reader.read_port limits words end i) (port_at words i) (port_end words i)
   unfolding port_at port_size

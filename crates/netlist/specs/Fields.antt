@@ -3,6 +3,9 @@ use Rattle.std.specs.Prelude.{List, [], ◌∷◌, ℕ, zero, suc, ◌+◌, ◌-
 use Rattle.std.specs.Prelude.{Option, None, Some}
 use Rattle.netlist.specs.declared.Bit.{Bit}
 use Rattle.netlist.specs.declared.Layout.{Layout}
+use Rattle.netlist.specs.declared.Kind.{Kind}
+use Rattle.netlist.specs.declared.Kind.TheVariants as K
+use Rattle.netlist.specs.Kinds.{kind_of}
 use Rattle.netlist.specs.Netlist.{bit_of, Control, Reset, SecondPort, BlockRam, Cell, Port, Netlist}
 use Rattle.netlist.specs.Netlist.{lut4, pfumx, l6mux21, ccu2c, multiplier, flip_flop, block_ram, distributed_ram, io, jtagg, pll}
 
@@ -161,25 +164,45 @@ module _ (words : List ℕ) where
     more = wires_at (i + 6) (word_at (i + 5));
   })
 
-  -- by kind, from 0
-  abbrev pub kinds_at : ℕ → List Cell
-  kinds_at i =
-      lut4_at i ∷ pfumx_at i ∷ l6mux21_at i ∷ ccu2c_at i ∷ multiplier_at i ∷ flip_flop_at i ∷ block_ram_at i ∷ distributed_ram_at i ∷ io_at i ∷ jtagg_at i ∷ pll_at i ∷ []
+  abbrev pub kind_at : ℕ → Kind
+  kind_at i = kind_of (word_at i)
+
+  -- a cell of each kind
+  abbrev pub cell_as : Kind → ℕ → Cell
+  cell_as K.Lut4 i = lut4_at i
+  cell_as K.Pfumx i = pfumx_at i
+  cell_as K.L6mux21 i = l6mux21_at i
+  cell_as K.Ccu2c i = ccu2c_at i
+  cell_as K.Multiplier i = multiplier_at i
+  cell_as K.FlipFlop i = flip_flop_at i
+  cell_as K.BlockRam i = block_ram_at i
+  cell_as K.DistributedRam i = distributed_ram_at i
+  cell_as K.Io i = io_at i
+  cell_as K.Jtagg i = jtagg_at i
+  cell_as K.Pll i = pll_at i
 
   unfoldable pub cell_at : ℕ → Cell
-  cell_at i = get_or (kinds_at i) (word_at i) (pll_at i)
+  cell_at i = cell_as (kind_at i) i
 
   abbrev pub block_ram_size : ℕ → ℕ
   block_ram_size i = let width = word_at (i + 2) in first_size width + size_if (word_at (i + 42)) (second_size width)
 
-  abbrev pub pll_size : ℕ → ℕ
-  pll_size i = 6 + word_at (i + 5)
-
-  abbrev pub sizes_at : ℕ → List ℕ
-  sizes_at i = 7 ∷ 5 ∷ 5 ∷ 17 ∷ 73 ∷ 13 ∷ block_ram_size i ∷ 22 ∷ 5 ∷ 10 ∷ pll_size i ∷ []
+  -- how many words each kind has
+  abbrev pub size_as : Kind → ℕ → ℕ
+  size_as K.Lut4 i = 7
+  size_as K.Pfumx i = 5
+  size_as K.L6mux21 i = 5
+  size_as K.Ccu2c i = 17
+  size_as K.Multiplier i = 73
+  size_as K.FlipFlop i = 13
+  size_as K.BlockRam i = block_ram_size i
+  size_as K.DistributedRam i = 22
+  size_as K.Io i = 5
+  size_as K.Jtagg i = 10
+  size_as K.Pll i = 6 + word_at (i + 5)
 
   unfoldable pub cell_size : ℕ → ℕ
-  cell_size i = get_or (sizes_at i) (word_at i) (pll_size i)
+  cell_size i = size_as (kind_at i) i
 
   abbrev pub cell_end : ℕ → ℕ
   cell_end i = i + cell_size i

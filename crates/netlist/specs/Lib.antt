@@ -1,8 +1,8 @@
 -- The specs of netlist.
 pub mod Netlist
+pub mod Kinds
 pub mod Reader
 pub mod Fields
-pub mod FieldForms
 pub mod Placed
 pub mod Shape
 pub mod ReaderLaws

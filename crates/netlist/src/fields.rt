@@ -1,191 +1,148 @@
-// Readers of fields. A field is named by the index `at` of its record and its offset there, so that no caller adds indices.
-// Nothing is checked here: what the words of an unchecked netlist say is read all the same, and past the last word all is 0.
-ghost use Rattle.std.specs.Prelude.{◌≡◌, [], ◌∷◌, ◌+◌, min, length};
-ghost use Rattle.netlist.specs.Netlist.{bit_of};
-ghost use Rattle.netlist.specs.Fields.{word_at, bit_at, bits_at, control_at, optional_control_at, optional_reset_at, block_ram_size, cell_size, cell_end, port_end};
-ghost use Rattle.netlist.specs.FieldForms.{presence, reset_presence};
+// Readers of fields. Nothing is checked here: what the words of an unchecked netlist say is read all the same, and past the last word all is 0.
+ghost use Rattle.std.specs.Prelude.{◌≡◌, [], ◌∷◌, ◌+◌, min, length, slice_get, slice_index};
+ghost use Rattle.netlist.specs.Fields.{word_at, bit_at, bits_at, control_at, optional_control_at, optional_reset_at, kind_at, block_ram_size, cell_size, cell_end, port_end};
 
-use super::{Bit, Control, Reset};
-
-pub fn wide(x: u32) -> usize
-    ensures { result ≡ x }
-{
-    x as usize
-}
+use super::{Bit, Control, Kind, Reset};
 
 // The word at an index.
 pub fn word(words: &[u32], i: usize) -> u32
     ensures { result ≡ word_at words.now i }
 {
-    if i < words.len() { words[i] } else { 0 }
+    words.get(i).copied().unwrap_or(0)
 }
 
-pub fn field(words: &[u32], at: usize, offset: usize) -> u32
-    ensures { result ≡ word_at words.now (at + offset) }
-{
-    if at < words.len() {
-        if offset < words.len() - at {
-            return words[at + offset];
+// The fields of a record of the netlist, a cell or a port, from its kind or direction on. They are numbered from there,
+// so that no caller adds indices.
+#[derive(Clone, Copy)]
+pub struct Fields<'a> {
+    pub words: &'a [u32],
+    pub at: usize,
+}
+
+impl<'a> Fields<'a> {
+    pub fn word(self, offset: usize) -> u32
+        ensures { result ≡ word_at self.entry.words.now (self.entry.at + offset) }
+    {
+        word(self.words, self.at.saturating_add(offset))
+    }
+
+    // The index of a field, or the number of words if it is larger.
+    pub fn ahead(self, offset: usize) -> usize
+        ensures { result ≡ min (self.entry.at + offset) (length self.entry.words.now) }
+    {
+        self.at.saturating_add(offset).min(self.words.len())
+    }
+
+    // The fields from an offset on.
+    pub fn from(self, offset: usize) -> Fields<'a>
+        ensures { result ≡ record self.entry { at = min (self.entry.at + offset) (length self.entry.words.now) } }
+    {
+        Fields {
+            words: self.words,
+            at: self.ahead(offset),
         }
     }
-    0
-}
 
-// The index at + offset, or the number of words if it is larger.
-pub fn ahead(words: &[u32], at: usize, offset: usize) -> usize
-    ensures { result ≡ min (at + offset) (length words.now) }
-{
-    if at <= words.len() {
-        if offset <= words.len() - at {
-            return at + offset;
+    pub fn kind(self) -> Kind
+        ensures { result ≡ kind_at self.entry.words.now self.entry.at }
+    {
+        Kind::from(self.word(0))
+    }
+
+    pub fn bit(self, offset: usize) -> Bit
+        ensures { result ≡ bit_at self.entry.words.now (self.entry.at + offset) }
+    {
+        Bit::from(self.word(offset))
+    }
+
+    pub fn bits<const N: usize>(self, offset: usize) -> [Bit; N]
+        ensures { result ≡ bits_at self.entry.words.now (self.entry.at + offset) N }
+    {
+        let fields = self.from(offset);
+        let mut bits = [Bit::Zero; N];
+        for (k, bit) in bits.iter_mut().enumerate() {
+            *bit = fields.bit(k);
+        }
+        bits
+    }
+
+    pub fn control(self, offset: usize) -> Control
+        ensures { result ≡ control_at self.entry.words.now (self.entry.at + offset) }
+    {
+        let fields = self.from(offset);
+        Control {
+            signal: fields.bit(0),
+            active: fields.word(1),
         }
     }
-    words.len()
-}
 
-pub fn bit_of(word: u32) -> Bit
-    ensures { result ≡ bit_of word }
-{
-    if word == 0 {
-        Bit::Zero
-    } else if word == 1 {
-        Bit::One
-    } else {
-        Bit::Wire(word - 2)
+    pub fn optional_control(self, offset: usize) -> Option<Control>
+        ensures { result ≡ optional_control_at self.entry.words.now (self.entry.at + offset) }
+    {
+        let fields = self.from(offset);
+        if fields.word(0) == 0 {
+            return None;
+        }
+        Some(fields.control(1))
     }
-}
 
-pub fn bit_at(words: &[u32], at: usize, offset: usize) -> Bit
-    ensures { result ≡ bit_at words.now (at + offset) }
-{
-    bit_of(field(words, at, offset))
-}
-
-pub fn bits4(words: &[u32], at: usize, offset: usize) -> [Bit; 4]
-    ensures { result ≡ bits_at words.now (at + offset) 4 }
-{
-    let i = ahead(words, at, offset);
-    let a = bit_at(words, i, 0);
-    let b = bit_at(words, i, 1);
-    let c = bit_at(words, i, 2);
-    let d = bit_at(words, i, 3);
-    [a, b, c, d]
-}
-
-// The 14 bits of a block RAM's address.
-pub fn address(words: &[u32], at: usize, offset: usize) -> [Bit; 14]
-    ensures { result ≡ bits_at words.now (at + offset) 14 }
-{
-    let i = ahead(words, at, offset);
-    let mut bits = [Bit::Zero; 14];
-    for k in 0..14 {
-        bits[k] = bit_at(words, i, k);
+    pub fn optional_reset(self, offset: usize) -> Option<Reset>
+        ensures { result ≡ optional_reset_at self.entry.words.now (self.entry.at + offset) }
+    {
+        let fields = self.from(offset);
+        if fields.word(0) == 0 {
+            return None;
+        }
+        Some(Reset {
+            signal: fields.bit(1),
+            active: fields.word(2),
+            asynchronous: fields.word(3),
+            value: fields.word(4),
+        })
     }
-    bits
-}
 
-// The two rows of four inputs of the CCU2C at an index.
-pub fn ccu2c_inputs(words: &[u32], at: usize) -> [[Bit; 4]; 2]
-    ensures { result ≡ bits_at words.now (at + 1) 4 ∷ bits_at words.now (at + 5) 4 ∷ [] }
-{
-    let a = bits4(words, at, 1);
-    let b = bits4(words, at, 5);
-    [a, b]
-}
-
-pub fn control(words: &[u32], at: usize, offset: usize) -> Control
-    ensures { result ≡ control_at words.now (at + offset) }
-{
-    let i = ahead(words, at, offset);
-    let s = bit_at(words, i, 0);
-    let a = field(words, i, 1);
-    Control {
-        signal: s,
-        active: a,
+    // The index after a port, or the number of words if that is past them.
+    #[tactic(auto, unfolding(crate::specs::Fields::port_size))]
+    pub fn port_end(self) -> usize
+        ensures { result ≡ min (port_end self.entry.words.now self.entry.at) (length self.entry.words.now) }
+    {
+        self.ahead(2 + self.word(1) as usize)
     }
-}
 
-#[derive(Clone, Copy)]
-pub enum OptionalControl {
-    Absent,
-    Present(Control),
-}
-
-pub fn optional_control(words: &[u32], at: usize, offset: usize) -> OptionalControl
-    ensures { presence result ≡ optional_control_at words.now (at + offset) }
-{
-    let i = ahead(words, at, offset);
-    if field(words, i, 0) == 0 {
-        return OptionalControl::Absent;
+    fn block_ram_size(self) -> usize
+        ensures { result ≡ block_ram_size self.entry.words.now self.entry.at }
+    {
+        let width = self.word(2) as usize;
+        let first = 43 + width + width;
+        if self.word(42) == 0 {
+            first
+        } else {
+            first + (24 + width + width)
+        }
     }
-    OptionalControl::Present(control(words, i, 1))
-}
 
-#[derive(Clone, Copy)]
-pub enum OptionalReset {
-    Absent,
-    Present(Reset),
-}
-
-pub fn optional_reset(words: &[u32], at: usize, offset: usize) -> OptionalReset
-    ensures { reset_presence result ≡ optional_reset_at words.now (at + offset) }
-{
-    let i = ahead(words, at, offset);
-    if field(words, i, 0) == 0 {
-        return OptionalReset::Absent;
+    // How many words a cell has.
+    #[tactic(auto, unfolding(crate::specs::Fields::cell_size))]
+    pub fn cell_size(self) -> usize
+        ensures { result ≡ cell_size self.entry.words.now self.entry.at }
+    {
+        match self.kind() {
+            Kind::Lut4 => 7,
+            Kind::Pfumx | Kind::L6mux21 | Kind::Io => 5,
+            Kind::Ccu2c => 17,
+            Kind::Multiplier => 73,
+            Kind::FlipFlop => 13,
+            Kind::BlockRam => self.block_ram_size(),
+            Kind::DistributedRam => 22,
+            Kind::Jtagg => 10,
+            Kind::Pll => 6 + self.word(5) as usize,
+        }
     }
-    let s = bit_at(words, i, 1);
-    let a = field(words, i, 2);
-    let y = field(words, i, 3);
-    let v = field(words, i, 4);
-    OptionalReset::Present(Reset {
-        signal: s,
-        active: a,
-        asynchronous: y,
-        value: v,
-    })
-}
 
-// The index after a port, or the number of words if that is past them.
-pub fn port_end(words: &[u32], at: usize) -> usize
-    ensures { result ≡ min (port_end words.now at) (length words.now) }
-{
-    ahead(words, at, 2 + wide(field(words, at, 1)))
-}
-
-fn block_ram_size(words: &[u32], at: usize) -> usize
-    ensures { result ≡ block_ram_size words.now at }
-{
-    let width = wide(field(words, at, 2));
-    let first = 43 + width + width;
-    if field(words, at, 42) == 0 {
-        return first;
+    // The index after a cell, or the number of words if that is past them.
+    pub fn cell_end(self) -> usize
+        ensures { result ≡ min (cell_end self.entry.words.now self.entry.at) (length self.entry.words.now) }
+    {
+        self.ahead(self.cell_size())
     }
-    first + (24 + width + width)
-}
-
-// How many words a cell has.
-pub fn cell_size(words: &[u32], at: usize) -> usize
-    ensures { result ≡ cell_size words.now at }
-{
-    match field(words, at, 0) {
-        0 => 7,
-        1 => 5,
-        2 => 5,
-        3 => 17,
-        4 => 73,
-        5 => 13,
-        6 => block_ram_size(words, at),
-        7 => 22,
-        8 => 5,
-        9 => 10,
-        _ => 6 + wide(field(words, at, 5)),
-    }
-}
-
-// The index after a cell, or the number of words if that is past them.
-pub fn cell_end(words: &[u32], at: usize) -> usize
-    ensures { result ≡ min (cell_end words.now at) (length words.now) }
-{
-    ahead(words, at, cell_size(words, at))
 }

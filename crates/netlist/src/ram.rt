@@ -1,27 +1,18 @@
 // A block RAM's shape.
 ghost use Rattle.std.specs.Prelude.{◌≡◌, ◌+◌};
 ghost use Rattle.netlist.specs.Reader.{address_width, shift_of, shift_fits};
-ghost use Rattle.netlist.specs.FieldForms.{shift_given};
 
-use super::fields::wide;
-
-#[derive(Clone, Copy)]
-pub enum Shift {
-    NotAllowed,
-    By(u32),
-}
-
-// The address shift of a physical width.
-pub fn address_shift(physical: u32) -> Shift
-    ensures { shift_given result ≡ shift_of physical }
+// The address shift of a physical width; any other width is not allowed.
+pub fn address_shift(physical: u32) -> Option<u32>
+    ensures { result ≡ shift_of physical }
 {
     match physical {
-        1 => Shift::By(0),
-        2 => Shift::By(1),
-        4 => Shift::By(2),
-        9 => Shift::By(3),
-        18 => Shift::By(4),
-        _ => Shift::NotAllowed,
+        1 => Some(0),
+        2 => Some(1),
+        4 => Some(2),
+        9 => Some(3),
+        18 => Some(4),
+        _ => None,
     }
 }
 
@@ -29,22 +20,14 @@ pub fn address_shift(physical: u32) -> Shift
 pub fn address_width(depth: u32) -> u32
     ensures { result ≡ address_width depth }
 {
-    let n = wide(depth);
-    let mut width: u32 = 1;
-    let mut room: usize = 2;
-    while room < n {
-        width += 1;
-        room *= 2;
+    if depth <= 2 {
+        return 1;
     }
-    width
+    (depth - 1).ilog2() + 1
 }
 
 pub fn shift_fits(depth: u32, physical: u32) -> bool
     ensures { result ≡ shift_fits depth (shift_of physical) }
 {
-    let s = address_shift(physical);
-    let Shift::By(n) = s else {
-        return false;
-    };
-    wide(n) + wide(address_width(depth)) <= 14
+    address_shift(physical).is_some_and(|shift| shift + address_width(depth) <= 14)
 }

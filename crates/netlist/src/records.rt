@@ -1,11 +1,10 @@
-// The fields of a cell by kind, but for its vectors, which start at fixed offsets: fields.rt reads those.
-// `at` is the index of the kind; that the kind fits is the caller's to know.
-ghost use Rattle.std.specs.Prelude.{◌≡◌, ◌+◌, min, length};
-ghost use Rattle.netlist.specs.Fields.{word_at, first_size, pfumx_at, l6mux21_at, ccu2c_at, io_at};
+// The fields of a cell by kind, but for its vectors, which start at fixed offsets: `bits` reads those. That the kind fits is the caller's to know.
+ghost use Rattle.std.specs.Prelude.{◌≡◌, [], ◌∷◌, ◌+◌, min, length};
+ghost use Rattle.netlist.specs.Fields.{word_at, bits_at, first_size, pfumx_at, l6mux21_at, ccu2c_at, io_at};
 ghost use Rattle.netlist.specs.Records.{pfumx_of, l6mux21_of, ccu2c_with, io_of};
 
 use super::Bit;
-use super::fields::{ahead, bit_at, field, wide};
+use super::fields::Fields;
 
 #[derive(Clone, Copy)]
 pub struct Pfumx {
@@ -13,21 +12,6 @@ pub struct Pfumx {
     pub lut_false: Bit,
     pub select: Bit,
     pub output: u32,
-}
-
-pub fn pfumx_at(words: &[u32], at: usize) -> Pfumx
-    ensures { pfumx_of result ≡ pfumx_at words.now at }
-{
-    let lut_true = bit_at(words, at, 1);
-    let lut_false = bit_at(words, at, 2);
-    let select = bit_at(words, at, 3);
-    let output = field(words, at, 4);
-    Pfumx {
-        lut_true,
-        lut_false,
-        select,
-        output,
-    }
 }
 
 #[derive(Clone, Copy)]
@@ -38,22 +22,7 @@ pub struct L6mux21 {
     pub output: u32,
 }
 
-pub fn l6mux21_at(words: &[u32], at: usize) -> L6mux21
-    ensures { l6mux21_of result ≡ l6mux21_at words.now at }
-{
-    let data_zero = bit_at(words, at, 1);
-    let data_one = bit_at(words, at, 2);
-    let select = bit_at(words, at, 3);
-    let output = field(words, at, 4);
-    L6mux21 {
-        data_zero,
-        data_one,
-        select,
-        output,
-    }
-}
-
-// The two rows of inputs: fields::ccu2c_inputs.
+// The two rows of inputs: `ccu2c_inputs`.
 #[derive(Clone, Copy)]
 pub struct Ccu2c {
     pub carry_in: Bit,
@@ -66,37 +35,6 @@ pub struct Ccu2c {
     pub inject1: u32,
 }
 
-pub fn ccu2c_at(words: &[u32], at: usize) -> Ccu2c
-    ensures { ccu2c_with words.now at result ≡ ccu2c_at words.now at }
-{
-    let carry_in = bit_at(words, at, 9);
-    let sum0 = field(words, at, 10);
-    let sum1 = field(words, at, 11);
-    let carry = field(words, at, 12);
-    let init0 = field(words, at, 13);
-    let init1 = field(words, at, 14);
-    let inject0 = field(words, at, 15);
-    let inject1 = field(words, at, 16);
-    Ccu2c {
-        carry_in,
-        sum0,
-        sum1,
-        carry,
-        init0,
-        init1,
-        inject0,
-        inject1,
-    }
-}
-
-// Where the second port of the block RAM at an index begins, or the number of words if that is past them.
-pub fn second_start(words: &[u32], at: usize) -> usize
-    ensures { result ≡ min (at + first_size words.now (word_at words.now (at + 2))) (length words.now) }
-{
-    let width = wide(field(words, at, 2));
-    ahead(words, at, 43 + width + width)
-}
-
 #[derive(Clone, Copy)]
 pub struct Io {
     pub pad: u32,
@@ -105,17 +43,67 @@ pub struct Io {
     pub tristate: Bit,
 }
 
-pub fn io_at(words: &[u32], at: usize) -> Io
-    ensures { io_of result ≡ io_at words.now at }
-{
-    let pad = field(words, at, 1);
-    let fabric_output = bit_at(words, at, 2);
-    let fabric_input = field(words, at, 3);
-    let tristate = bit_at(words, at, 4);
-    Io {
-        pad,
-        fabric_output,
-        fabric_input,
-        tristate,
+impl<'a> Fields<'a> {
+    pub fn pfumx(self) -> Pfumx
+        ensures { pfumx_of result ≡ pfumx_at self.entry.words.now self.entry.at }
+    {
+        Pfumx {
+            lut_true: self.bit(1),
+            lut_false: self.bit(2),
+            select: self.bit(3),
+            output: self.word(4),
+        }
+    }
+
+    pub fn l6mux21(self) -> L6mux21
+        ensures { l6mux21_of result ≡ l6mux21_at self.entry.words.now self.entry.at }
+    {
+        L6mux21 {
+            data_zero: self.bit(1),
+            data_one: self.bit(2),
+            select: self.bit(3),
+            output: self.word(4),
+        }
+    }
+
+    pub fn ccu2c(self) -> Ccu2c
+        ensures { ccu2c_with self.entry.words.now self.entry.at result ≡ ccu2c_at self.entry.words.now self.entry.at }
+    {
+        Ccu2c {
+            carry_in: self.bit(9),
+            sum0: self.word(10),
+            sum1: self.word(11),
+            carry: self.word(12),
+            init0: self.word(13),
+            init1: self.word(14),
+            inject0: self.word(15),
+            inject1: self.word(16),
+        }
+    }
+
+    // The two rows of four inputs of a CCU2C.
+    pub fn ccu2c_inputs(self) -> [[Bit; 4]; 2]
+        ensures { result ≡ bits_at self.entry.words.now (self.entry.at + 1) 4 ∷ bits_at self.entry.words.now (self.entry.at + 5) 4 ∷ [] }
+    {
+        [self.bits(1), self.bits(5)]
+    }
+
+    // The second port of a block RAM.
+    pub fn second_port(self) -> Fields<'a>
+        ensures { result ≡ record self.entry { at = min (self.entry.at + first_size self.entry.words.now (word_at self.entry.words.now (self.entry.at + 2))) (length self.entry.words.now) } }
+    {
+        let width = self.word(2) as usize;
+        self.from(43 + width + width)
+    }
+
+    pub fn io(self) -> Io
+        ensures { io_of result ≡ io_at self.entry.words.now self.entry.at }
+    {
+        Io {
+            pad: self.word(1),
+            fabric_output: self.bit(2),
+            fabric_input: self.word(3),
+            tristate: self.bit(4),
+        }
     }
 }

@@ -1,3 +1,2 @@
 -- What the proofs of nodes share.
-pub mod Laws
-pub mod Copied
+mod Copied

@@ -9,15 +9,15 @@ use recorder::ExprId;
 pub fn simplify_xor(lhs: ExprId, rhs: ExprId) -> Rewrite
     ensures { result ≡ simplify_xor lhs rhs }
 {
-    if lhs.0 == rhs.0 {
+    if lhs == rhs {
         Rewrite::Value(ExprId::ZERO)
-    } else if lhs.0 == ExprId::ZERO.0 {
+    } else if lhs == ExprId::ZERO {
         Rewrite::Value(rhs)
-    } else if rhs.0 == ExprId::ZERO.0 {
+    } else if rhs == ExprId::ZERO {
         Rewrite::Value(lhs)
-    } else if lhs.0 == ExprId::ONE.0 {
+    } else if lhs == ExprId::ONE {
         Rewrite::Not(rhs)
-    } else if rhs.0 == ExprId::ONE.0 {
+    } else if rhs == ExprId::ONE {
         Rewrite::Not(lhs)
     } else {
         Rewrite::Xor(lhs, rhs)

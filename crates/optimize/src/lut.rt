@@ -1,10 +1,11 @@
 // Truth tables by cofactors, before expressions are recorded. (lut.rs of the Rust.)
 ghost use Rattle.std.specs.Prelude.{◌≡◌, ◌≤◌, ◌<◌, ◌-◌, ◌/◌, drop};
-ghost use Rattle.recorder.specs.Lists.{WroteExprs, emitted};
+ghost use Rattle.recorder.specs.Calls.{Writes, emitted};
 ghost use Rattle.optimize.specs.Lut.{evens, full_table, numbers, lut_cofactor};
 
 use crate::optimizer::{mux, xor};
-use recorder::{Emitted, ExprId, Tapes};
+use recorder::{ExprId, Recorder};
+use refusal::Refusal;
 
 // Each byte's even bits drawn together.
 const EVEN_BITS: [u8; 256] = [
@@ -35,18 +36,10 @@ fn even_half(table: u16) -> u16
 }
 
 // The tables that are left when the first input is 0 and when it is 1.
-#[derive(Clone, Copy)]
-pub struct Halves {
-    pub low: u16,
-    pub high: u16,
-}
-
-fn cofactors(table: u16) -> Halves
-    ensures { (result.low ≡ evens 8 table) × (result.high ≡ evens 8 (table / 2)) }
+fn cofactors(table: u16) -> (u16, u16)
+    ensures { (result.0 ≡ evens 8 table) × (result.1 ≡ evens 8 (table / 2)) }
 {
-    let low = even_half(table);
-    let high = even_half(table / 2);
-    Halves { low, high }
+    (even_half(table), even_half(table / 2))
 }
 
 // The table of so many inputs that is 1 everywhere.
@@ -65,57 +58,48 @@ fn full_table(inputs: usize) -> u16
 
 // A table over the inputs that are left, which are the last ones: by cofactors on the first of them.
 fn lut_cofactor(
-    exprs: &mut [u32],
-    t: Tapes,
+    recorder: &mut Recorder,
     inputs: [ExprId; 4],
     left: usize,
     table: u16,
-) -> Emitted
+) -> Result<ExprId, Refusal>
     requires { left ≤ 4 }
-    ensures { WroteExprs exprs.old t (lut_cofactor (numbers (drop (4 - left) inputs)) table) (emitted result) exprs.new }
+    ensures { Writes recorder.old (lut_cofactor (numbers (drop (4 - left) inputs)) table) (emitted result) recorder.new }
 {
     if table == 0 {
-        return Emitted::Done(ExprId::ZERO, t);
+        return Ok(ExprId::ZERO);
     }
     if left == 0 {
-        return Emitted::Done(ExprId::ONE, t);
+        return Ok(ExprId::ONE);
     }
     if table == full_table(left) {
-        return Emitted::Done(ExprId::ONE, t);
+        return Ok(ExprId::ONE);
     }
     let select = inputs[4 - left];
     let remaining = left - 1;
-    let halves = cofactors(table);
-    let low = halves.low;
-    let high = halves.high;
-    if select.0 == ExprId::ZERO.0 {
-        return lut_cofactor(exprs, t, inputs, remaining, low);
+    let (low, high) = cofactors(table);
+    if select == ExprId::ZERO {
+        return lut_cofactor(recorder, inputs, remaining, low);
     }
-    if select.0 == ExprId::ONE.0 {
-        return lut_cofactor(exprs, t, inputs, remaining, high);
+    if select == ExprId::ONE {
+        return lut_cofactor(recorder, inputs, remaining, high);
     }
     // Equal cofactors do not depend on this input. Complementary ones
     // toggle exactly when the input does, including parity LUTs.
-    let r = lut_cofactor(exprs, t, inputs, remaining, low);
-    let Emitted::Done(low_expr, after_low) = r else {
-        return r;
-    };
+    let low_expr = lut_cofactor(recorder, inputs, remaining, low)?;
     if low == high {
-        return Emitted::Done(low_expr, after_low);
+        return Ok(low_expr);
     }
     if low ^ high == full_table(remaining) {
-        return xor(exprs, after_low, select, low_expr);
+        return xor(recorder, select, low_expr);
     }
-    let r2 = lut_cofactor(exprs, after_low, inputs, remaining, high);
-    let Emitted::Done(high_expr, after_high) = r2 else {
-        return r2;
-    };
-    mux(exprs, after_high, select, high_expr, low_expr)
+    let high_expr = lut_cofactor(recorder, inputs, remaining, high)?;
+    mux(recorder, select, high_expr, low_expr)
 }
 
 // A truth table of four inputs, the first the lowest.
-pub fn lut(exprs: &mut [u32], t: Tapes, inputs: [ExprId; 4], table: u16) -> Emitted
-    ensures { WroteExprs exprs.old t (lut_cofactor (numbers inputs) table) (emitted result) exprs.new }
+pub fn lut(recorder: &mut Recorder, inputs: [ExprId; 4], table: u16) -> Result<ExprId, Refusal>
+    ensures { Writes recorder.old (lut_cofactor (numbers inputs) table) (emitted result) recorder.new }
 {
-    lut_cofactor(exprs, t, inputs, 4, table)
+    lut_cofactor(recorder, inputs, 4, table)
 }

@@ -3,14 +3,15 @@
 // Cell conversion describes the hardware operation; this layer selects a reduced expression and records it. It goes by
 // expression numbers, the two constants and truth tables alone: it looks into no expression, and must not be used for
 // muxes of words.
-ghost use Rattle.recorder.specs.Lists.{WroteExprs, emitted};
+ghost use Rattle.recorder.specs.Calls.{Writes, emitted};
 ghost use Rattle.optimize.specs.Rewrite.{emit_rewrite, xor_of, mux_of};
 
 use crate::{bitwise, mux};
-use recorder::{Emitted, ExprId, Tapes, builder};
+use recorder::{ExprId, Recorder};
+use refusal::Refusal;
 
 // The result of a local rewrite, before anything is recorded.
-#[derive(Clone, Copy)]
+#[derive(Clone, Copy, Debug, PartialEq, Eq)]
 pub enum Rewrite {
     Value(ExprId),
     Not(ExprId),
@@ -24,51 +25,42 @@ pub enum Rewrite {
 
 // A multiplexer of one bit, reduced.
 pub fn mux(
-    exprs: &mut [u32],
-    t: Tapes,
+    recorder: &mut Recorder,
     select: ExprId,
     when_true: ExprId,
     when_false: ExprId,
-) -> Emitted
-    ensures { WroteExprs exprs.old t (mux_of select.0 when_true.0 when_false.0) (emitted result) exprs.new }
+) -> Result<ExprId, Refusal>
+    ensures { Writes recorder.old (mux_of select.0 when_true.0 when_false.0) (emitted result) recorder.new }
 {
-    let rewrite = mux::simplify(select, when_true, when_false);
-    emit(exprs, t, rewrite)
+    emit(recorder, mux::simplify(select, when_true, when_false))
 }
 
 // An exclusive or of two bits, reduced.
-pub fn xor(exprs: &mut [u32], t: Tapes, lhs: ExprId, rhs: ExprId) -> Emitted
-    ensures { WroteExprs exprs.old t (xor_of lhs.0 rhs.0) (emitted result) exprs.new }
+pub fn xor(recorder: &mut Recorder, lhs: ExprId, rhs: ExprId) -> Result<ExprId, Refusal>
+    ensures { Writes recorder.old (xor_of lhs.0 rhs.0) (emitted result) recorder.new }
 {
-    let rewrite = bitwise::simplify_xor(lhs, rhs);
-    emit(exprs, t, rewrite)
+    emit(recorder, bitwise::simplify_xor(lhs, rhs))
 }
 
-fn emit(exprs: &mut [u32], t: Tapes, rewrite: Rewrite) -> Emitted
-    ensures { WroteExprs exprs.old t (emit_rewrite rewrite) (emitted result) exprs.new }
+fn emit(recorder: &mut Recorder, rewrite: Rewrite) -> Result<ExprId, Refusal>
+    ensures { Writes recorder.old (emit_rewrite rewrite) (emitted result) recorder.new }
 {
     match rewrite {
-        Rewrite::Value(value) => Emitted::Done(value, t),
-        Rewrite::Not(value) => builder::not(exprs, t, value),
-        Rewrite::And(lhs, rhs) => builder::and(exprs, t, lhs, rhs),
-        Rewrite::Or(lhs, rhs) => builder::or(exprs, t, lhs, rhs),
-        Rewrite::Xor(lhs, rhs) => builder::xor(exprs, t, lhs, rhs),
+        Rewrite::Value(value) => Ok(value),
+        Rewrite::Not(value) => recorder.not(value),
+        Rewrite::And(lhs, rhs) => recorder.and(lhs, rhs),
+        Rewrite::Or(lhs, rhs) => recorder.or(lhs, rhs),
+        Rewrite::Xor(lhs, rhs) => recorder.xor(lhs, rhs),
         Rewrite::AndNot(lhs, rhs) => {
-            let r = builder::not(exprs, t, lhs);
-            let Emitted::Done(inverted, after) = r else {
-                return r;
-            };
-            builder::and(exprs, after, inverted, rhs)
+            let inverted = recorder.not(lhs)?;
+            recorder.and(inverted, rhs)
         }
         Rewrite::OrNot(lhs, rhs) => {
-            let r = builder::not(exprs, t, lhs);
-            let Emitted::Done(inverted, after) = r else {
-                return r;
-            };
-            builder::or(exprs, after, inverted, rhs)
+            let inverted = recorder.not(lhs)?;
+            recorder.or(inverted, rhs)
         }
         Rewrite::Mux(select, when_true, when_false) => {
-            builder::mux(exprs, t, 1, select, when_true, when_false)
+            recorder.mux(1, select, when_true, when_false)
         }
     }
 }

@@ -1,4 +1,3 @@
 -- The laws of reader.
-pub mod WalkLaws
-pub mod CellLaws
+pub mod PassedLaws
 pub mod SectionLaws

@@ -1,3 +1,3 @@
 -- The specs of reader.
-pub mod Walk
+pub mod Passed
 pub mod Checks

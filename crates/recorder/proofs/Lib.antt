@@ -1,4 +1,5 @@
 -- The laws of recorder that other crates cite.
+pub mod Calls
 pub mod Events
 pub mod Makes
 pub mod Outcomes

@@ -1,24 +1,28 @@
 -- Laws of one record: copying its words, and what a list with or without room for it answers.
 use mathlib.Core.Path.{◌≡◌, refl, ap, ap₂, sym, ◌∙◌, subst}
 use mathlib.Core.Bool.{Bool, true, false, ◌&&◌}
-use mathlib.Core.List.{List, [], ◌∷◌, ◌++◌, append-nil}
+use mathlib.Core.List.{List, [], ◌∷◌, ◌++◌, append-nil, append_assoc}
 use Prim.Native.Nat.{ℕ, suc, ◌+◌, ◌≤◌, ◌<◌, min}
 use native.Mathlib.Nat.{add-zero, add-suc, suc-add}
 use native.Mathlib.Numerals.{add-one}
 use native.Mathlib.Omega.{arith}
 use lib.Dec.{leb}
-use lib.ListN.{length, get_or, drop, set, length-append, drop_of_length-le}
-use lib.Seq.{sets, drop-cons}
+use lib.ListN.{length, take, drop, set, length-append}
+use lib.Seq.{sets, sets-eq, drop-drop}
+use borrow.Rule.Slice.PartMut.{put_mid}
 use borrow.Author.Tests.{le-leb, lt-leb}
 use Rattle.recorder.specs.declared.Tape.{Tape}
 use Rattle.recorder.specs.declared.Tapes.{Tapes}
-use Rattle.recorder.specs.declared.Put.{Put}
-use Rattle.recorder.specs.declared.Put.TheVariants.{At, Full}
+use Rattle.recorder.specs.declared.RecordList.{RecordList}
+use Rattle.recorder.specs.declared.Recorder.{Recorder}
 use Rattle.recorder.specs.declared.AsyncReset.{AsyncReset}
 use Rattle.recorder.specs.declared.Enable.{Enable}
+use Rattle.std.specs.Prelude.{Option, Some, None}
 use Rattle.recorder.specs.Record.{Stmt.reg, sized, signal_words, expr_words, stmt_words}
-use Rattle.recorder.specs.Lists.{fits, over, behind, Recorded, PushedSignal, PushedExpr, PushedStmt, reset_of, enable_of}
-use Rattle.recorder.proofs.Wrote.{signal_answer, expr_answer, stmt_answer, wrote_signal, wrote_expr, wrote_stmt}
+use Rattle.bits.specs.Bits.{pick}
+use Rattle.recorder.specs.Writer.{Event, Event.signal, Event.expr, Event.stmt, declare, emit, state, Count, End, End.ok, End.no, Writer}
+use Rattle.recorder.specs.Lists.{fits, over, behind, put_in, Puts, Lists, lists, tapes, list_of, has_room, laid, advanced, count_of, play, reached, writing}
+use Rattle.recorder.specs.Calls.{lists_in, tapes_in, SameLists, Writes, PushedSignal, PushedExpr, PushedStmt, reset_of, enable_of}
 
 -- WORDS OVER A LIST
 
@@ -27,17 +31,10 @@ unfolding over
 over_over [] ws l i = ap (λ (k : ℕ). over l k ws) (add-zero i)
 over_over (v ∷ vs) ws l i = ap (λ (k : ℕ). sets (sets (set l i v) (suc i) vs) k ws) (add-suc i (length vs) ∙ sym (suc-add i (length vs))) ∙ over_over vs ws (set l i v) (suc i)
 
--- a loop that copies: what is left to lay over the list
-pub copy_start : (l : List ℕ) (at : ℕ) (ws : List ℕ) → over l (at + 0) (drop 0 ws) ≡ over l at ws
-copy_start l at ws = ap (λ (k : ℕ). over l k ws) (add-zero at)
-
-pub copy_step : (l : List ℕ) (at : ℕ) (ws : List ℕ) (i : ℕ) → i < length ws → over (set l (at + i) (get_or ws i 0)) (at + (i + 1)) (drop (i + 1) ws) ≡ over l (at + i) (drop i ws)
+-- a part of a list that is written anew
+pub pasted : (l ws new : List ℕ) (at k : ℕ) → at + length ws ≤ length l → k ≡ length ws → new ≡ ws → put_mid at k l new ≡ over l at ws
 unfolding over
-copy_step l at ws i h = rw (add-one i, add-suc at i) (ap (λ (r : List ℕ). sets l (at + i) r) (sym (drop-cons ws i 0 h)))
-
-pub copy_end : (l : List ℕ) (at : ℕ) (ws : List ℕ) (i : ℕ) → length ws ≤ i → over l (at + i) (drop i ws) ≡ l
-unfolding over
-copy_end l at ws i h = ap (λ (r : List ℕ). sets l (at + i) r) (drop_of_length-le ws h)
+pasted l ws new at k h q p = ap₂ (λ (x y : List ℕ). take at l ++ (x ++ y)) p (drop-drop k at l ∙ ap (λ (m : ℕ). drop (at + m) l) q) ∙ sym (append_assoc (take at l) ws (drop (at + length ws) l)) ∙ sym (sets-eq ws l at h)
 
 -- length word, fields, more fields
 pub over_record : (l : List ℕ) (i : ℕ) (fields more : List ℕ) {l₁ l₂ : List ℕ} → l₁ ≡ over (set l i (1 + length fields + length more)) (i + 1) fields → l₂ ≡ over l₁ (i + 1 + length fields) more
@@ -51,51 +48,111 @@ over_record l i fields more {l₁} p q =
 
 -- ROOM
 
-module _ {l : List ℕ} {t : Tape} {ws : List ℕ} where
-  no_room : fits (length l) t (length ws) ≡ false → Recorded l t ws Full l
-  no_room q = record { said = sym (rw q); held = sym (rw q) }
+module _ {l : RecordList} {ws : List ℕ} where
+  no_room : fits (length l.words.now) l.tape (length ws) ≡ false → Puts l ws None l
+  no_room q = record { kept = refl; said = sym (rw q); held = sym (rw q); tape = sym (rw q) }
 
   -- more records than words: none of ours
-  pub recorded_odd : t.used < t.count → Recorded l t ws Full l
+  pub puts_odd : l.tape.used < l.tape.count → Puts l ws None l
   unfolding fits
-  recorded_odd h = no_room (rw (lt-leb t.count t.used h))
+  puts_odd h = no_room (rw (lt-leb l.tape.count l.tape.used h))
 
-  pub recorded_full : min (length l) 2147483648 < t.used + length ws → Recorded l t ws Full l
+  pub puts_full : min (length l.words.now) 2147483648 < l.tape.used + length ws → Puts l ws None l
   unfolding fits
-  recorded_full h = no_room (go (leb t.count t.used))
+  puts_full h = no_room (go (leb l.tape.count l.tape.used))
     where
-      go : (b : Bool) → (b && leb (t.used + length ws) (min (length l) 2147483648)) ≡ false
-      go true = lt-leb (t.used + length ws) (min (length l) 2147483648) h
+      go : (b : Bool) → (b && leb (l.tape.used + length ws) (min (length l.words.now) 2147483648)) ≡ false
+      go true = lt-leb (l.tape.used + length ws) (min (length l.words.now) 2147483648) h
       go false = refl
 
-  pub recorded_at : {l' : List ℕ} {n : ℕ} → t.count ≤ t.used → t.used + length ws ≤ min (length l) 2147483648 → n ≡ length ws → l' ≡ over l t.used ws → Recorded l t ws (At t.count (behind t n)) l'
+  pub puts_at : {l' : RecordList} → l.tape.count ≤ l.tape.used → l.tape.used + length ws ≤ min (length l.words.now) 2147483648
+      → l'.words.ghost_name ≡ l.words.ghost_name → l'.words.now ≡ over l.words.now l.tape.used ws → l'.tape ≡ behind l.tape (length ws) → Puts l ws (Some l.tape.count) l'
   unfolding fits
-  recorded_at h g e p =
-      let q : (leb t.count t.used && leb (t.used + length ws) (min (length l) 2147483648)) ≡ true = rw (le-leb t.count t.used h, le-leb (t.used + length ws) (min (length l) 2147483648) g) in
-      record { said = sym (rw q (ap (λ (m : ℕ). At t.count (behind t m)) (sym e))); held = p ∙ sym (rw q) }
+  puts_at h g k p t =
+      let q : (leb l.tape.count l.tape.used && leb (l.tape.used + length ws) (min (length l.words.now) 2147483648)) ≡ true = rw (le-leb l.tape.count l.tape.used h, le-leb (l.tape.used + length ws) (min (length l.words.now) 2147483648) g) in
+      record { kept = k; said = sym (rw q); held = p ∙ sym (rw q); tape = t ∙ sym (rw q) }
 
--- THE ANSWER to some record's words
+-- ONE RECORD, whichever list it goes to
 
-module _ {old : List ℕ} {t : Tapes} {ws : List ℕ} {r : Put} {new : List ℕ} where
-  pub pushed_signal : Recorded old t.signals ws r new → {q : Put} → r ≡ q → PushedSignal ws old t (signal_answer t q) new
-  pushed_signal h d x e = wrote_signal (subst (λ (q : Put). Recorded old t.signals (signal_words x) q new) d (subst (λ (w : List ℕ). Recorded old t.signals w r new) (sym e) h))
+module _ {A : Type 0} (r r' : Recorder) (e : Event) (number : Count → A) (same : SameLists r r') where
+  abbrev room : Bool
+  room = has_room (lists_in r) (tapes_in r) e
 
-  pub pushed_expr : Recorded old t.exprs ws r new → {q : Put} → r ≡ q → PushedExpr ws old t (expr_answer t q) new
-  pushed_expr h d x e = wrote_expr (subst (λ (q : Put). Recorded old t.exprs (expr_words x) q new) d (subst (λ (w : List ℕ). Recorded old t.exprs w r new) (sym e) h))
+  -- the record is one more expression, or none
+  one_grows : (x : Event) → (tapes_in r).exprs.count ≤ (advanced (tapes_in r) x).exprs.count
+  one_grows (signal s) = omega arith
+  one_grows (expr x) = omega arith
+  one_grows (stmt x) = omega arith
 
-  pub pushed_stmt : Recorded old t.stmts ws r new → {q : Put} → r ≡ q → PushedStmt ws old t (stmt_answer t q) new
-  pushed_stmt h d x e = wrote_stmt (subst (λ (q : Put). Recorded old t.stmts (stmt_words x) q new) d (subst (λ (w : List ℕ). Recorded old t.stmts w r new) (sym e) h))
+  grown : (b : Bool) → tapes_in r' ≡ pick b (advanced (tapes_in r) e) (tapes_in r) → r.exprs.tape.count ≤ r'.exprs.tape.count
+  grown true t = let k : r'.exprs.tape.count ≡ (advanced (tapes_in r) e).exprs.count = ap (λ (u : Tapes). u.exprs.count) t in omega (arith, k, one_grows e)
+  grown false t = let k : r'.exprs.tape.count ≡ r.exprs.tape.count = ap (λ (u : Tapes). u.exprs.count) t in omega (arith, k)
+
+  writes_one : (b : Bool) → room ≡ b → lists_in r' ≡ pick b (laid (lists_in r) (tapes_in r) e) (lists_in r) → tapes_in r' ≡ pick b (advanced (tapes_in r) e) (tapes_in r)
+      → Writes r (λ n. record { events = e ∷ []; end = ok (number n) }) (pick b (ok (number (count_of (tapes_in r)))) (no 2 (list_of e))) r'
+  unfolding play reached
+  writes_one true q h t = record { same = same; wrote = record { wrote = rw (q, h, t) }; stands = t ∙ sym (rw q); grows = grown true t }
+  writes_one false q h t = record { same = same; wrote = record { wrote = rw (q, h) }; stands = t ∙ sym (rw q); grows = grown false t }
+
+-- the number of a record that was put, or that list i is full
+abbrev pub full_or : ℕ → Option ℕ → End ℕ
+full_or i (Some n) = ok n
+full_or i None = no 2 i
+
+abbrev pub full_stmt : Option ℕ → End (Unit {0})
+full_stmt (Some n) = ok tt
+full_stmt None = no 2 2
+
+full_pick : (i n : ℕ) (b : Bool) → full_or i (pick b (Some n) None) ≡ pick b (ok n) (no 2 i)
+full_pick i n true = refl
+full_pick i n false = refl
+
+-- a choice of one field is a choice of the whole
+chosen : {A B : Type 0} (f : A → B) (b : Bool) (x y : A) → f (pick b x y) ≡ pick b (f x) (f y)
+chosen f true x y = refl
+chosen f false x y = refl
+
+module _ {r : Recorder} {ws : List ℕ} {o : Option ℕ} {l' : RecordList} where
+  pub pushed_signal : Puts r.signals ws o l' → PushedSignal ws r (full_or 0 o) (record { signals = l'; exprs = r.exprs; stmts = r.stmts })
+  pushed_signal h x e =
+      let p = subst (λ (w : List ℕ). Puts r.signals w o l') (sym e) h in
+      let r' : Recorder = record { signals = l'; exprs = r.exprs; stmts = r.stmts } in
+      let b = fits (length r.signals.words.now) r.signals.tape (length (signal_words x)) in
+      subst (λ (y : End ℕ). Writes r (declare x) y r') (sym (ap (full_or 0) p.said ∙ full_pick 0 _ b))
+      (writes_one r r' (signal x) (λ n. n.signals) (record { signals = p.kept; exprs = refl; stmts = refl }) b refl
+      (ap (λ (w : List ℕ). lists w r.exprs.words.now r.stmts.words.now) p.held ∙ chosen (λ (w : List ℕ). lists w r.exprs.words.now r.stmts.words.now) b _ _)
+      (ap (λ (u : Tape). tapes u r.exprs.tape r.stmts.tape) p.tape ∙ chosen (λ (u : Tape). tapes u r.exprs.tape r.stmts.tape) b _ _))
+
+  pub pushed_expr : Puts r.exprs ws o l' → PushedExpr ws r (full_or 1 o) (record { signals = r.signals; exprs = l'; stmts = r.stmts })
+  pushed_expr h x e =
+      let p = subst (λ (w : List ℕ). Puts r.exprs w o l') (sym e) h in
+      let r' : Recorder = record { signals = r.signals; exprs = l'; stmts = r.stmts } in
+      let b = fits (length r.exprs.words.now) r.exprs.tape (length (expr_words x)) in
+      subst (λ (y : End ℕ). Writes r (emit x) y r') (sym (ap (full_or 1) p.said ∙ full_pick 1 _ b))
+      (writes_one r r' (expr x) (λ n. n.exprs) (record { signals = refl; exprs = p.kept; stmts = refl }) b refl
+      (ap (λ (w : List ℕ). lists r.signals.words.now w r.stmts.words.now) p.held ∙ chosen (λ (w : List ℕ). lists r.signals.words.now w r.stmts.words.now) b _ _)
+      (ap (λ (u : Tape). tapes r.signals.tape u r.stmts.tape) p.tape ∙ chosen (λ (u : Tape). tapes r.signals.tape u r.stmts.tape) b _ _))
+
+  pub pushed_stmt : Puts r.stmts ws o l' → PushedStmt ws r (full_stmt o) (record { signals = r.signals; exprs = r.exprs; stmts = l' })
+  pushed_stmt h x e =
+      let p = subst (λ (w : List ℕ). Puts r.stmts w o l') (sym e) h in
+      let r' : Recorder = record { signals = r.signals; exprs = r.exprs; stmts = l' } in
+      let b = fits (length r.stmts.words.now) r.stmts.tape (length (stmt_words x)) in
+      subst (λ (y : End (Unit {0})). Writes r (state x) y r') (sym (ap full_stmt p.said ∙ chosen full_stmt b _ _))
+      (writes_one r r' (stmt x) (λ n. tt) (record { signals = refl; exprs = refl; stmts = p.kept }) b refl
+      (ap (λ (w : List ℕ). lists r.signals.words.now r.exprs.words.now w) p.held ∙ chosen (λ (w : List ℕ). lists r.signals.words.now r.exprs.words.now w) b _ _)
+      (ap (λ (u : Tape). tapes r.signals.tape r.exprs.tape u) p.tape ∙ chosen (λ (u : Tape). tapes r.signals.tape r.exprs.tape u) b _ _))
 
 -- no more fields
 pub sized_nil : (ws : List ℕ) → sized (ws ++ []) ≡ sized ws
 sized_nil ws = ap sized (append-nil ws)
 
-pub recorded_nil : {l : List ℕ} {t : Tape} (ws : List ℕ) {r : Put} {l' : List ℕ} → Recorded l t (sized (ws ++ [])) r l' → Recorded l t (sized ws) r l'
-recorded_nil {l} {t} ws {r} {l'} h = subst (λ (x : List ℕ). Recorded l t x r l') (sized_nil ws) h
+pub puts_nil : {l : RecordList} (ws : List ℕ) {o : Option ℕ} {l' : RecordList} → Puts l (sized (ws ++ [])) o l' → Puts l (sized ws) o l'
+puts_nil {l} ws {o} {l'} h = subst (λ (x : List ℕ). Puts l x o l') (sized_nil ws) h
 
 pub sized_length : (fields more : List ℕ) → length (sized (fields ++ more)) ≡ 1 + length fields + length more
 sized_length fields more = omega (arith, length-append fields more)
 
 -- a register's words by what its controls are
-pub reg_words : (t n k d : ℕ) {a a' : AsyncReset} {e e' : Enable} → a ≡ a' → e ≡ e' → stmt_words (reg t n k d (reset_of a) (enable_of e)) ≡ stmt_words (reg t n k d (reset_of a') (enable_of e'))
-reg_words t n k d p q = ap₂ (λ (a : AsyncReset) (e : Enable). stmt_words (reg t n k d (reset_of a) (enable_of e))) p q
+pub reg_words : (t n k d : ℕ) {a a' : Option AsyncReset} {e e' : Option Enable} → a ≡ a' → e ≡ e' → stmt_words (reg t n k d (reset_of a) (enable_of e)) ≡ stmt_words (reg t n k d (reset_of a') (enable_of e'))
+reg_words t n k d p q = ap₂ (λ (a : Option AsyncReset) (e : Option Enable). stmt_words (reg t n k d (reset_of a) (enable_of e))) p q

@@ -8,11 +8,9 @@ use native.Mathlib.Omega.{arith}
 use lib.ListN.{length}
 use Rattle.bits.specs.Bits.{pick}
 use Rattle.recorder.specs.declared.Tapes.{Tapes}
-use Rattle.recorder.specs.declared.Put.{Put}
-use Rattle.recorder.specs.declared.Put.TheVariants.{At, Full}
 use Rattle.recorder.specs.Record.{Signal, Expr, Stmt, signal_words, expr_words, stmt_words}
 use Rattle.recorder.specs.Writer.{Event, Event.signal, Event.expr, Event.stmt, signals_of, exprs_of, stmts_of, Count, further, End, End.ok, End.no, Writer, pure, refuse, declare, emit, state, after, ◌>>=◌}
-use Rattle.recorder.specs.Lists.{fits, put_of, put_in, Recorded, Lists, lists, tapes, count_of, Played, Played.going, Played.full, list_of, has_room, laid, advanced, put, onward, play, Answer, Answer.Done, Answer.Failed, Left, finish, writing, Wrote, WroteSignals, WroteExprs, WroteStmts}
+use Rattle.recorder.specs.Lists.{Lists, lists, tapes, count_of, Played, Played.going, Played.full, list_of, has_room, laid, advanced, put, onward, play, Answer, Answer.Done, Answer.Failed, Left, finish, writing, Wrote}
 
 one_more : (a b : ℕ) → a + 1 + b ≡ a + suc b
 one_more a b = omega arith
@@ -108,48 +106,6 @@ wrote_pure = record { wrote = refl }
 pub wrote_refuse : {A : Type 0} {l : Lists} {t : Tapes} {number place : ℕ} → Wrote {A = A} l t (refuse number place) (Failed number place) l
 unfolding play
 wrote_refuse = record { wrote = refl }
-
--- ONE RECORD: what its list's tape answers is the answer
-
-abbrev pub signal_answer : Tapes → Put → Answer ℕ
-signal_answer t (At n u) = Done n (tapes u t.exprs t.stmts)
-signal_answer t Full = Failed 2 0
-
-abbrev pub expr_answer : Tapes → Put → Answer ℕ
-expr_answer t (At n u) = Done n (tapes t.signals u t.stmts)
-expr_answer t Full = Failed 2 1
-
-abbrev pub stmt_answer : Tapes → Put → Answer (Unit {0})
-stmt_answer t (At n u) = Done tt (tapes t.signals t.exprs u)
-stmt_answer t Full = Failed 2 2
-
-module _ {t : Tapes} {r : Put} {old new : List ℕ} where
-  pub wrote_signal : {s : Signal} → Recorded old t.signals (signal_words s) r new → WroteSignals old t (declare s) (signal_answer t r) new
-  unfolding play
-  wrote_signal {s} h e m = record { wrote = go _ refl ∙ (λ i. record { answer = signal_answer t (sym h.said i); lists = lists (sym h.held i) e m }) }
-    where
-      go : (b : Bool) → fits (length old) t.signals (length (signal_words s)) ≡ b
-          → writing (lists old e m) t (declare s) ≡ record { answer = signal_answer t (put_of (length old) t.signals (length (signal_words s))); lists = lists (put_in old t.signals (signal_words s)) e m }
-      go true q = rw q
-      go false q = rw q
-
-  pub wrote_expr : {x : Expr} → Recorded old t.exprs (expr_words x) r new → WroteExprs old t (emit x) (expr_answer t r) new
-  unfolding play
-  wrote_expr {x} h s m = record { wrote = go _ refl ∙ (λ i. record { answer = expr_answer t (sym h.said i); lists = lists s (sym h.held i) m }) }
-    where
-      go : (b : Bool) → fits (length old) t.exprs (length (expr_words x)) ≡ b
-          → writing (lists s old m) t (emit x) ≡ record { answer = expr_answer t (put_of (length old) t.exprs (length (expr_words x))); lists = lists s (put_in old t.exprs (expr_words x)) m }
-      go true q = rw q
-      go false q = rw q
-
-  pub wrote_stmt : {x : Stmt} → Recorded old t.stmts (stmt_words x) r new → WroteStmts old t (state x) (stmt_answer t r) new
-  unfolding play
-  wrote_stmt {x} h s e = record { wrote = go _ refl ∙ (λ i. record { answer = stmt_answer t (sym h.said i); lists = lists s e (sym h.held i) }) }
-    where
-      go : (b : Bool) → fits (length old) t.stmts (length (stmt_words x)) ≡ b
-          → writing (lists s e old) t (state x) ≡ record { answer = stmt_answer t (put_of (length old) t.stmts (length (stmt_words x))); lists = lists s e (put_in old t.stmts (stmt_words x)) }
-      go true q = rw q
-      go false q = rw q
 
 -- LOOPS: whoever writes what is left has written the whole
 

@@ -2,6 +2,7 @@
 pub mod Record
 pub mod Writer
 pub mod Lists
+pub mod Calls
 pub mod Evaluate
 pub mod Meaning
 pub mod Read

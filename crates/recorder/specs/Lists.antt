@@ -3,22 +3,10 @@ use Rattle.std.specs.Prelude.{Bool, ◌&&◌, List, [], ◌∷◌, ◌≡◌, �
 use Rattle.std.specs.Prelude.{Option, None, Some}
 use Rattle.std.proofs.lemmas.List.Edits.{sets}
 use Rattle.bits.specs.Bits.{pick}
-use Rattle.refusal.specs.Refusal.{number_of, place_of}
 use Rattle.recorder.specs.declared.Tape.{Tape}
 use Rattle.recorder.specs.declared.Tapes.{Tapes}
-use Rattle.recorder.specs.declared.Put.{Put}
-use Rattle.recorder.specs.declared.Put.TheVariants.{At, Full}
-use Rattle.recorder.specs.declared.Emitted.{Emitted}
-use Rattle.recorder.specs.declared.Emitted.TheVariants as E
-use Rattle.recorder.specs.declared.Declared.{Declared}
-use Rattle.recorder.specs.declared.Declared.TheVariants as D
-use Rattle.recorder.specs.declared.Stated.{Stated}
-use Rattle.recorder.specs.declared.Stated.TheVariants as S
-use Rattle.recorder.specs.declared.AsyncReset.{AsyncReset}
-use Rattle.recorder.specs.declared.AsyncReset.TheVariants as R
-use Rattle.recorder.specs.declared.Enable.{Enable}
-use Rattle.recorder.specs.declared.Enable.TheVariants as N
-use Rattle.recorder.specs.Record.{Signal, Expr, Stmt, RegReset, RegEnable, signal_words, expr_words, stmt_words}
+use Rattle.recorder.specs.declared.RecordList.{RecordList}
+use Rattle.recorder.specs.Record.{Signal, Expr, Stmt, signal_words, expr_words, stmt_words}
 use Rattle.recorder.specs.Writer.{Event, Event.signal, Event.expr, Event.stmt, Count, End, End.ok, End.no, Writer, declare, emit, state}
 
 -- ONE LIST
@@ -35,17 +23,15 @@ over l i ws = sets l i ws
 abbrev pub behind : Tape → ℕ → Tape
 behind t n = record { used = t.used + n; count = t.count + 1 }
 
--- the answer to one record of n words
-abbrev pub put_of : ℕ → Tape → ℕ → Put
-put_of len t n = pick (fits len t n) (At t.count (behind t n)) Full
-
 abbrev pub put_in : List ℕ → Tape → List ℕ → List ℕ
 put_in l t ws = pick (fits (length l) t (length ws)) (over l t.used ws) l
 
--- a record of these words was to go behind the tape: the answer, and the list as it is left
-pub record Recorded (l : List ℕ) (t : Tape) (ws : List ℕ) (r : Put) (l' : List ℕ) : Type 0 where
-  pub said : r ≡ put_of (length l) t (length ws)
-  pub held : l' ≡ put_in l t ws
+-- a record of these words was to go to a list: its number, if it fits, and the list as it is left
+pub record Puts (l : RecordList) (ws : List ℕ) (r : Option ℕ) (l' : RecordList) : Type 0 where
+  pub kept : l'.words.ghost_name ≡ l.words.ghost_name
+  pub said : r ≡ pick (fits (length l.words.now) l.tape (length ws)) (Some l.tape.count) None
+  pub held : l'.words.now ≡ put_in l.words.now l.tape ws
+  pub tape : l'.tape ≡ pick (fits (length l.words.now) l.tape (length ws)) (behind l.tape (length ws)) l.tape
 
 -- ALL THREE
 
@@ -101,6 +87,11 @@ unfoldable pub play : Lists → Tapes → List Event → Played
 play l t [] = going l t
 play l t (e ∷ es) = onward (put l t e) (λ l' t'. play l' t' es)
 
+-- the tapes behind the records up to the first that does not fit
+unfoldable pub reached : Lists → Tapes → List Event → Tapes
+reached l t [] = t
+reached l t (e ∷ es) = pick (has_room l t e) (reached (laid l t e) (advanced t e) es) t
+
 -- HOW A CALL ENDS
 
 pub data Answer (A : Type 0) : Type 0 where
@@ -138,35 +129,3 @@ WroteStmts m t w r m' = (s e : List ℕ) → Wrote (lists s e m) t w r (lists s 
 
 abbrev pub WroteBoth : {A : Type 0} → List ℕ → List ℕ → Tapes → Writer A → Answer A → List ℕ → List ℕ → Type 0
 WroteBoth e m t w r e' m' = (s : List ℕ) → Wrote (lists s e m) t w r (lists s e' m')
-
--- of a call that was handed the words of some record
-abbrev pub PushedSignal : List ℕ → List ℕ → Tapes → Answer ℕ → List ℕ → Type 0
-PushedSignal ws s t r s' = (x : Signal) → signal_words x ≡ ws → WroteSignals s t (declare x) r s'
-
-abbrev pub PushedExpr : List ℕ → List ℕ → Tapes → Answer ℕ → List ℕ → Type 0
-PushedExpr ws e t r e' = (x : Expr) → expr_words x ≡ ws → WroteExprs e t (emit x) r e'
-
-abbrev pub PushedStmt : List ℕ → List ℕ → Tapes → Answer (Unit {0}) → List ℕ → Type 0
-PushedStmt ws m t r m' = (x : Stmt) → stmt_words x ≡ ws → WroteStmts m t (state x) r m'
-
--- the code's answers, as numbers and values
-abbrev pub emitted : Emitted → Answer ℕ
-emitted (E.Done e t) = Done e.0 t
-emitted (E.Refused x) = Failed (number_of x) (place_of x)
-
-abbrev pub declared : Declared → Answer ℕ
-declared (D.Done s t) = Done s.0 t
-declared (D.Refused x) = Failed (number_of x) (place_of x)
-
-abbrev pub stated : Stated → Answer (Unit {0})
-stated (S.Done t) = Done tt t
-stated (S.Refused x) = Failed (number_of x) (place_of x)
-
--- a register's controls, as its record has them
-abbrev pub reset_of : AsyncReset → Option RegReset
-reset_of R.Absent = None
-reset_of (R.Present s a v) = Some (record { signal = s.0; active = a; value = v.0 })
-
-abbrev pub enable_of : Enable → Option RegEnable
-enable_of N.Absent = None
-enable_of (N.Present s a) = Some (record { signal = s.0; active = a })

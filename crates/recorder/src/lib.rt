@@ -1,13 +1,10 @@
-// The recorder, in place of the simulator's ModuleBuilder: counters by value and three lent lists.
+// The recorder, in place of the simulator's ModuleBuilder: three lent lists, and how far each is written.
 
 #![tactic(auto)]
 
-pub mod builder;
-pub mod list;
-pub mod read;
-pub mod words;
-
-use refusal::Refusal;
+pub mod builder; // builder.rt: a method for each kind of record
+pub mod list; // list.rt: one record behind another
+pub mod read; // read.rt: lists read back
 
 // The number of an expression.
 #[derive(Clone, Copy, Debug, PartialEq, Eq)]
@@ -25,60 +22,51 @@ impl ExprId {
 }
 
 // How far a list is written: its words and its records.
-#[derive(Clone, Copy)]
+#[derive(Clone, Copy, Debug, PartialEq, Eq)]
 pub struct Tape {
     pub used: usize,
     pub count: u32,
 }
 
-#[derive(Clone, Copy)]
+#[derive(Clone, Copy, Debug, PartialEq, Eq)]
 pub struct Tapes {
     pub signals: Tape,
     pub exprs: Tape,
     pub stmts: Tape,
 }
 
-// Where a record went: its number and the tape behind it.
-#[derive(Clone, Copy)]
-pub enum Put {
-    At(u32, Tape),
-    Full,
+// A lent list of records, and how far it is written.
+#[derive(Drop)]
+pub struct RecordList<'a> {
+    pub words: &'a mut [u32],
+    pub tape: Tape,
 }
 
-#[derive(Clone, Copy)]
-pub enum Emitted {
-    Done(ExprId, Tapes),
-    Refused(Refusal),
+// A model as it is recorded.
+#[derive(Drop)]
+pub struct Recorder<'a> {
+    pub signals: RecordList<'a>,
+    pub exprs: RecordList<'a>,
+    pub stmts: RecordList<'a>,
 }
 
-#[derive(Clone, Copy)]
-pub enum Declared {
-    Done(SignalId, Tapes),
-    Refused(Refusal),
+// An asynchronous reset of a register: its active level, and the value that it loads.
+#[derive(Clone, Copy, Debug, PartialEq, Eq)]
+pub struct AsyncReset {
+    pub signal: SignalId,
+    pub active: u32,
+    pub value: ExprId,
 }
 
-#[derive(Clone, Copy)]
-pub enum Stated {
-    Done(Tapes),
-    Refused(Refusal),
-}
-
-// An asynchronous reset of a register: signal, active level, the value that it loads.
-#[derive(Clone, Copy)]
-pub enum AsyncReset {
-    Absent,
-    Present(SignalId, u32, ExprId),
-}
-
-// An enable of a register: signal, active level.
-#[derive(Clone, Copy)]
-pub enum Enable {
-    Absent,
-    Present(SignalId, u32),
+// An enable of a register, and its active level.
+#[derive(Clone, Copy, Debug, PartialEq, Eq)]
+pub struct Enable {
+    pub signal: SignalId,
+    pub active: u32,
 }
 
 // What stands at an index of a list: a whole record with so many fields, the end, or a length of 0 or past the end.
-#[derive(Clone, Copy)]
+#[derive(Clone, Copy, Debug, PartialEq, Eq)]
 pub enum Cut {
     Record(usize),
     End,

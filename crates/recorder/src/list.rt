@@ -1,57 +1,47 @@
 ghost use Rattle.std.specs.Prelude.{◌≡◌, ◌++◌, ◌+◌, ◌≤◌, min, length};
 ghost use Rattle.recorder.specs.Record.{sized};
-ghost use Rattle.recorder.specs.Lists.{over, Recorded};
+ghost use Rattle.recorder.specs.Lists.{over, Puts};
 
-use crate::{Put, Tape};
+use crate::{RecordList, Tape};
 
-// The words that a list of so many may take.
-fn room(len: usize) -> usize
-    ensures { result ≡ min len 2147483648 }
-{
-    if len <= 2147483648 { len } else { 2147483648 }
-}
+// The words that a list may take.
+const MOST: usize = 2147483648;
 
 fn copy_in(list: &mut [u32], at: usize, words: &[u32])
     requires { at + length words.now ≤ length list.old }
     ensures { list.new ≡ over list.old at words.now }
 {
-    let n = words.len();
-    let mut i = 0;
-    while i < n {
-        list[at + i] = words[i];
-        i += 1;
-    }
+    list[at..at + words.len()].copy_from_slice(words);
 }
 
-// Writes a record behind the tape: its length, its fields, and more of them.
-pub fn put_record(list: &mut [u32], tape: Tape, fields: &[u32], more: &[u32]) -> Put
-    ensures { Recorded list.old tape (sized (fields.now ++ more.now)) result list.new }
-{
-    let used = tape.used;
-    let count = tape.count;
-    let cap = room(list.len());
-    if used < count as usize {
-        return Put::Full;
-    }
-    if cap < used {
-        return Put::Full;
-    }
-    let left = cap - used;
-    if left <= fields.len() {
-        return Put::Full;
-    }
-    if left - 1 - fields.len() < more.len() {
-        return Put::Full;
-    }
-    let need = 1 + fields.len() + more.len();
-    list[used] = need as u32;
-    copy_in(list, used + 1, fields);
-    copy_in(list, used + 1 + fields.len(), more);
-    Put::At(
-        count,
-        Tape {
+impl RecordList<'_> {
+    // Writes a record behind those that stand there: its length, its fields, and more of them. None if the list is full.
+    pub fn put(&mut self, fields: &[u32], more: &[u32]) -> Option<u32>
+        ensures { Puts self.old (sized (fields.now ++ more.now)) result self.new }
+    {
+        let Tape { used, count } = self.tape;
+        let cap = self.words.len().min(MOST);
+        if used < count as usize {
+            return None;
+        }
+        if cap < used {
+            return None;
+        }
+        let left = cap - used;
+        if left <= fields.len() {
+            return None;
+        }
+        if left - 1 - fields.len() < more.len() {
+            return None;
+        }
+        let need = 1 + fields.len() + more.len();
+        self.words[used] = need as u32;
+        copy_in(self.words, used + 1, fields);
+        copy_in(self.words, used + 1 + fields.len(), more);
+        self.tape = Tape {
             used: used + need,
             count: count + 1,
-        },
-    )
+        };
+        Some(count)
+    }
 }

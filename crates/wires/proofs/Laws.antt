@@ -12,16 +12,24 @@ use Rattle.netlist.proofs.RecordLaws.{bits_length, bits_get}
 use lib.Seq.{take-suc-set, length-take-le}
 use borrow.Author.Tests.{eq-eqb, ne_eqb, le-leb, lt-leb}
 use Rattle.bits.specs.Bits.{pick}
+use mathlib.Core.Path.{fun_ext}
 use Rattle.netlist.specs.declared.Bit.{Bit}
 use Rattle.netlist.specs.declared.Bit.TheVariants.{Zero, Wire}
-use Rattle.recorder.specs.Record.{Expr.concat, Stmt.assign}
-use Rattle.recorder.specs.Writer.{Count, End, End.ok, End.no, Writer, pure, refuse, emit, state, ◌>>=◌}
+use Rattle.recorder.specs.Record.{Expr.concat}
+use Rattle.recorder.specs.Writer.{Count, End, End.ok, End.no, Writer, pure, refuse, emit, ◌>>=◌}
 use Rattle.recorder.proofs.Events.{bind_pure, bind_refuse, bind_assoc}
+use Rattle.std.specs.Prelude.{Result, IsErrAnd}
+use Rattle.refusal.specs.declared.Refusal.{Refusal}
+use Rattle.refusal.specs.Refusal.{number_of, place_of}
+use Rattle.recorder.specs.declared.Recorder.{Recorder}
+use Rattle.recorder.specs.Calls.{ended, Writes}
+use Rattle.recorder.proofs.Calls.{writes_as, writes_refuse, handed}
 use Rattle.wires.specs.declared.Constants.{Constants}
-use Rattle.wires.specs.declared.Controlled.{Controlled}
+use Rattle.wires.specs.declared.Emitter.{Emitter}
+use Rattle.wires.specs.Once.{Once}
 use Rattle.wires.specs.Wires.{WireRef, Wires, entry, wires_of}
 use Rattle.wires.specs.Seen.{Seen, Reading, with_seen, keeping}
-use Rattle.wires.specs.Expressions.{bit_once, vector_once, ref_of, wire_ref, read_ref, bit_expression, whole, bit_signal, concat_parts, vector_bit, vector_parts, assign_wire, roomy, controlled, Reads}
+use Rattle.wires.specs.Expressions.{bit_once, vector_once, ref_of, wire_ref, read_ref, bit_expression, whole, bit_signal, concat_parts, vector_bit, vector_parts, assign_wire, roomy, Reads}
 
 -- THE TABLES
 
@@ -35,53 +43,58 @@ wire_held ss ps w {s} {p} e f h =
     let i : s ≡ suc (s - 1) = omega (arith, h) in
     sym (ap (λ (k : ℕ). entry k (get_or ps w 0)) (sym e ∙ i) ∙ ap (λ (k : ℕ). entry (suc (s - 1)) k) (sym f))
 
--- A WIRE
+-- A CALL THAT ADDS NO RECORD, and what comes behind it
 
-module _ (m : Wires) where
-  pub ref_held : {w : ℕ} {r : WireRef} → m w ≡ Some r → wire_ref m w ≡ pure r
-  unfolding wire_ref
-  ref_held {w} h = ap (λ (o : Option WireRef). ref_of o w) h
+module _ {A : Type 0} {w : Writer A} where
+  pub reads_pure : {a : A} → Reads w (ok a) → w ≡ pure a
+  reads_pure h = fun_ext (λ n. h.reads n)
 
-  pub ref_missing : {w : ℕ} → m w ≡ None → wire_ref m w ≡ refuse 8 w
-  unfolding wire_ref
-  ref_missing {w} h = ap (λ (o : Option WireRef). ref_of o w) h
+  pub reads_refuse : {number place : ℕ} → Reads w (no number place) → w ≡ refuse number place
+  reads_refuse h = fun_ext (λ n. h.reads n)
 
-  pub bit_held : {w : ℕ} {r : WireRef} → m w ≡ Some r → bit_expression m (Wire w) ≡ read_ref r
-  unfolding bit_expression
-  bit_held {w} {r} h = ap (λ (x : Writer WireRef). x >>= read_ref) (ref_held h) ∙ bind_pure r read_ref
+  module _ {B : Type 0} (k : A → Writer B) where
+    bound : {v : Writer A} → w ≡ v → (w >>= k) ≡ (v >>= k)
+    bound q = ap (λ (x : Writer A). x >>= k) q
 
-  pub bit_missing : {w : ℕ} → m w ≡ None → bit_expression m (Wire w) ≡ refuse 8 w
-  unfolding bit_expression
-  bit_missing {w} h = ap (λ (x : Writer WireRef). x >>= read_ref) (ref_missing h) ∙ bind_refuse 8 w read_ref
+    pub reads_then : {a : A} {q : End B} → Reads w (ok a) → Reads (k a) q → Reads (w >>= k) q
+    reads_then {a} h g = record { reads = λ n. ap (λ (x : Writer B). x n) (bound (reads_pure h) ∙ bind_pure a k) ∙ g.reads n }
 
-  pub assign_held : {w : ℕ} (e : ℕ) {r : WireRef} → m w ≡ Some r → assign_wire m w e ≡ state (assign r.signal e)
-  unfolding assign_wire
-  assign_held {w} e {r} h = ap (λ (x : Writer WireRef). x >>= λ q. state (assign q.signal e)) (ref_held h) ∙ bind_pure r (λ q. state (assign q.signal e))
+    pub reads_stop : {number place : ℕ} → Reads w (no number place) → Reads (w >>= k) (no number place)
+    reads_stop {number} {place} h = record { reads = λ n. ap (λ (x : Writer B). x n) (bound (reads_refuse h) ∙ bind_refuse number place k) }
 
-  pub assign_missing : {w : ℕ} (e : ℕ) → m w ≡ None → assign_wire m w e ≡ refuse 8 w
-  unfolding assign_wire
-  assign_missing {w} e h = ap (λ (x : Writer WireRef). x >>= λ q. state (assign q.signal e)) (ref_missing h) ∙ bind_refuse 8 w (λ q. state (assign q.signal e))
+    pub writes_after : {a : A} {r : Recorder} {q : End B} {r' : Recorder} → Reads w (ok a) → Writes r (k a) q r' → Writes r (w >>= k) q r'
+    writes_after {a} h g = writes_as (bound (reads_pure h) ∙ bind_pure a k) g
 
-  abbrev judged : ℕ → WireRef → Writer ℕ
-  judged w r = pick (whole r) (pure r.signal) (refuse 9 w)
+    -- what a `?` hands on
+    module _ {C : Type 0} (f : C → B) (q : Result C Refusal) (x : Refusal) (h : Reads w (no (number_of x) (place_of x))) (e : IsErrAnd q (λ y. y ≡ x)) where
+      pub reads_err : Reads (w >>= k) (ended f q)
+      reads_err = subst (λ (y : End B). Reads (w >>= k) y) (sym (handed f q x e)) (reads_stop h)
 
-  signal_held : (z : Constants) {w : ℕ} {r : WireRef} → m w ≡ Some r → bit_signal m z (Wire w) ≡ judged w r
-  unfolding bit_signal
-  signal_held z {w} {r} h = ap (λ (x : Writer WireRef). x >>= judged w) (ref_held h) ∙ bind_pure r (judged w)
+      pub unread_err : {r : Recorder} → Writes r (w >>= k) (ended f q) r
+      unread_err {r} = subst (λ (y : End B). Writes r (w >>= k) y r) (sym (handed f q x e)) (writes_as (bound (reads_refuse h) ∙ bind_refuse (number_of x) (place_of x) k) writes_refuse)
 
-  signal_missing : (z : Constants) {w : ℕ} → m w ≡ None → bit_signal m z (Wire w) ≡ refuse 8 w
-  unfolding bit_signal
-  signal_missing z {w} h = ap (λ (x : Writer WireRef). x >>= judged w) (ref_missing h) ∙ bind_refuse 8 w (judged w)
+pub reads_ok : {A : Type 0} {a : A} → Reads (pure a) (ok a)
+reads_ok = record { reads = λ n. refl }
 
-  pub reads_held : (z : Constants) {w : ℕ} {r : WireRef} {q : Controlled} → m w ≡ Some r → controlled q ≡ pick (whole r) (ok r.signal) (no 9 w) → Reads (bit_signal m z (Wire w)) q
-  reads_held z {w} {r} {q} h e = record { reads = λ n. ap (λ (x : Writer ℕ). x n) (signal_held z h) ∙ go n (whole r) ∙ ap (λ (x : End ℕ). record { events = []; end = x }) (sym e) }
-    where
-      go : (n : Count) (b : Bool) → pick b (pure r.signal) (refuse 9 w) n ≡ record { events = []; end = pick b (ok r.signal) (no 9 w) }
-      go n true = refl
-      go n false = refl
+pub reads_as : {A : Type 0} {w w' : Writer A} {r : End A} → w' ≡ w → Reads w r → Reads w' r
+reads_as {r = r} q h = subst (λ (x : Writer _). Reads x r) (sym q) h
 
-  pub reads_missing : (z : Constants) {w : ℕ} {q : Controlled} → m w ≡ None → controlled q ≡ no 8 w → Reads (bit_signal m z (Wire w)) q
-  reads_missing z h e = record { reads = λ n. ap (λ (x : Writer ℕ). x n) (signal_missing z h) ∙ ap (λ (x : End ℕ). record { events = []; end = x }) (sym e) }
+-- an end that is chosen
+pub reads_judged : {A : Type 0} (b : Bool) (a : A) (number place : ℕ) {r : End A} → r ≡ pick b (ok a) (no number place) → Reads (pick b (pure a) (refuse number place)) r
+reads_judged b a number place {r} q = subst (λ (x : End _). Reads (pick b (pure a) (refuse number place)) x) (sym q) (go b)
+  where
+    go : (b : Bool) → Reads (pick b (pure a) (refuse number place)) (pick b (ok a) (no number place))
+    go true = record { reads = λ n. refl }
+    go false = record { reads = λ n. refl }
+
+-- the reference of a wire
+pub reads_found : (m : Wires) (w : ℕ) {r : WireRef} → Some r ≡ m w → Reads (wire_ref m w) (ok r)
+unfolding wire_ref
+reads_found m w e = record { reads = λ n. ap (λ (o : Option WireRef). ref_of o w n) (sym e) }
+
+pub reads_missing : (m : Wires) (w : ℕ) → None ≡ m w → Reads (wire_ref m w) (no 8 w)
+unfolding wire_ref
+reads_missing m w e = record { reads = λ n. ap (λ (o : Option WireRef). ref_of o w n) (sym e) }
 
 -- whether it is a whole signal of one bit
 module _ (r : WireRef) (w : ℕ) where
@@ -97,9 +110,6 @@ module _ (r : WireRef) (w : ℕ) where
       go : (b : Bool) → no 9 w ≡ pick (b && eqb r.width 1) (ok r.signal) (no 9 w)
       go true = rw (ne_eqb r.width 1 q)
       go false = refl
-
-pub reads_as : (m : Wires) (z : Constants) {b b' : Bit} (q : Controlled) → b ≡ b' → Reads (bit_signal m z b') q → Reads (bit_signal m z b) q
-reads_as m z q e h = subst (λ (x : Bit). Reads (bit_signal m z x) q) (sym e) h
 
 -- LENT WORK
 
@@ -132,9 +142,9 @@ abbrev pub vector_left : Wires → Seen → List Bit → ℕ → ℕ → List �
 vector_left m seen bits at k parts = vector_parts m seen bits at k parts >>= λ r. keeping r.seen (concat_parts r.value)
 
 module _ (m : Wires) (bits : List Bit) (at : ℕ) where
-  pub vector_start : (seen : Seen) (k : ℕ) (parts : List ℕ) → vector_once m seen bits at k ≡ vector_left m seen bits at k (take (k - k) parts)
+  pub vector_start : (seen : Seen) (k : ℕ) (parts : List ℕ) → vector_once m seen bits at k ≡ vector_left m seen bits at (k - 0) (take 0 parts)
   unfolding vector_once
-  vector_start seen k parts = let z : k - k ≡ 0 = omega arith in ap (λ (i : ℕ). vector_left m seen bits at k (take i parts)) (sym z)
+  vector_start seen k parts = let z : k ≡ k - 0 = omega arith in ap (λ (i : ℕ). vector_left m seen bits at i []) z
 
   pub vector_more : (seen : Seen) (left : ℕ) (parts : List ℕ) → 1 ≤ left
       → vector_left m seen bits at left parts ≡ (bit_once m seen (vector_bit bits (at + (left - 1))) >>= λ r. vector_left m r.seen bits at (left - 1) (parts ++ (r.value ∷ [])))
@@ -147,25 +157,6 @@ module _ (m : Wires) (bits : List Bit) (at : ℕ) where
   pub vector_done : (seen : Seen) {left : ℕ} (parts : List ℕ) → left ≡ 0 → vector_left m seen bits at left parts ≡ keeping seen (concat_parts parts)
   unfolding vector_parts
   vector_done seen parts z = ap (λ (k : ℕ). vector_left m seen bits at k parts) z ∙ bind_pure (with_seen parts seen) (λ r. keeping r.seen (concat_parts r.value))
-
-back_one : (a b : ℕ) → 1 ≤ b → b ≤ a → a - 1 - (b - 1) ≡ a - b
-back_one a b h g = omega arith
-
-one_further : (a b : ℕ) → 1 ≤ b → b ≤ a → a - (b - 1) ≡ suc (a - b)
-one_further a b h g = omega arith
-
--- a part stored behind those done
-pub parts_step : (parts : List ℕ) (end left e : ℕ) → end ≤ length parts → left ≤ end → 1 ≤ left
-    → take (end - (left - 1)) (set parts (end - 1 - (left - 1)) e) ≡ take (end - left) parts ++ (e ∷ [])
-parts_step parts end left e h g z =
-    ap₂ (λ (a b : ℕ). take a (set parts b e)) (one_further end left z g) (back_one end left z g) ∙ take-suc-set parts (end - left) e (behind end left (length parts) h g z)
-  where
-    behind : (a b n : ℕ) → a ≤ n → b ≤ a → 1 ≤ b → a - b < n
-    behind a b n h g z = omega arith
-
--- all parts done
-pub parts_all : (parts : List ℕ) (end left : ℕ) → left ≡ 0 → take (end - left) parts ≡ take end parts
-parts_all parts end left z = let i : end - left ≡ end = omega arith in ap (λ (k : ℕ). take k parts) i
 
 pub vector_bit_there : (words : List ℕ) (at n i : ℕ) → i < n → bit_at words (at + i) ≡ vector_bit (bits_at words at n) i
 vector_bit_there words at n i h = sym (bits_get words at n Zero i h)

@@ -1,4 +1,5 @@
 -- The laws of wires that other crates cite.
 pub mod Laws
+pub mod OnMap
 pub mod OnceLaws
 pub mod Vectors

@@ -1,20 +1,24 @@
--- Laws of calls that may read: one after another, one that stops, one record, a loop; and of the table that keeps what was read.
+-- Laws of calls that may read: one after another, one that stops, one that reads nothing, a loop; and of the table that keeps what was read.
 use mathlib.Core.Path.{◌≡◌, refl, ap, sym, ◌∙◌, subst}
-use Rattle.std.specs.Prelude.{Bool, true, false, List, [], ◌∷◌, ◌⊎◌, ◌+◌, ◌-◌, ◌≤◌, ◌<◌, ℕ, zero, suc, leb, length, get_or}
+use Rattle.std.specs.Prelude.{Bool, true, false, List, [], ◌∷◌, ◌⊎◌, ◌+◌, ◌-◌, ◌≤◌, ◌<◌, ℕ, zero, suc, leb, length, get_or, Result, Ok, Err, IsErrAnd, is_err}
 use Rattle.std.proofs.Common.{arith, inl, inr, replicate}
 use Rattle.std.proofs.Math.ListN.{set}
 use Rattle.std.specs.Prelude.{Option, None, Some}
 use borrow.Author.Tests.{le-leb, lt-leb}
 use Rattle.bits.specs.Bits.{pick}
-use Rattle.recorder.specs.declared.Tapes.{Tapes}
+use Rattle.refusal.specs.declared.Refusal.{Refusal}
+use Rattle.refusal.specs.Refusal.{number_of, place_of}
 use Rattle.recorder.specs.Writer.{Count, End, End.ok, End.no, exprs_of, further, Writer, pure, refuse, ◌>>=◌}
-use Rattle.recorder.specs.Lists.{Lists, count_of, Played, Played.going, Played.full, play, Answer, Answer.Done, Answer.Failed, Left, finish, Wrote}
-use Rattle.recorder.proofs.Wrote.{play_counts, then_done, then_stop, wrote_as, wrote_pure, wrote_refuse}
+use Rattle.recorder.specs.Lists.{count_of}
+use Rattle.recorder.specs.Words.{zeroed}
+use Rattle.recorder.specs.Calls.{tapes_in, ended, Writes}
+use Rattle.recorder.proofs.Calls.{writes_then, writes_stop, writes_as, writes_pure, writes_refuse, writes_value, handed}
 use Rattle.recorder.proofs.Events.{bind_refuse}
+use Rattle.netlist.specs.declared.Bit.TheVariants.{Wire}
+use Rattle.wires.specs.declared.Emitter.{Emitter}
 use Rattle.wires.specs.Seen.{Seen, nothing_seen, standing, noted, Reading, with_seen, keeping, forgetting}
 use Rattle.wires.specs.Wires.{WireRef, Wires}
-use Rattle.netlist.specs.declared.Bit.TheVariants.{Wire}
-use Rattle.wires.specs.Once.{seen_by, seen_of, joined, Aged, Leaves, Once, OnceAt, Grows, swept, Cleared}
+use Rattle.wires.specs.Once.{seen_by, seen_of, seen_in, reading, SameCell, Aged, swept, Leaves, Once, Plain, Sweeps, Notes}
 use Rattle.wires.specs.Expressions.{ref_of, wire_ref, read_ref, bit_expression, read_once, bit_once, roomy}
 
 -- THE TABLE
@@ -56,42 +60,16 @@ seen_nothing first (x ∷ xs) h =
     let b : leb x first ≡ true = le-leb x first (h 0) in
     rw (b, seen_nothing first xs (λ w. h (suc w)))
 
--- A CALL THAT WENT WELL: its writer's end, and its records are counted
-
-pub wrote_value : {A : Type 0} {l : Lists} {t : Tapes} {w : Writer A} {a : A} {u : Tapes} {l' : Lists} → Wrote l t w (Done a u) l' → ((w (count_of t)).end ≡ ok a) × (count_of u ≡ further (count_of t) (w (count_of t)).events)
-wrote_value {A} {l} {t} {w} {a} {u} {l'} h = go (play l t (w (count_of t)).events) (w (count_of t)).end refl refl h.wrote
-  where
-    go : (p : Played) (y : End A) → play l t (w (count_of t)).events ≡ p → (w (count_of t)).end ≡ y → finish p y ≡ record { answer = Done a u; lists = l' } → ((w (count_of t)).end ≡ ok a) × (count_of u ≡ further (count_of t) (w (count_of t)).events)
-    go (going k v) (ok b) e z q =
-        let q₁ : Done b v ≡ Done a u = ap (λ (x : Left A). x.answer) q in
-        let g : v ≡ u = cc in
-        let f : b ≡ a = cc in
-        (z ∙ ap (λ (x : A). ok x) f, ap count_of (sym g) ∙ play_counts (w (count_of t)).events l t e)
-    go (going k v) (no x y) e z q = let r : Answer A = Failed x y in let f : r ≡ Done a u = ap (λ (x : Left A). x.answer) q in cc
-    go (full i k) y e z q = let r : Answer A = Failed 2 i in let f : r ≡ Done a u = ap (λ (x : Left A). x.answer) q in cc
-
-pub wrote_grows : {A : Type 0} {l : Lists} {t : Tapes} {w : Writer A} {a : A} {u : Tapes} {l' : Lists} → Wrote l t w (Done a u) l' → t.exprs.count ≤ u.exprs.count
-wrote_grows {A} {l} {t} {w} {a} {u} {l'} h =
-    let i : u.exprs.count ≡ t.exprs.count + length (exprs_of (w (count_of t)).events) = ap (λ (c : Count). c.exprs) ((wrote_value h).1) in
-    omega arith
-
-pub wrote_growing : {A : Type 0} {l : Lists} {t : Tapes} {w : Writer A} (r : Answer A) {l' : Lists} → Wrote l t w r l' → Grows t r
-wrote_growing (Done a u) h = wrote_grows h
-wrote_growing (Failed x y) h = tt
-
-pub grows_on : {A : Type 0} {l : Lists} {u : Tapes} {w : Writer A} (t : Tapes) (r : Answer A) {l' : Lists} → Wrote l u w r l' → t.exprs.count ≤ u.exprs.count → Grows t r
-grows_on {u = u} t (Done a v) h g = let k : u.exprs.count ≤ v.exprs.count = wrote_grows h in omega arith
-grows_on t (Failed x y) h g = tt
-
-pub failed_grows : {A : Type 0} (t : Tapes) {r : Answer A} {number place : ℕ} → r ≡ Failed number place → Grows t r
-failed_grows t {r} e = subst (λ (x : Answer _). Grows t x) (sym e) tt
-
--- the same of a call that may read
-pub once_growing : {A : Type 0} {l : Lists} {t : Tapes} {f : ℕ} {table : List ℕ} {w : Writer (Reading A)} (r : Answer A) {l' : Lists} {table' : List ℕ} → Once l t f table w r l' table' → Grows t r
-once_growing (Done a u) h = wrote_grows h.wrote
-once_growing (Failed x y) h = tt
-
 -- ONE AFTER ANOTHER
+
+pub same_cell : {e e' e'' : Emitter} → SameCell e e' → SameCell e' e'' → SameCell e e''
+same_cell h g = record { recorder = g.recorder ∙ h.recorder; seen = g.seen ∙ h.seen; first = g.first ∙ h.first; map = g.map ∙ h.map; size = g.size ∙ h.size }
+
+pub cell_itself : {e : Emitter} → SameCell e e
+cell_itself = record { recorder = refl; seen = refl; first = refl; map = refl; size = refl }
+
+zeroed_alike : (l l' : List ℕ) → length l' ≡ length l → zeroed l' ≡ zeroed l
+zeroed_alike l l' q = ap (λ (n : ℕ). replicate n 0) q
 
 aged_then : (first c d : ℕ) (a b e : List ℕ) → c ≤ d → Aged first c a b → Aged first d b e → Aged first d a e
 aged_then first c d a b e h f g w = go (f w) (g w)
@@ -102,91 +80,99 @@ aged_then first c d a b e h f g w = go (f w) (g w)
     go (inr p) (inl q) = let k : first < get_or b w 0 = p.0 in let m : get_or b w 0 ≤ c = p.1 in inr (omega arith, omega arith)
     go x (inr q) = inr q
 
-module _ {A B : Type 0} {l : Lists} {t : Tapes} {first : ℕ} {table : List ℕ} where
-  -- it went well: the next goes on from its tapes, lists and table
-  pub once_done : {w : Writer (Reading A)} {r : Answer A} {l₁ : Lists} {table₁ : List ℕ} → Once l t first table w r l₁ table₁ → (k : Reading A → Writer (Reading B)) {a : A} {u : Tapes} {q : Answer B} {l₂ : Lists} {table₂ : List ℕ}
-      → r ≡ Done a u → Once l₁ u first table₁ (k (with_seen a (seen_of first table₁))) q l₂ table₂ → Once l t first table (w >>= k) q l₂ table₂
-  once_done {w} {r} {l₁} {table₁} h k {a} {u} {q} {l₂} {table₂} d next = record {
-    wrote = then_done h.wrote k (ap (λ (x : Answer A). joined x (seen_of first table₁)) d) next.wrote;
-    leaves = go q next.wrote next.leaves (subst (λ (x : Answer A). Leaves first table x table₁) d h.leaves);
-  }
-    where
-      go : (q : Answer B) → Wrote l₁ u (k (with_seen a (seen_of first table₁))) (joined q (seen_of first table₂)) l₂ → Leaves first table₁ q table₂ → Aged first u.exprs.count table table₁ → Leaves first table q table₂
-      go (Done b v) g n m = aged_then first u.exprs.count v.exprs.count table table₁ table₂ (wrote_grows g) m n
-      go (Failed x y) g n m = tt
+-- a call that went well, or that read nothing, and then another: what the other leaves
+leaves_then : {B : Type 0} (e e₁ e₂ : Emitter) → SameCell e e₁ → e₁.recorder.now.exprs.tape.count ≤ e₂.recorder.now.exprs.tape.count → Aged e.first e₁.recorder.now.exprs.tape.count e.seen.now e₁.seen.now
+    → (q : End B) → Leaves e₁ q e₂ → Leaves e q e₂
+leaves_then e e₁ e₂ s g m (ok b) n = aged_then e.first e₁.recorder.now.exprs.tape.count e₂.recorder.now.exprs.tape.count e.seen.now e₁.seen.now e₂.seen.now g m (subst (λ (f : ℕ). Aged f e₂.recorder.now.exprs.tape.count e₁.seen.now e₂.seen.now) s.first n)
+leaves_then e e₁ e₂ s g m (no x y) n = n ∙ zeroed_alike e.seen.now e₁.seen.now s.size
+
+module _ {A B : Type 0} {e e₁ : Emitter} where
+  -- it went well: the next goes on
+  pub once_then : {w : Writer (Reading A)} {a : A} → Once e w (ok a) e₁ → (k : Reading A → Writer (Reading B)) {q : End B} {e₂ : Emitter} → Once e₁ (k (with_seen a (seen_in e₁))) q e₂ → Once e (w >>= k) q e₂
+  once_then h k {q} {e₂} next = record { same = same_cell h.same next.same; wrote = writes_then h.wrote k refl next.wrote; leaves = leaves_then e e₁ e₂ h.same next.wrote.grows h.leaves q next.leaves }
 
   -- it did not: that is the answer of both
-  pub once_stop : {w : Writer (Reading A)} {r : Answer A} {l₁ : Lists} {table₁ : List ℕ} → Once l t first table w r l₁ table₁ → (k : Reading A → Writer (Reading B)) {q : Answer B} {number place : ℕ} {table₂ : List ℕ}
-      → r ≡ Failed number place → q ≡ Failed number place → Once l t first table (w >>= k) q l₁ table₂
-  once_stop {w} {r} {l₁} {table₁} h k {q} {number} {place} {table₂} d e =
-      subst (λ (x : Answer B). Once l t first table (w >>= k) x l₁ table₂) (sym e)
-      (record { wrote = then_stop h.wrote k (ap (λ (x : Answer A). joined x (seen_of first table₁)) d); leaves = tt })
+  pub once_stop : {w : Writer (Reading A)} {number place : ℕ} → Once e w (no number place) e₁ → (k : Reading A → Writer (Reading B)) → Once e (w >>= k) (no number place) e₁
+  once_stop h k = record { same = h.same; wrote = writes_stop h.wrote k refl; leaves = h.leaves }
 
   -- the same behind a call that reads nothing
-  pub once_then : {w : Writer A} {r : Answer A} {l₁ : Lists} → Wrote l t w r l₁ → (k : A → Writer (Reading B)) {a : A} {u : Tapes} {q : Answer B} {l₂ : Lists} {table₂ : List ℕ}
-      → r ≡ Done a u → Once l₁ u first table (k a) q l₂ table₂ → Once l t first table (w >>= k) q l₂ table₂
-  once_then h k d next = record { wrote = then_done h k d next.wrote; leaves = next.leaves }
+  pub plain_then : {w : Writer A} {a : A} → Plain e w (ok a) e₁ → (k : A → Writer (Reading B)) {q : End B} {e₂ : Emitter} → Once e₁ (k a) q e₂ → Once e (w >>= k) q e₂
+  plain_then h k {q} {e₂} next =
+      record { same = same_cell h.same next.same; wrote = writes_then h.wrote k refl next.wrote; leaves = leaves_then e e₁ e₂ h.same next.wrote.grows (λ v. inl (ap (λ (l : List ℕ). get_or l v 0) h.table)) q next.leaves }
 
-  pub once_failed : {w : Writer A} {r : Answer A} {l₁ : Lists} → Wrote l t w r l₁ → (k : A → Writer (Reading B)) {q : Answer B} {number place : ℕ} {table₂ : List ℕ}
-      → r ≡ Failed number place → q ≡ Failed number place → Once l t first table (w >>= k) q l₁ table₂
-  once_failed {w} {r} {l₁} h k {q} {number} {place} {table₂} d e =
-      subst (λ (x : Answer B). Once l t first table (w >>= k) x l₁ table₂) (sym e) (record { wrote = then_stop h k d; leaves = tt })
+  pub plain_stop : {w : Writer A} {number place : ℕ} → Plain e w (no number place) e₁ → (k : A → Writer (Reading B)) → Once e (w >>= k) (no number place) e₁
+  plain_stop h k = record { same = h.same; wrote = writes_stop h.wrote k refl; leaves = h.table }
 
-module _ {A : Type 0} {l : Lists} {t : Tapes} {first : ℕ} {table : List ℕ} where
-  pub once_pure : {a : A} → Once l t first table (pure (with_seen a (seen_of first table))) (Done a t) l table
-  once_pure = record { wrote = wrote_pure; leaves = λ w. inl refl }
-
-  pub once_refuse : {number place : ℕ} {table' : List ℕ} → Once {A = A} l t first table (refuse number place) (Failed number place) l table'
-  once_refuse = record { wrote = wrote_refuse; leaves = tt }
+module _ {A : Type 0} {e : Emitter} where
+  pub once_pure : {a : A} → Once e (pure (with_seen a (seen_in e))) (ok a) e
+  once_pure = record { same = cell_itself; wrote = writes_pure; leaves = λ v. inl refl }
 
   -- another name for what is written
-  pub once_as : {w w' : Writer (Reading A)} {r : Answer A} {l' : Lists} {table' : List ℕ} → w' ≡ w → Once l t first table w r l' table' → Once l t first table w' r l' table'
-  once_as e h = record { wrote = wrote_as e h.wrote; leaves = h.leaves }
+  pub once_as : {w w' : Writer (Reading A)} {r : End A} {e' : Emitter} → w' ≡ w → Once e w r e' → Once e w' r e'
+  once_as q h = record { same = h.same; wrote = writes_as q h.wrote; leaves = h.leaves }
+
+  pub once_answer : {w : Writer (Reading A)} {r r' : End A} {e' : Emitter} → r' ≡ r → Once e w r e' → Once e w r' e'
+  once_answer {w} {r} {r'} {e'} q h = subst (λ (x : End A). Once e w x e') (sym q) h
+
+module _ {A : Type 0} {e : Emitter} where
+  pub plain_as : {w w' : Writer A} {r : End A} {e' : Emitter} → w' ≡ w → Plain e w r e' → Plain e w' r e'
+  plain_as q h = record { same = h.same; wrote = writes_as q h.wrote; table = h.table }
+
+  -- a call that reads nothing leaves what has been read
+  pub seen_plain : {w : Writer A} {a : A} {e' : Emitter} → Plain e w (ok a) e' → seen_in e' ≡ seen_in e
+  seen_plain h = λ i. seen_of (h.same.first i) (h.table i)
 
   -- the last call reads nothing
-  pub once_keep : {w : Writer A} {r : Answer A} {l' : Lists} → Wrote l t w r l' → Once l t first table (keeping (seen_of first table) w) r l' table
-  once_keep {w} {r} {l'} h = go r h
+  pub plain_keep : {w : Writer A} {r : End A} {e' : Emitter} {s : Seen} → s ≡ seen_in e → Plain e w r e' → Once e (keeping s w) r e'
+  plain_keep {w} {r} {e'} {s} q h = go r h
     where
-      go : (r : Answer A) → Wrote l t w r l' → Once l t first table (keeping (seen_of first table) w) r l' table
-      go (Done a u) g = record { wrote = then_done g (λ x. pure (with_seen x (seen_of first table))) refl wrote_pure; leaves = λ w. inl refl }
-      go (Failed x y) g = record { wrote = then_stop g (λ x. pure (with_seen x (seen_of first table))) refl; leaves = tt }
+      go : (r : End A) → Plain e w r e' → Once e (keeping s w) r e'
+      go (ok a) h = plain_then h (λ x. pure (with_seen x s)) (once_as (ap (λ (z : Seen). pure (with_seen a z)) (q ∙ sym (seen_plain h))) once_pure)
+      go (no x y) h = plain_stop h (λ z. pure (with_seen z s))
 
   -- what has been read is forgotten
-  pub once_forget : {w : Writer (Reading A)} {r : Answer A} {l' : Lists} {table' : List ℕ} → Once l t first table w r l' table' → Wrote l t (forgetting w) r l'
-  once_forget {w} {r} {l'} {table'} h = go r h.wrote
-    where
-      go : (r : Answer A) → Wrote l t w (joined r (seen_of first table')) l' → Wrote l t (forgetting w) r l'
-      go (Done a u) g = then_done g (λ x. pure x.value) refl wrote_pure
-      go (Failed x y) g = then_stop g (λ x. pure x.value) refl
+  pub once_forget : {w : Writer (Reading A)} (r : End A) {e' : Emitter} → Once e w r e' → Writes e.recorder.now (forgetting w) r e'.recorder.now
+  once_forget (ok a) h = writes_then h.wrote (λ x. pure x.value) refl writes_pure
+  once_forget (no x y) h = writes_stop h.wrote (λ z. pure z.value) refl
 
-  -- a table of zeros after a refusal
-  pub once_swept : {w : Writer (Reading A)} {r : Answer A} {l' : Lists} {table₁ table₂ : List ℕ} → Once l t first table w r l' table₁ → table₂ ≡ swept r table₁ → Once l t first table w r l' table₂
-  once_swept {w} {r} {l'} {table₁} {table₂} h = go r h
-    where
-      go : (r : Answer A) → Once l t first table w r l' table₁ → table₂ ≡ swept r table₁ → Once l t first table w r l' table₂
-      go (Done a u) g e = subst (λ (x : List ℕ). Once l t first table w (Done a u) l' x) (sym e) g
-      go (Failed x y) g e = record { wrote = g.wrote; leaves = tt }
+-- what a `?` hands on
+module _ {A C : Type 0} {B : Type 0} {e e₁ : Emitter} (f : C → B) (q : Result C Refusal) (x : Refusal) (h : IsErrAnd q (λ y. y ≡ x)) where
+  pub once_err : {w : Writer (Reading A)} → Once e w (no (number_of x) (place_of x)) e₁ → (k : Reading A → Writer (Reading B)) → Once e (w >>= k) (ended f q) e₁
+  once_err g k = once_answer (handed f q x h) (once_stop g k)
 
-pub cleared_swept : {A : Type 0} (r : Answer A) (table table₁ : List ℕ) {table₂ : List ℕ} → length table₁ ≡ length table → table₂ ≡ swept r table₁ → Cleared r table table₂
-cleared_swept (Done a u) table table₁ h e = tt
-cleared_swept (Failed x y) table table₁ h e = e ∙ ap (λ (n : ℕ). replicate n 0) h
+  pub plain_err : {w : Writer A} → Plain e w (no (number_of x) (place_of x)) e₁ → (k : A → Writer (Reading B)) → Once e (w >>= k) (ended f q) e₁
+  plain_err g k = once_answer (handed f q x h) (plain_stop g k)
+
+-- A CALL ON THE RECORDER, and the table cleared if it was refused
+
+pub plain_swept : {A C : Type 0} (f : C → A) {w : Writer A} {e e₁ e₂ : Emitter} (q : Result C Refusal) {p : Result C Refusal} → p ≡ q → Writes e.recorder.now w (ended f q) e₁.recorder.now → SameCell e e₁ → e₁.seen.now ≡ e.seen.now → Sweeps (is_err q) e₁ e₂ → Plain e w (ended f p) e₂
+plain_swept {A} {C} f {w} {e} {e₁} {e₂} q {p} z h s t sw = subst (λ (y : Result C Refusal). Plain e w (ended f y) e₂) (sym z) (go q h sw)
+  where
+    go : (q : Result C Refusal) → Writes e.recorder.now w (ended f q) e₁.recorder.now → Sweeps (is_err q) e₁ e₂ → Plain e w (ended f q) e₂
+    go (Ok c) h sw = record { same = same_cell s sw.same; wrote = subst (λ r. Writes e.recorder.now w (ok (f c)) r) (sym sw.recorder) h; table = sw.table ∙ t }
+    go (Err x) h sw = record { same = same_cell s sw.same; wrote = subst (λ r. Writes e.recorder.now w (no (number_of x) (place_of x)) r) (sym sw.recorder) h; table = sw.table ∙ ap zeroed t }
+
+-- a call that is refused before anything is recorded
+pub once_refused : {A C : Type 0} (f : C → A) (x : Refusal) {p : Result C Refusal} {e e' : Emitter} → p ≡ Err x → Sweeps true e e' → Once e (refuse (number_of x) (place_of x)) (ended f p) e'
+once_refused {A} {C} f x {p} {e} {e'} z sw =
+    subst (λ (y : Result C Refusal). Once e (refuse (number_of x) (place_of x)) (ended f y) e') (sym z)
+    (record { same = sw.same; wrote = subst (λ r. Writes {A = Reading A} e.recorder.now (refuse (number_of x) (place_of x)) (no (number_of x) (place_of x)) r) (sym sw.recorder) writes_refuse; leaves = sw.table })
 
 -- LOOPS: whoever writes what is left has written the whole
 
-pub record GoingOnce {A : Type 0} (l₀ : Lists) (t₀ : Tapes) (first : ℕ) (table₀ : List ℕ) (whole : Writer (Reading A)) (l : Lists) (t : Tapes) (table : List ℕ) (left : Writer (Reading A)) : Type 0 where
-  pub ends : (r : Answer A) (l' : Lists) (table' : List ℕ) → Once l t first table left r l' table' → Once l₀ t₀ first table₀ whole r l' table'
+pub record GoingOnce {A : Type 0} (e₀ : Emitter) (whole : Writer (Reading A)) (e : Emitter) (left : Writer (Reading A)) : Type 0 where
+  pub ends : (r : End A) (e' : Emitter) → Once e left r e' → Once e₀ whole r e'
 
-module _ {A : Type 0} {l₀ : Lists} {t₀ : Tapes} {first : ℕ} {table₀ : List ℕ} {whole : Writer (Reading A)} where
-  pub going_once : {w : Writer (Reading A)} → whole ≡ w → GoingOnce l₀ t₀ first table₀ whole l₀ t₀ table₀ w
-  going_once e = record { ends = λ r l' table' h. once_as e h }
+module _ {A : Type 0} {e₀ : Emitter} {whole : Writer (Reading A)} where
+  pub going_once : {w : Writer (Reading A)} → whole ≡ w → GoingOnce e₀ whole e₀ w
+  going_once q = record { ends = λ r e' h. once_as q h }
 
-  module _ {l : Lists} {t : Tapes} {table : List ℕ} {B : Type 0} {w : Writer (Reading B)} (k : Reading B → Writer (Reading A)) {left : Writer (Reading A)} (going_on : GoingOnce l₀ t₀ first table₀ whole l t table left) (is : left ≡ (w >>= k))
-      {r : Answer B} {l₁ : Lists} {table₁ : List ℕ} (h : Once l t first table w r l₁ table₁) where
-    pub once_more : {a : B} {u : Tapes} → r ≡ Done a u → GoingOnce l₀ t₀ first table₀ whole l₁ u table₁ (k (with_seen a (seen_of first table₁)))
-    once_more d = record { ends = λ q l' table' g. going_on.ends q l' table' (once_as is (once_done h k d g)) }
+  module _ {e : Emitter} {B : Type 0} {w : Writer (Reading B)} (k : Reading B → Writer (Reading A)) {left : Writer (Reading A)} (on : GoingOnce e₀ whole e left) (is : left ≡ (w >>= k)) {e₁ : Emitter} where
+    pub once_more : {a : B} → Once e w (ok a) e₁ → GoingOnce e₀ whole e₁ (k (with_seen a (seen_in e₁)))
+    once_more h = record { ends = λ q e' g. on.ends q e' (once_as is (once_then h k g)) }
 
-    pub once_no_more : {q : Answer A} {number place : ℕ} {table₂ : List ℕ} → r ≡ Failed number place → q ≡ Failed number place → Once l₀ t₀ first table₀ whole q l₁ table₂
-    once_no_more d e = going_on.ends _ _ _ (once_as is (once_stop h k d e))
+    pub once_no_more : {number place : ℕ} → Once e w (no number place) e₁ → Once e₀ whole (no number place) e₁
+    once_no_more h = on.ends _ _ (once_as is (once_stop h k))
 
 -- ONE READ
 
@@ -218,30 +204,38 @@ noted_ages f c w table h v = go table w v
     go (x ∷ xs) (suc i) zero = inl refl
     go (x ∷ xs) (suc i) (suc j) = go xs i j
 
-pub once_noted : (m : Wires) (f : ℕ) (table : List ℕ) (w : ℕ) {l l₁ : Lists} {t u : Tapes} {e : ℕ} {table' : List ℕ} → f ≤ t.exprs.count → table' ≡ set table w u.exprs.count → Wrote l t (bit_expression m (Wire w)) (Done e u) l₁
-    → Once l t f table (bit_expression m (Wire w) >>= λ e. pure (with_seen e (noted (seen_of f table) w e))) (Done e u) l₁ table'
-once_noted m f table w {l} {l₁} {t} {u} {e} {table'} h is g =
-    let v = wrote_value g in
-    let n = read_next m w (count_of t) v.0 in
-    let i : u.exprs.count ≡ t.exprs.count + length (exprs_of (bit_expression m (Wire w) (count_of t)).events) = ap (λ (c : Count). c.exprs) v.1 in
-    let j : e ≡ t.exprs.count = n.0 in
-    let k : length (exprs_of (bit_expression m (Wire w) (count_of t)).events) ≡ 1 = n.1 in
-    let c : u.exprs.count ≡ suc e = omega arith in
-    subst (λ (x : List ℕ). Once l t f table (bit_expression m (Wire w) >>= λ e. pure (with_seen e (noted (seen_of f table) w e))) (Done e u) l₁ x) (sym is)
-    (record {
-      wrote = then_done g (λ e. pure (with_seen e (noted (seen_of f table) w e))) refl (subst (λ (s : Seen). Wrote l₁ u (pure (with_seen e (noted (seen_of f table) w e))) (Done (with_seen e s) u) l₁) (sym (seen_noted f table w e u.exprs.count (omega arith) c)) wrote_pure);
-      leaves = noted_ages f u.exprs.count w table (omega arith);
-    })
+-- a read that is new
+module _ (m : Wires) (w : ℕ) {e e₁ e₂ : Emitter} {x : ℕ} (begun : e.first ≤ e.recorder.now.exprs.tape.count) (h : Plain e (bit_expression m (Wire w)) (ok x) e₁) (note : Notes w e₁ e₂) where
+  abbrev rest : ℕ → Writer (Reading ℕ)
+  rest y = pure (with_seen y (noted (seen_in e) w y))
 
--- the same number of the first expression
-pub once_moved : {A : Type 0} (w : Seen → Writer (Reading A)) {f g : ℕ} → f ≡ g → {e : List ℕ} {t : Tapes} {table : List ℕ} {r : Answer A} {e' table' : List ℕ} → OnceAt e t f table w r e' table' → OnceAt e t g table w r e' table'
-once_moved w q {e} {t} {table} {r} {e'} {table'} h = subst (λ (k : ℕ). OnceAt e t k table w r e' table') q h
+  abbrev whole : Writer (Reading ℕ)
+  whole = bit_expression m (Wire w) >>= rest
+
+  pub once_noted : Once e whole (ok x) e₂
+  once_noted =
+      let v = writes_value h.wrote in
+      let n = read_next m w (count_of (tapes_in e.recorder.now)) v.0 in
+      let i : e₁.recorder.now.exprs.tape.count ≡ e.recorder.now.exprs.tape.count + length (exprs_of (bit_expression m (Wire w) (count_of (tapes_in e.recorder.now))).events) = ap (λ (c : Count). c.exprs) v.1 in
+      let j : x ≡ e.recorder.now.exprs.tape.count = n.0 in
+      let k : length (exprs_of (bit_expression m (Wire w) (count_of (tapes_in e.recorder.now))).events) ≡ 1 = n.1 in
+      let c : e₁.recorder.now.exprs.tape.count ≡ suc x = omega arith in
+      let z : e₂.seen.now ≡ set e.seen.now w e₁.recorder.now.exprs.tape.count = note.table ∙ ap (λ (l : List ℕ). set l w e₁.recorder.now.exprs.tape.count) h.table in
+      let f : e₂.first ≡ e.first = note.same.first ∙ h.same.first in
+      let s : seen_in e₂ ≡ noted (seen_in e) w x = (λ t. seen_of (f t) (z t)) ∙ seen_noted e.first e.seen.now w x e₁.recorder.now.exprs.tape.count (omega arith) c in
+      record {
+        same = same_cell h.same note.same;
+        wrote = subst (λ r. Writes e.recorder.now whole (ok (with_seen x (seen_in e₂))) r) (sym note.recorder)
+          (writes_then h.wrote rest refl (writes_as (ap (λ (y : Seen). pure (with_seen x y)) (sym s)) writes_pure));
+        leaves = subst (λ (l : List ℕ). Aged e.first e₂.recorder.now.exprs.tape.count e.seen.now l) (sym z)
+          (subst (λ (y : ℕ). Aged e.first y e.seen.now (set e.seen.now w e₁.recorder.now.exprs.tape.count)) (sym (ap (λ r. r.exprs.tape.count) note.recorder)) (noted_ages e.first e₁.recorder.now.exprs.tape.count w e.seen.now (omega arith)));
+      }
 
 -- outside of cells: a vector that is read with nothing shared
-pub forgot : (n : ℕ) (work : List ℕ) (w : Writer (Reading ℕ)) {l : Lists} {t : Tapes} {f : ℕ} {table : List ℕ} {r : Answer ℕ} {l' : Lists} {table' : List ℕ} → Once l t f table (roomy n work w) r l' table' → Wrote l t (roomy n work (forgetting w)) r l'
+pub forgot : (n : ℕ) (work : List ℕ) (w : Writer (Reading ℕ)) {e : Emitter} (r : End ℕ) {e' : Emitter} → Once e (roomy n work w) r e' → Writes e.recorder.now (roomy n work (forgetting w)) r e'.recorder.now
 unfolding roomy
-forgot n work w {l} {t} {f} {table} {r} {l'} {table'} h = go (leb n (length work)) h
+forgot n work w {e} r {e'} h = go (leb n (length work)) h
   where
-    go : (b : Bool) → Once l t f table (pick b w (refuse 1 n)) r l' table' → Wrote l t (pick b (forgetting w) (refuse 1 n)) r l'
-    go true h = once_forget h
-    go false h = wrote_as (sym (bind_refuse 1 n (λ x. pure x.value))) (once_forget h)
+    go : (b : Bool) → Once e (pick b w (refuse 1 n)) r e' → Writes e.recorder.now (pick b (forgetting w) (refuse 1 n)) r e'.recorder.now
+    go true h = once_forget r h
+    go false h = writes_as (sym (bind_refuse 1 n (λ x. pure x.value))) (once_forget r h)

@@ -1,49 +1,72 @@
 -- A loop that reads a vector, the highest bit first: what it has done and what is left.
-use mathlib.Core.Path.{◌≡◌, ap, sym, ◌∙◌, subst}
+use mathlib.Core.Path.{◌≡◌, refl, ap, sym, ◌∙◌, subst}
 use mathlib.Core.List.{List, [], ◌∷◌, ◌++◌}
-use Prim.Native.Nat.{ℕ, ◌+◌, ◌-◌, ◌≤◌}
+use Prim.Native.Nat.{ℕ, ◌+◌, ◌-◌, ◌≤◌, ◌<◌}
+use native.Mathlib.Omega.{arith}
 use lib.ListN.{length, take, set}
+use lib.Seq.{take-suc-set, take-append_seam}
+use native.Mathlib.Numerals.{add-one}
+use Rattle.std.proofs.lemmas.List.{take-append-le}
+use Rattle.std.specs.Prelude.{Result, IsErrAnd}
+use Rattle.refusal.specs.declared.Refusal.{Refusal}
+use Rattle.refusal.specs.Refusal.{number_of, place_of}
 use Rattle.netlist.specs.declared.Bit.{Bit}
-use Rattle.recorder.specs.declared.Tapes.{Tapes}
-use Rattle.recorder.specs.Writer.{Writer, ◌>>=◌}
-use Rattle.recorder.specs.Lists.{lists, WroteExprs, Answer, Answer.Done, Answer.Failed}
-use Rattle.wires.specs.Wires.{Wires}
+use Rattle.recorder.specs.Calls.{ended}
+use Rattle.recorder.specs.Writer.{Writer, End, End.ok, End.no, ◌>>=◌}
+use Rattle.recorder.proofs.Calls.{handed}
+use Rattle.wires.specs.declared.Emitter.{Emitter}
+use Rattle.wires.specs.Wires.{Wires, wires_in}
 use Rattle.wires.specs.Seen.{Reading, keeping}
-use Rattle.wires.specs.Once.{seen_of, OnceAt}
+use Rattle.wires.specs.Once.{seen_in, Once, Plain}
 use Rattle.wires.specs.Expressions.{bit_once, vector_bit, vector_once, concat_parts, roomy}
-use Rattle.wires.proofs.Laws.{vector_left, vector_start, vector_more, vector_done, parts_step, parts_all, roomy_yes}
-use Rattle.wires.proofs.OnceLaws.{once_as, once_keep, GoingOnce, going_once, once_more, once_no_more}
+use Rattle.wires.proofs.Laws.{vector_left, vector_start, vector_more, vector_done, roomy_yes}
+use Rattle.wires.proofs.OnceLaws.{once_as, once_answer, plain_keep, GoingOnce, going_once, once_more, once_no_more}
 
--- left bits of end, from place at on, are still to read; the others stand in parts
-pub record Doing (m : Wires) (bits : List Bit) (at : ℕ) (first : ℕ) (seen₀ : List ℕ) (whole : Writer (Reading ℕ)) (end : ℕ) (e₀ : List ℕ) (t₀ : Tapes) (e : List ℕ) (seen : List ℕ) (t : Tapes) (left : ℕ) (parts : List ℕ) : Type 0 where
-  pub does : (s k : List ℕ) → GoingOnce (lists s e₀ k) t₀ first seen₀ whole (lists s e k) t seen (vector_left m (seen_of first seen) bits at left (take (end - left) parts))
+-- parts that were read, in a longer work
+pub taken : (parts rest : List ℕ) {n : ℕ} → length parts ≡ n → take n (parts ++ rest) ≡ take n parts
+taken parts rest {n} q = take-append-le n parts rest (omega (arith, q))
 
-module _ {m : Wires} {bits : List Bit} {at first : ℕ} {seen₀ : List ℕ} {whole : Writer (Reading ℕ)} {end : ℕ} {e₀ : List ℕ} {t₀ : Tapes} where
-  pub doing_start : (parts : List ℕ) → whole ≡ vector_once m (seen_of first seen₀) bits at end → Doing m bits at first seen₀ whole end e₀ t₀ e₀ seen₀ t₀ end parts
-  doing_start parts w = record { does = λ s k. going_once (w ∙ vector_start m bits at (seen_of first seen₀) end parts) }
+-- i of end bits, from place at on, have been read, the highest first, and stand in parts
+pub record Doing (m : Wires) (bits : List Bit) (at : ℕ) (whole : Writer (Reading ℕ)) (end : ℕ) (e₀ e : Emitter) (i : ℕ) (parts : List ℕ) : Type 0 where
+  pub does : GoingOnce e₀ whole e (vector_left m (seen_in e) bits at (end - i) (take i parts))
+  pub map : e.map ≡ e₀.map
 
-  module _ {e seen : List ℕ} {t : Tapes} {left : ℕ} {parts : List ℕ} (doing : Doing m bits at first seen₀ whole end e₀ t₀ e seen t left parts) where
-    module _ (some : 1 ≤ left) (i : ℕ) (here : i ≡ at + (left - 1)) {bit : Bit} (is : bit ≡ vector_bit bits i) {a : Answer ℕ} {e₁ seen₁ : List ℕ} (h : OnceAt e t first seen (λ x. bit_once m x bit) a e₁ seen₁) where
+module _ {m : Wires} {bits : List Bit} {at : ℕ} {whole : Writer (Reading ℕ)} {end : ℕ} {e₀ : Emitter} where
+  pub doing_start : (parts : List ℕ) → whole ≡ vector_once m (seen_in e₀) bits at end → Doing m bits at whole end e₀ e₀ 0 parts
+  doing_start parts w = record { does = going_once (w ∙ vector_start m bits at (seen_in e₀) end parts); map = refl }
+
+  module _ {e : Emitter} {i : ℕ} {parts : List ℕ} (doing : Doing m bits at whole end e₀ e i parts) where
+    module _ (is_map : m ≡ wires_in e₀.map) (more : i < end) (j : ℕ) (here : j ≡ at + (end - 1 - i)) {bit : Bit} (is : bit ≡ vector_bit bits j) where
       abbrev next : Reading ℕ → Writer (Reading ℕ)
-      next r = vector_left m r.seen bits at (left - 1) (take (end - left) parts ++ (r.value ∷ []))
+      next r = vector_left m r.seen bits at (end - (i + 1)) (take i parts ++ (r.value ∷ []))
 
-      more : vector_left m (seen_of first seen) bits at left (take (end - left) parts) ≡ (bit_once m (seen_of first seen) bit >>= next)
-      more = vector_more m bits at (seen_of first seen) left (take (end - left) parts) some ∙ ap (λ (b : Bit). bit_once m (seen_of first seen) b >>= next) (sym (is ∙ ap (λ (j : ℕ). vector_bit bits j) here))
+      map_is : m ≡ wires_in e.map
+      map_is = is_map ∙ sym (ap wires_in doing.map)
 
-      pub doing_step : left ≤ end → end ≤ length parts → {x : ℕ} {u : Tapes} → a ≡ Done x u → Doing m bits at first seen₀ whole end e₀ t₀ e₁ seen₁ u (left - 1) (set parts (end - 1 - (left - 1)) x)
-      doing_step g room {x} {u} d = record {
-        does = λ s k.
-            subst (λ (l : List ℕ). GoingOnce (lists s e₀ k) t₀ first seen₀ whole (lists s e₁ k) u seen₁ (vector_left m (seen_of first seen₁) bits at (left - 1) l)) (sym (parts_step parts end left x room g some))
-            (once_more next (doing.does s k) more (h s k) d);
+      begins : vector_left m (seen_in e) bits at (end - i) (take i parts) ≡ (bit_once (wires_in e.map) (seen_in e) bit >>= next)
+      begins =
+          let k : end - i - 1 ≡ end - (i + 1) = omega arith in
+          let h : at + (end - i - 1) ≡ j = omega (arith, here) in
+          vector_more m bits at (seen_in e) (end - i) (take i parts) (omega arith)
+          ∙ ap (λ (n : ℕ). bit_once m (seen_in e) (vector_bit bits (at + (end - i - 1))) >>= λ r. vector_left m r.seen bits at n (take i parts ++ (r.value ∷ []))) k
+          ∙ ap (λ (b : Bit). bit_once m (seen_in e) b >>= next) (ap (vector_bit bits) h ∙ sym is)
+          ∙ ap (λ (w : Wires). bit_once w (seen_in e) bit >>= next) map_is
+
+      pub doing_step : i < length parts → {x : ℕ} {e₁ : Emitter} → Once e (bit_once (wires_in e.map) (seen_in e) bit) (ok x) e₁ → Doing m bits at whole end e₀ e₁ (i + 1) (set parts i x)
+      doing_step room {x} {e₁} h = record {
+        does = subst (λ (l : List ℕ). GoingOnce e₀ whole e₁ (vector_left m (seen_in e₁) bits at (end - (i + 1)) l)) (sym (ap (λ (n : ℕ). take n (set parts i x)) (add-one i) ∙ take-suc-set parts i x room)) (once_more next doing.does begins h);
+        map = h.same.map ∙ doing.map;
       }
 
-      pub doing_stop : {number place : ℕ} → a ≡ Failed number place → OnceAt e₀ t₀ first seen₀ (λ x. whole) a e₁ seen₁
-      doing_stop d s k = once_no_more next (doing.does s k) more (h s k) d d
+      pub doing_err : {C : Type 0} (f : C → ℕ) (q : Result C Refusal) (x : Refusal) → IsErrAnd q (λ y. y ≡ x) → {e₁ : Emitter} → Once e (bit_once (wires_in e.map) (seen_in e) bit) (no (number_of x) (place_of x)) e₁ → Once e₀ whole (ended f q) e₁
+      doing_err f q x r h = once_answer (handed f q x r) (once_no_more next doing.does begins h)
 
-    pub doing_end : {n : ℕ} → left ≡ 0 → end ≡ n → n ≤ length parts → {a : Answer ℕ} {e₁ : List ℕ} → WroteExprs e t (roomy n parts (concat_parts (take n parts))) a e₁ → OnceAt e₀ t₀ first seen₀ (λ x. whole) a e₁ seen
-    doing_end {n} z q room {a} {e₁} h s k =
-        (doing.does s k).ends a (lists s e₁ k) seen
+    pub doing_end : (parts' : List ℕ) (n : ℕ) → i ≡ end → end ≡ n → n ≤ length parts' → take n parts' ≡ take n parts → {r : End ℕ} {e₁ : Emitter} → Plain e (roomy n parts' (concat_parts (take n parts'))) r e₁ → Once e₀ whole r e₁
+    doing_end parts' n z q room p {r} {e₁} h =
+        let y : end - i ≡ 0 = omega arith in
+        doing.does.ends r e₁
         (once_as
-        (vector_done m bits at (seen_of first seen) (take (end - left) parts) z ∙ ap (λ (l : List ℕ). keeping (seen_of first seen) (concat_parts l)) (parts_all parts end left z ∙ ap (λ (i : ℕ). take i parts) q)
-        ∙ ap (keeping (seen_of first seen)) (sym (roomy_yes n parts (concat_parts (take n parts)) room)))
-        (once_keep (h s k)))
+        (vector_done m bits at (seen_in e) (take i parts) y
+        ∙ ap (λ (l : List ℕ). keeping (seen_in e) (concat_parts l)) (ap (λ (k : ℕ). take k parts) (z ∙ q) ∙ sym p)
+        ∙ ap (keeping (seen_in e)) (sym (roomy_yes n parts' (concat_parts (take n parts')) room)))
+        (plain_keep refl h))

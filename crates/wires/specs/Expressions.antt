@@ -2,16 +2,17 @@
 use Rattle.std.specs.Prelude.{Bool, ◌&&◌, List, [], ◌∷◌, ◌++◌, ◌≡◌, ℕ, zero, suc, ◌+◌, eqb, leb, length, get_or}
 use Rattle.std.specs.Prelude.{Option, None, Some}
 use Rattle.bits.specs.Bits.{pick}
-use Rattle.refusal.specs.Refusal.{number_of, place_of}
+use Rattle.std.specs.Prelude.{Result}
+use Rattle.refusal.specs.declared.Refusal.{Refusal}
+use Rattle.recorder.specs.Calls.{ended}
 use Rattle.netlist.specs.declared.Bit.{Bit}
 use Rattle.netlist.specs.declared.Bit.TheVariants.{Zero, One, Wire}
 use Rattle.netlist.specs.declared.Control.{Control}
 use Rattle.recorder.specs.Record.{Expr.read, Expr.concat, Expr.not as complement, Stmt.assign}
 use Rattle.recorder.specs.Writer.{Count, End, End.ok, End.no, Writer, pure, refuse, emit, state, ◌>>=◌}
 use Rattle.wires.specs.declared.Constants.{Constants}
-use Rattle.wires.specs.declared.Controlled.{Controlled}
-use Rattle.wires.specs.declared.Controlled.TheVariants.{Signal, Refused}
-use Rattle.wires.specs.Wires.{WireRef, Wires}
+use Rattle.wires.specs.declared.WireRef as code
+use Rattle.wires.specs.Wires.{WireRef, Wires, ref_in}
 use Rattle.wires.specs.Seen.{Seen, standing, noted, Reading, with_seen, keeping, forgetting}
 
 abbrev pub ref_of : Option WireRef → ℕ → Writer WireRef
@@ -123,13 +124,10 @@ assign_wire m w e = do
 unfoldable pub roomy : {A : Type 0} → ℕ → List ℕ → Writer A → Writer A
 roomy n work w = pick (leb n (length work)) w (refuse 1 n)
 
--- ---- the code's answers
+-- ---- a call that adds no record: its end says all
 
--- what a control's signal is, or its refusal
-abbrev pub controlled : Controlled → End ℕ
-controlled (Signal s) = ok s.0
-controlled (Refused x) = no (number_of x) (place_of x)
+pub record Reads {A : Type 0} (w : Writer A) (r : End A) : Type 0 where
+  pub reads : (n : Count) → w n ≡ record { events = []; end = r }
 
--- it adds no record: its end says all
-pub record Reads (w : Writer ℕ) (r : Controlled) : Type 0 where
-  pub reads : (n : Count) → w n ≡ record { events = []; end = controlled r }
+abbrev pub referred : Result code.WireRef Refusal → End WireRef
+referred r = ended ref_in r

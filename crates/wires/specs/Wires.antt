@@ -2,8 +2,9 @@
 use Rattle.std.specs.Prelude.{List, ℕ, zero, suc, ◌/◌, ◌%◌, eqb, get_or}
 use Rattle.std.specs.Prelude.{Option, None, Some}
 use Rattle.bits.specs.Bits.{pick}
-use Rattle.wires.specs.declared.Found.{Found}
-use Rattle.wires.specs.declared.Found.TheVariants.{At, Missing}
+use Rattle.std.specs.Prelude.{option_map}
+use Rattle.wires.specs.declared.WireMap.{WireMap}
+use Rattle.wires.specs.declared.WireRef as code
 
 -- where a wire's bit is: the signal, the bit's place in it, the signal's width
 pub record WireRef : Type 0 where
@@ -28,7 +29,13 @@ entry (suc s) p = Some (record { signal = s; lsb = p / 65536; width = p % 65536 
 unfoldable pub wires_of : List ℕ → List ℕ → Wires
 wires_of wires places w = entry (get_or wires w 0) (get_or places w 0)
 
--- what the code finds
-abbrev pub found_of : Found → Option WireRef
-found_of (At r) = Some (record { signal = r.signal.0; lsb = r.lsb; width = r.width })
-found_of Missing = None
+-- the wire map that the code holds
+abbrev pub wires_in : WireMap → Wires
+wires_in m = wires_of m.wires.now m.places.now
+
+-- what the code finds there
+abbrev pub ref_in : code.WireRef → WireRef
+ref_in r = record { signal = r.signal.0; lsb = r.lsb; width = r.width }
+
+abbrev pub found_in : Option code.WireRef → Option WireRef
+found_in r = option_map ref_in r

@@ -2,37 +2,45 @@
 
 #![tactic(auto)]
 
-pub mod expressions;
-pub mod map;
-pub mod once;
+pub mod emit; // emit.rt: what a cell records besides its reads
+pub mod once; // once.rt: what a cell reads, each wire once
+pub mod expressions; // expressions.rt: vectors
+pub mod map; // map.rt: what the wire map holds, read outside of cells
 
-use recorder::SignalId;
-use refusal::Refusal;
+ghost use Rattle.std.specs.Prelude.{◌≤◌};
+
+use recorder::{Recorder, SignalId};
 
 // Where a wire's bit is.
-#[derive(Clone, Copy)]
+#[derive(Clone, Copy, Debug, PartialEq, Eq)]
 pub struct WireRef {
     pub signal: SignalId,
     pub lsb: u32,
     pub width: u32,
 }
 
-#[derive(Clone, Copy)]
-pub enum Found {
-    At(WireRef),
-    Missing,
-}
-
 // The signals of the constants.
-#[derive(Clone, Copy)]
+#[derive(Clone, Copy, Debug, PartialEq, Eq)]
 pub struct Constants {
     pub zero: SignalId,
     pub one: SignalId,
 }
 
-// The signal of a control.
+// The wire map in two tables, by wire: the signal's number plus 1, or 0; and the bit's place in it times 65,536 plus its width.
 #[derive(Clone, Copy)]
-pub enum Controlled {
-    Signal(SignalId),
-    Refused(Refusal),
+pub struct WireMap<'a> {
+    pub wires: &'a [u32],
+    pub places: &'a [u32],
+    pub constants: Constants,
+}
+
+// What a cell is recorded with. The table `seen` holds for each wire the number plus 1 of the expression that read it last; it counts
+// if it is above `first`, the number of the cell's first expression, so that nothing has to be cleared between cells.
+#[derive(Drop)]
+pub struct Emitter<'a, 'b> {
+    pub recorder: &'a mut Recorder<'b>,
+    pub seen: &'a mut [u32],
+    pub first: u32,
+    pub map: WireMap<'a>,
+    ghost begun: { first ≤ recorder.now.exprs.tape.count },
 }

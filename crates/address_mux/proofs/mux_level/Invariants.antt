@@ -1,13 +1,10 @@
-use Rattle.std.proofs.Common.{◌≡◌, ◌≤◌, ◌-◌, ◌+◌, length, []}
+use Rattle.std.proofs.Common.{◌≤◌, length, []}
 use Rattle.address_mux.specs.AddressMux.{mux_level}
-use Rattle.address_mux.specs.Candidates.{nodes_from}
+use Rattle.address_mux.specs.Candidates.{candidates_in, SameWorks}
 use Rattle.address_mux.proofs.Levels.{Levelling}
 use Rattle.address_mux.proofs.mux_level.Given as goal
 
-abbrev pub invariant-loop-i : goal.invariant-loop-i
-invariant-loop-i l =
-    (l.at + l.at ≡ l.i) × (l.i ≤ l.n) × (l.n ≤ length l.parts) × (l.n ≤ length l.values)
-    × Levelling l.width l.n (mux_level l.width (nodes_from l.initial.parts l.initial.values 0 l.n) []) l.initial.exprs l.initial.now l.exprs l.now l.parts l.values l.at l.i
-
-abbrev pub decreases-loop-i : goal.decreases-loop-i
-decreases-loop-i l = l.n - l.i
+abbrev pub invariant-loop-at : goal.invariant-loop-at
+invariant-loop-at l =
+    (l.n ≤ length l.works.parts.now) × (l.n ≤ length l.works.values.now) × SameWorks l.fn.works l.works
+    × Levelling l.width l.n (mux_level l.width (candidates_in l.fn.works l.n) []) l.fn.recorder l.recorder l.works l.at

@@ -1,9 +1,8 @@
-use Rattle.std.proofs.Common.{◌∙◌}
+use Rattle.std.proofs.Common.{sym, ◌∙◌, arith}
 use Rattle.reader.proofs.SectionLaws.{answers}
 use Rattle.reader.proofs.check.Goals as goal
 
--- src/lib.rt:61:9
-pub returns-then-trailer_fits : goal.returns-then-trailer_fits
-returns-then-trailer_fits c =
+pub returns : goal.returns
+returns c =
     let a = c.args in
-    answers a.limits a.words.now c.if-n-lt4.false _ _ _ _ c.word-zero.ensures c.word-ports.ensures (c.wide-start.ensures ∙ c.word.ensures) c.word-cells.ensures _ c.trailer_fits.ensures c.if-trailer_fits.true c.check_sections.result c.check_sections.ensures
+    answers a.limits a.words.now c.in-Some.end _ _ _ _ (grind arith) c.word-4.ensures c.word.ensures c.word-2.ensures c.word-3.ensures (sym c.trailer_fits.ensures ∙ c.if-not-trailer_fits.false) _ c.check_sections.ensures

@@ -1,13 +1,12 @@
-use Rattle.std.proofs.Common.{ap}
-use Rattle.recorder.proofs.Wrote.{then_done, then_same}
-use Rattle.recorder.specs.Lists.{emitted}
+use Rattle.std.proofs.Common.{refl}
+use Rattle.recorder.proofs.Calls.{writes_then, writes_err}
 use Rattle.address_mux.specs.Address.{match_address}
 use Rattle.address_mux.proofs.address.match_address.Goals as goal
 
-pub returns-in_default : goal.returns-in_default
+pub returns-in_err-k : goal.returns-in_err-k
 unfolding match_address
-returns-in_default c = λ s m. then_same (c.constant-r.ensures s m) _ (ap emitted c.in_default.is)
+returns-in_err-k c = writes_err c.in_err-k.ensures _ _ c.from_residual.result _ refl c.from_residual.ensures.1
 
 pub returns : goal.returns
 unfolding match_address
-returns c = λ s m. then_done (c.constant-r.ensures s m) _ (ap emitted c.in-Done.is) (c.equal.ensures s m)
+returns c = writes_then c.in_ok-k.ensures _ refl c.equal.ensures

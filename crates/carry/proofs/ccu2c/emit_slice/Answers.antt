@@ -1,45 +1,73 @@
-use Rattle.std.proofs.Common.{ap, []}
-use Rattle.cells.proofs.Laws.{changed_failed, row_from}
-use Rattle.cells.specs.Answers.{first, nought, read_of}
-use Rattle.recorder.specs.Lists.{emitted, stated}
-use Rattle.wires.specs.Wires.{wires_of}
-use Rattle.wires.specs.Once.{seen_of, begun}
-use Rattle.wires.proofs.OnceLaws.{once_as, once_done, once_stop, once_then, once_failed, once_keep, once_growing, failed_grows}
-use Rattle.std.proofs.Common.{refl}
+use Rattle.std.proofs.Common.{sym, ◌∙◌, refl}
+use Rattle.wires.proofs.OnceLaws.{once_then, once_err, plain_then, plain_err, plain_keep, seen_plain, once_as, plain_as}
+use Rattle.wires.proofs.OnMap.{map_on, bits_on, assign_on}
+use Rattle.wires.specs.Wires.{wires_in}
+use Rattle.wires.specs.Once.{seen_in}
+use Rattle.cells.proofs.Laws.{row_from, two_inputs}
 use Rattle.carry.proofs.ccu2c.emit_slice.Goals as goal
 
-pub returns-in_default-clause-wrote : goal.returns-in_default-clause-wrote
-returns-in_default-clause-wrote c = λ f q s. once_as (row_from (wires_of c.args.wires.now c.args.places.now) (seen_of f c.args.seen.now) c.args.inputs c.args.init c.args.inject c.args.sum c.args.carry.0 c.gated_carry-gated.ensures) (once_stop (c.read4-r.ensures.wrote f q s _) _ (ap read_of c.in_default.is) (changed_failed first c.stopped_read.ensures (ap read_of c.in_default.is)))
+pub returns-in_err-ids : goal.returns-in_err-ids
+returns-in_err-ids c =
+    let q0 = refl in
+    once_as (row_from (wires_in c.args.emitter.now.map) (seen_in c.args.emitter.now) c.args.inputs c.args.init c.args.inject c.args.sum c.args.carry.0 c.gated_carry-gated.ensures)
+    (once_err _ c.from_residual.result _ c.from_residual.ensures.1 (bits_on q0 _ _ c.in_err-ids.ensures) _)
 
-pub returns-in_default-clause-grows : goal.returns-in_default-clause-grows
-returns-in_default-clause-grows c = failed_grows c.args.t (changed_failed first c.stopped_read.ensures (ap read_of c.in_default.is))
+pub returns-in_err-lut4 : goal.returns-in_err-lut4
+returns-in_err-lut4 c =
+    let q0 = refl in
+    let q1 = map_on q0 c.in_ok-ids.ensures.same in
+    once_as (row_from (wires_in c.args.emitter.now.map) (seen_in c.args.emitter.now) c.args.inputs c.args.init c.args.inject c.args.sum c.args.carry.0 c.gated_carry-gated.ensures)
+    (once_then (bits_on q0 _ _ c.in_ok-ids.ensures) _
+    (plain_err _ c.from_residual-in_err-lut4.result _ c.from_residual-in_err-lut4.ensures.1 c.in_err-lut4.ensures _))
 
-pub returns-in_default-r2-clause-wrote : goal.returns-in_default-r2-clause-wrote
-returns-in_default-r2-clause-wrote c = λ f q s. once_as (row_from (wires_of c.args.wires.now c.args.places.now) (seen_of f c.args.seen.now) c.args.inputs c.args.init c.args.inject c.args.sum c.args.carry.0 c.gated_carry-gated.ensures) (once_done (c.read4-r.ensures.wrote f q s _) _ (ap read_of c.in-Done.is) (once_failed (c.lut_expression-r2.ensures s _) _ (ap emitted c.in_default-r2.is) (ap emitted c.in_default-r2.is)))
+pub returns-in_err-lut2 : goal.returns-in_err-lut2
+returns-in_err-lut2 c =
+    let q0 = refl in
+    let q1 = map_on q0 c.in_ok-ids.ensures.same in
+    let q2 = map_on q1 c.in_ok-lut4.ensures.same in
+    once_as (row_from (wires_in c.args.emitter.now.map) (seen_in c.args.emitter.now) c.args.inputs c.args.init c.args.inject c.args.sum c.args.carry.0 c.gated_carry-gated.ensures)
+    (once_then (bits_on q0 _ _ c.in_ok-ids.ensures) _
+    (plain_then c.in_ok-lut4.ensures _
+    (plain_err _ c.from_residual-in_err-lut2.result _ c.from_residual-in_err-lut2.ensures.1 (plain_as (two_inputs c.in_ok-ids.ids c.args.init) c.in_err-lut2.ensures) _)))
 
-pub returns-in_default-r2-clause-grows : goal.returns-in_default-r2-clause-grows
-returns-in_default-r2-clause-grows c = failed_grows c.args.t (ap emitted c.in_default-r2.is)
+pub returns-in_err-value : goal.returns-in_err-value
+returns-in_err-value c =
+    let q0 = refl in
+    let q1 = map_on q0 c.in_ok-ids.ensures.same in
+    let q2 = map_on q1 c.in_ok-lut4.ensures.same in
+    let q3 = map_on q2 c.in_ok-lut2.ensures.same in
+    once_as (row_from (wires_in c.args.emitter.now.map) (seen_in c.args.emitter.now) c.args.inputs c.args.init c.args.inject c.args.sum c.args.carry.0 c.gated_carry-gated.ensures)
+    (once_then (bits_on q0 _ _ c.in_ok-ids.ensures) _
+    (plain_then c.in_ok-lut4.ensures _
+    (plain_then (plain_as (two_inputs c.in_ok-ids.ids c.args.init) c.in_ok-lut2.ensures) _
+    (plain_err _ c.from_residual-in_err-value.result _ c.from_residual-in_err-value.ensures.1 c.in_err-value.ensures _))))
 
-pub returns-in_default-r3-clause-wrote : goal.returns-in_default-r3-clause-wrote
-returns-in_default-r3-clause-wrote c = λ f q s. once_as (row_from (wires_of c.args.wires.now c.args.places.now) (seen_of f c.args.seen.now) c.args.inputs c.args.init c.args.inject c.args.sum c.args.carry.0 c.gated_carry-gated.ensures) (once_done (c.read4-r.ensures.wrote f q s _) _ (ap read_of c.in-Done.is) (once_then (c.lut_expression-r2.ensures s _) _ (ap emitted c.in-Done-r2.is) (once_failed (c.lut_expression-r3.ensures s _) _ (ap emitted c.in_default-r3.is) (ap emitted c.in_default-r3.is))))
+pub returns-in_err-assign_wire : goal.returns-in_err-assign_wire
+returns-in_err-assign_wire c =
+    let q0 = refl in
+    let q1 = map_on q0 c.in_ok-ids.ensures.same in
+    let q2 = map_on q1 c.in_ok-lut4.ensures.same in
+    let q3 = map_on q2 c.in_ok-lut2.ensures.same in
+    let q4 = map_on q3 c.in_ok-value.ensures.same in
+    once_as (row_from (wires_in c.args.emitter.now.map) (seen_in c.args.emitter.now) c.args.inputs c.args.init c.args.inject c.args.sum c.args.carry.0 c.gated_carry-gated.ensures)
+    (once_then (bits_on q0 _ _ c.in_ok-ids.ensures) _
+    (plain_then c.in_ok-lut4.ensures _
+    (plain_then (plain_as (two_inputs c.in_ok-ids.ids c.args.init) c.in_ok-lut2.ensures) _
+    (plain_then c.in_ok-value.ensures _
+    (plain_err _ c.from_residual-in_err-assign_wire.result _ c.from_residual-in_err-assign_wire.ensures.1 (assign_on q4 _ _ c.in_err-assign_wire.ensures) _)))))
 
-pub returns-in_default-r3-clause-grows : goal.returns-in_default-r3-clause-grows
-returns-in_default-r3-clause-grows c = failed_grows c.args.t (ap emitted c.in_default-r3.is)
-
-pub returns-in_default-r4-clause-wrote : goal.returns-in_default-r4-clause-wrote
-returns-in_default-r4-clause-wrote c = λ f q s. once_as (row_from (wires_of c.args.wires.now c.args.places.now) (seen_of f c.args.seen.now) c.args.inputs c.args.init c.args.inject c.args.sum c.args.carry.0 c.gated_carry-gated.ensures) (once_done (c.read4-r.ensures.wrote f q s _) _ (ap read_of c.in-Done.is) (once_then (c.lut_expression-r2.ensures s _) _ (ap emitted c.in-Done-r2.is) (once_then (c.lut_expression-r3.ensures s _) _ (ap emitted c.in-Done-r3.is) (once_failed (c.xor-r4.ensures s _) _ (ap emitted c.in_default-r4.is) (ap emitted c.in_default-r4.is)))))
-
-pub returns-in_default-r4-clause-grows : goal.returns-in_default-r4-clause-grows
-returns-in_default-r4-clause-grows c = failed_grows c.args.t (ap emitted c.in_default-r4.is)
-
-pub returns-in_default-r5-clause-wrote : goal.returns-in_default-r5-clause-wrote
-returns-in_default-r5-clause-wrote c = λ f q s. once_as (row_from (wires_of c.args.wires.now c.args.places.now) (seen_of f c.args.seen.now) c.args.inputs c.args.init c.args.inject c.args.sum c.args.carry.0 c.gated_carry-gated.ensures) (once_done (c.read4-r.ensures.wrote f q s _) _ (ap read_of c.in-Done.is) (once_then (c.lut_expression-r2.ensures s _) _ (ap emitted c.in-Done-r2.is) (once_then (c.lut_expression-r3.ensures s _) _ (ap emitted c.in-Done-r3.is) (once_then (c.xor-r4.ensures s _) _ (ap emitted c.in-Done-r4.is) (once_failed (c.assign_wire-r5.ensures s _) _ (ap stated c.in_default-r5.is) (changed_failed nought c.stopped_stated.ensures (ap stated c.in_default-r5.is)))))))
-
-pub returns-in_default-r5-clause-grows : goal.returns-in_default-r5-clause-grows
-returns-in_default-r5-clause-grows c = failed_grows c.args.t (changed_failed nought c.stopped_stated.ensures (ap stated c.in_default-r5.is))
-
-pub returns-clause-wrote : goal.returns-clause-wrote
-returns-clause-wrote c = λ f q s. once_as (row_from (wires_of c.args.wires.now c.args.places.now) (seen_of f c.args.seen.now) c.args.inputs c.args.init c.args.inject c.args.sum c.args.carry.0 c.gated_carry-gated.ensures) (once_done (c.read4-r.ensures.wrote f q s _) _ (ap read_of c.in-Done.is) (once_then (c.lut_expression-r2.ensures s _) _ (ap emitted c.in-Done-r2.is) (once_then (c.lut_expression-r3.ensures s _) _ (ap emitted c.in-Done-r3.is) (once_then (c.xor-r4.ensures s _) _ (ap emitted c.in-Done-r4.is) (once_then (c.assign_wire-r5.ensures s _) _ (ap stated c.in-Done-r5.is) (once_keep (c.mux.ensures s _)))))))
-
-pub returns-clause-grows : goal.returns-clause-grows
-returns-clause-grows c = once_growing (emitted c.mux.result) (returns-clause-wrote c (begun c.args.first c.args.t) refl [])
+pub returns : goal.returns
+returns c =
+    let q0 = refl in
+    let q1 = map_on q0 c.in_ok-ids.ensures.same in
+    let q2 = map_on q1 c.in_ok-lut4.ensures.same in
+    let q3 = map_on q2 c.in_ok-lut2.ensures.same in
+    let q4 = map_on q3 c.in_ok-value.ensures.same in
+    let q5 = map_on q4 c.in_ok-assign_wire.ensures.same in
+    once_as (row_from (wires_in c.args.emitter.now.map) (seen_in c.args.emitter.now) c.args.inputs c.args.init c.args.inject c.args.sum c.args.carry.0 c.gated_carry-gated.ensures)
+    (once_then (bits_on q0 _ _ c.in_ok-ids.ensures) _
+    (plain_then c.in_ok-lut4.ensures _
+    (plain_then (plain_as (two_inputs c.in_ok-ids.ids c.args.init) c.in_ok-lut2.ensures) _
+    (plain_then c.in_ok-value.ensures _
+    (plain_then (assign_on q4 _ _ c.in_ok-assign_wire.ensures) _
+    (plain_keep (sym (seen_plain c.in_ok-assign_wire.ensures ∙ seen_plain c.in_ok-value.ensures ∙ seen_plain c.in_ok-lut2.ensures ∙ seen_plain c.in_ok-lut4.ensures)) c.mux.ensures))))))

@@ -1,27 +1,60 @@
-use Rattle.std.proofs.Common.{ap, arith}
-use Rattle.cells.proofs.Laws.{changed_failed}
-use Rattle.cells.specs.Answers.{nothing}
-use Rattle.recorder.specs.Lists.{emitted}
-use Rattle.wires.proofs.OnceLaws.{once_done, once_stop, once_then, once_failed, once_keep, once_swept}
+use Rattle.std.proofs.Common.{sym, ◌∙◌, refl}
+use Rattle.wires.proofs.OnceLaws.{once_then, once_err, plain_then, plain_err, plain_keep, seen_plain}
+use Rattle.wires.proofs.OnMap.{map_begun, map_on, bit_on, assign_on}
 use Rattle.cells.specs.Cells.{emit_l6mux21}
 use Rattle.cells.proofs.emit.emit_l6mux21.Goals as goal
 
-pub returns-in_default-clause-wrote : goal.returns-in_default-clause-wrote
+pub returns-in_err-select : goal.returns-in_err-select
 unfolding emit_l6mux21
-returns-in_default-clause-wrote c = λ f q s. once_stop (c.bit_once-r.ensures.wrote f (omega arith) s _) _ (ap emitted c.in_default.is) (changed_failed nothing c.stopped.ensures (ap emitted c.in_default.is))
+returns-in_err-select c =
+    let q0 = map_begun c.begin.ensures in
+    record { start = c.begin.new.self; begins = c.begin.ensures; does =
+    once_err _ c.from_residual.result _ c.from_residual.ensures.1 (bit_on q0 _ c.in_err-select.ensures) _; }
 
-pub returns-in_default-r2-clause-wrote : goal.returns-in_default-r2-clause-wrote
+pub returns-in_err-zero : goal.returns-in_err-zero
 unfolding emit_l6mux21
-returns-in_default-r2-clause-wrote c = λ f q s. once_done (c.bit_once-r.ensures.wrote f (omega arith) s _) _ (ap emitted c.in-Done.is) (once_stop (c.bit_once-r2.ensures.wrote f (omega (arith, c.in-Done.ensures.grows)) s _) _ (ap emitted c.in_default-r2.is) (changed_failed nothing c.stopped-in_default-r2.ensures (ap emitted c.in_default-r2.is)))
+returns-in_err-zero c =
+    let q0 = map_begun c.begin.ensures in
+    let q1 = map_on q0 c.in_ok-select.ensures.same in
+    record { start = c.begin.new.self; begins = c.begin.ensures; does =
+    once_then (bit_on q0 _ c.in_ok-select.ensures) _
+    (once_err _ c.from_residual-in_err-zero.result _ c.from_residual-in_err-zero.ensures.1 (bit_on q1 _ c.in_err-zero.ensures) _); }
 
-pub returns-in_default-r3-clause-wrote : goal.returns-in_default-r3-clause-wrote
+pub returns-in_err-one : goal.returns-in_err-one
 unfolding emit_l6mux21
-returns-in_default-r3-clause-wrote c = λ f q s. once_done (c.bit_once-r.ensures.wrote f (omega arith) s _) _ (ap emitted c.in-Done.is) (once_done (c.bit_once-r2.ensures.wrote f (omega (arith, c.in-Done.ensures.grows)) s _) _ (ap emitted c.in-Done-r2.is) (once_stop (c.bit_once-r3.ensures.wrote f (omega (arith, c.in-Done.ensures.grows, c.in-Done-r2.ensures.grows)) s _) _ (ap emitted c.in_default-r3.is) (changed_failed nothing c.stopped-in_default-r3.ensures (ap emitted c.in_default-r3.is))))
+returns-in_err-one c =
+    let q0 = map_begun c.begin.ensures in
+    let q1 = map_on q0 c.in_ok-select.ensures.same in
+    let q2 = map_on q1 c.in_ok-zero.ensures.same in
+    record { start = c.begin.new.self; begins = c.begin.ensures; does =
+    once_then (bit_on q0 _ c.in_ok-select.ensures) _
+    (once_then (bit_on q1 _ c.in_ok-zero.ensures) _
+    (once_err _ c.from_residual-in_err-one.result _ c.from_residual-in_err-one.ensures.1 (bit_on q2 _ c.in_err-one.ensures) _)); }
 
-pub returns-in_default-r4-clause-wrote : goal.returns-in_default-r4-clause-wrote
+pub returns-in_err-value : goal.returns-in_err-value
 unfolding emit_l6mux21
-returns-in_default-r4-clause-wrote c = λ f q s. once_done (c.bit_once-r.ensures.wrote f (omega arith) s _) _ (ap emitted c.in-Done.is) (once_done (c.bit_once-r2.ensures.wrote f (omega (arith, c.in-Done.ensures.grows)) s _) _ (ap emitted c.in-Done-r2.is) (once_done (c.bit_once-r3.ensures.wrote f (omega (arith, c.in-Done.ensures.grows, c.in-Done-r2.ensures.grows)) s _) _ (ap emitted c.in-Done-r3.is) (once_failed (c.mux-r4.ensures s _) _ (ap emitted c.in_default-r4.is) (changed_failed nothing c.stopped-in_default-r4.ensures (ap emitted c.in_default-r4.is)))))
+returns-in_err-value c =
+    let q0 = map_begun c.begin.ensures in
+    let q1 = map_on q0 c.in_ok-select.ensures.same in
+    let q2 = map_on q1 c.in_ok-zero.ensures.same in
+    let q3 = map_on q2 c.in_ok-one.ensures.same in
+    record { start = c.begin.new.self; begins = c.begin.ensures; does =
+    once_then (bit_on q0 _ c.in_ok-select.ensures) _
+    (once_then (bit_on q1 _ c.in_ok-zero.ensures) _
+    (once_then (bit_on q2 _ c.in_ok-one.ensures) _
+    (plain_err _ c.from_residual-in_err-value.result _ c.from_residual-in_err-value.ensures.1 c.in_err-value.ensures _))); }
 
-pub returns-clause-wrote : goal.returns-clause-wrote
+pub returns : goal.returns
 unfolding emit_l6mux21
-returns-clause-wrote c = λ f q s. once_done (c.bit_once-r.ensures.wrote f (omega arith) s _) _ (ap emitted c.in-Done.is) (once_done (c.bit_once-r2.ensures.wrote f (omega (arith, c.in-Done.ensures.grows)) s _) _ (ap emitted c.in-Done-r2.is) (once_done (c.bit_once-r3.ensures.wrote f (omega (arith, c.in-Done.ensures.grows, c.in-Done-r2.ensures.grows)) s _) _ (ap emitted c.in-Done-r3.is) (once_then (c.mux-r4.ensures s _) _ (ap emitted c.in-Done-r4.is) (once_swept (once_keep (c.assign_wire-end.ensures s _)) c.sweep_cell.ensures))))
+returns c =
+    let q0 = map_begun c.begin.ensures in
+    let q1 = map_on q0 c.in_ok-select.ensures.same in
+    let q2 = map_on q1 c.in_ok-zero.ensures.same in
+    let q3 = map_on q2 c.in_ok-one.ensures.same in
+    let q4 = map_on q3 c.in_ok-value.ensures.same in
+    record { start = c.begin.new.self; begins = c.begin.ensures; does =
+    once_then (bit_on q0 _ c.in_ok-select.ensures) _
+    (once_then (bit_on q1 _ c.in_ok-zero.ensures) _
+    (once_then (bit_on q2 _ c.in_ok-one.ensures) _
+    (plain_then c.in_ok-value.ensures _
+    (plain_keep (sym (seen_plain c.in_ok-value.ensures)) (assign_on q4 _ _ c.assign_wire.ensures))))); }

@@ -1,15 +1,23 @@
-use Rattle.std.proofs.Common.{ap, refl}
+use Rattle.std.proofs.Common.{refl}
 use Rattle.clocking.proofs.Each.{jtagg_split}
-use Rattle.recorder.proofs.Wrote.{wrote_as, then_done, then_same}
-use Rattle.recorder.specs.Lists.{stated}
-use Rattle.wires.specs.Wires.{wires_of}
+use Rattle.recorder.proofs.Calls.{writes_as, writes_then, writes_err}
+use Rattle.wires.specs.Wires.{wires_in}
 use Rattle.clocking.proofs.jtagg.emit_idle_jtagg.Goals as goal
 
-pub returns-in_default : goal.returns-in_default
-returns-in_default c = λ s e. wrote_as (jtagg_split (wires_of c.args.wires.now c.args.places.now) c.args.words.now c.args.at refl) (then_same (c.assign_all-r.ensures s e) _ (ap stated c.in_default.is))
+pub returns-in_err-assign_all : goal.returns-in_err-assign_all
+returns-in_err-assign_all c =
+    writes_as (jtagg_split (wires_in c.args.map) c.args.fields.words.now c.args.fields.at refl)
+    (writes_err c.in_err-assign_all.ensures _ _ c.from_residual.result _ refl c.from_residual.ensures.1)
 
-pub returns-in_default-r2 : goal.returns-in_default-r2
-returns-in_default-r2 c = λ s e. wrote_as (jtagg_split (wires_of c.args.wires.now c.args.places.now) c.args.words.now c.args.at refl) (then_done (c.assign_all-r.ensures s e) _ (ap stated c.in-Done.is) (then_same (c.assign_all-r2.ensures s e) _ (ap stated c.in_default-r2.is)))
+pub returns-in_err-assign_all-2 : goal.returns-in_err-assign_all-2
+returns-in_err-assign_all-2 c =
+    writes_as (jtagg_split (wires_in c.args.map) c.args.fields.words.now c.args.fields.at refl)
+    (writes_then c.in_ok-assign_all.ensures _ refl
+    (writes_err c.in_err-assign_all-2.ensures _ _ c.from_residual-in_err-assign_all-2.result _ refl c.from_residual-in_err-assign_all-2.ensures.1))
 
 pub returns : goal.returns
-returns c = λ s e. wrote_as (jtagg_split (wires_of c.args.wires.now c.args.places.now) c.args.words.now c.args.at c.field-reset_n.ensures) (then_done (c.assign_all-r.ensures s e) _ (ap stated c.in-Done.is) (then_done (c.assign_all-r2.ensures s e) _ (ap stated c.in-Done-r2.is) (c.assign_wire.ensures s e)))
+returns c =
+    writes_as (jtagg_split (wires_in c.args.map) c.args.fields.words.now c.args.fields.at c.word.ensures)
+    (writes_then c.in_ok-assign_all.ensures _ refl
+    (writes_then c.in_ok-assign_all-2.ensures _ refl
+    (c.assign_wire.ensures)))

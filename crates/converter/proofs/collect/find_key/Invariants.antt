@@ -1,9 +1,6 @@
-use Rattle.std.proofs.Common.{◌≡◌, ◌≤◌, ◌+◌, ◌-◌}
+use Rattle.std.proofs.Common.{◌≡◌, ◌+◌, ◌-◌}
 use Rattle.converter.specs.Banked.{key_is, first_with}
 use Rattle.converter.proofs.collect.find_key.Given as goal
 
 abbrev pub invariant-loop-i : goal.invariant-loop-i
-invariant-loop-i l = (l.i ≤ l.count) × (l.i + first_with (λ j. key_is l.parts l.values j l.a l.b) (l.count - l.i) l.i ≡ first_with (λ j. key_is l.parts l.values j l.a l.b) l.count 0)
-
-abbrev pub decreases-loop-i : goal.decreases-loop-i
-decreases-loop-i l = l.count - l.i
+invariant-loop-i l = l.i + first_with (λ j. key_is l.parts l.values j l.a l.b) (l.count - l.i) l.i ≡ first_with (λ j. key_is l.parts l.values j l.a l.b) l.count 0

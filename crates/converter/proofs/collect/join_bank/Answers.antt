@@ -1,15 +1,32 @@
-use Rattle.std.proofs.Common.{arith}
-use Rattle.converter.proofs.Keys.{join_none, fit, clock_is, bank_small, join_there, join_new_as}
+use Rattle.std.proofs.Common.{sym, ◌∙◌, ◌+◌, subst, arith, ℕ, List}
+use Rattle.converter.specs.Banked.{JoinedBank}
+use Rattle.netlist.specs.Fields.{cell_at}
+use Rattle.converter.proofs.Keys.{join_none, fit, clock_is, bank_small, join_there, join_new, joined_as}
+use Rattle.converter.proofs.collect.join_bank.Goals.{then-bank-count, else-bank-count}
 use Rattle.converter.proofs.collect.join_bank.Goals as goal
 
-pub returns-then-field-ne5 : goal.returns-then-field-ne5
-returns-then-field-ne5 c = λ limits ls c' small fits keyed p q s. join_none c.args.words.now c.args.at c.field.ensures c.if-field-ne5.true limits ls c' c.args.parts.now c.args.values.now c.args.count keyed
+pub returns-in_default : goal.returns-in_default
+returns-in_default c = λ limits ls c' small fits keyed p q s. join_none c.args.cell.words.now c.args.cell.at (λ e. c.in_default.not-FlipFlop (c.kind.ensures ∙ e)) limits ls c' c.args.parts.now c.args.values.now c.args.count keyed
 
-pub returns-then-bank-gt4294967294 : goal.returns-then-bank-gt4294967294
-returns-then-bank-gt4294967294 c = λ limits ls c' small fits keyed p q s. absurd (omega (arith, bank_small c.args.words.now c.args.at c.field.ensures c.if-field-ne5.false limits small fits ls c' c.args.parts.now c.args.values.now c.args.count keyed (clock_is c.args.words.now c.args.at c.field.ensures c.if-field-ne5.false limits small fits c.field-2.ensures c.field-3.ensures c.key-a.ensures) (c.reset_key-b.ensures.is limits small (fit c.args.words.now c.args.at c.field.ensures c.if-field-ne5.false limits small fits)) c.find_key-bank.ensures, s, c.if-bank-gt4294967294.true))
-
-pub returns-then-bank-count : goal.returns-then-bank-count
-returns-then-bank-count c = λ limits ls c' small fits keyed p q s. join_there c.args.words.now c.args.at c.field.ensures c.if-field-ne5.false limits small fits ls c' c.args.parts.now c.args.values.now c.args.count keyed (clock_is c.args.words.now c.args.at c.field.ensures c.if-field-ne5.false limits small fits c.field-2.ensures c.field-3.ensures c.key-a.ensures) (c.reset_key-b.ensures.is limits small (fit c.args.words.now c.args.at c.field.ensures c.if-field-ne5.false limits small fits)) c.find_key-bank.ensures c.if-bank-count.true
+pub returns-then-bank : goal.returns-then-bank
+returns-then-bank c = λ limits ls c' small fits keyed p q s.
+    let words = c.args.cell.words.now in
+    let at = c.args.cell.at in
+    let flop = sym c.kind.ensures ∙ c.in-FlipFlop.is in
+    absurd (omega (arith, bank_small words at flop limits small fits ls c' c.args.parts.now c.args.values.now c.args.count keyed (clock_is words at flop limits small fits c.word.ensures c.word-2.ensures c.key-a.ensures) (c.reset_key-b.ensures.is limits small (fit words at flop limits small fits)) c.find_key-bank.ensures, s, c.if-bank.true))
 
 pub returns : goal.returns
-returns c = λ limits ls c' small fits keyed p q s. join_new_as c.args.words.now c.args.at c.field.ensures c.if-field-ne5.false limits small fits ls c' c.args.parts.now c.args.values.now c.args.count keyed (clock_is c.args.words.now c.args.at c.field.ensures c.if-field-ne5.false limits small fits c.field-2.ensures c.field-3.ensures c.key-a.ensures) (c.reset_key-b.ensures.is limits small (fit c.args.words.now c.args.at c.field.ensures c.if-field-ne5.false limits small fits)) c.find_key-bank.ensures c.if-bank-count.false p q c.wide.ensures c.wide-2.ensures _ _ c.store.ensures c.store-2.ensures
+returns c = λ limits ls c' small fits keyed p q s.
+    let words = c.args.cell.words.now in
+    let at = c.args.cell.at in
+    let flop = sym c.kind.ensures ∙ c.in-FlipFlop.is in
+    let clock = clock_is words at flop limits small fits c.word.ensures c.word-2.ensures c.key-a.ensures in
+    let reset = c.reset_key-b.ensures.is limits small (fit words at flop limits small fits) in
+    elim c.if-bank-count.branch [
+      then-bank-count w ↦
+          let h = join_new words at flop limits small fits ls c' c.args.parts.now c.args.values.now c.args.count keyed clock reset c.find_key-bank.ensures w.if-bank-count.true p q in
+          joined_as (w.parts-is ∙ w.store.ensures) (w.values-is ∙ w.store-then-bank-count.ensures) h
+      | else-bank-count w ↦
+          let h = join_there words at flop limits small fits ls c' c.args.parts.now c.args.values.now c.args.count keyed clock reset c.find_key-bank.ensures w.if-bank-count.false in
+          joined_as w.parts-is w.values-is h
+    ]

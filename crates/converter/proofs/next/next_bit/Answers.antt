@@ -1,15 +1,18 @@
-use Rattle.std.proofs.Common.{ap, refl}
+use Rattle.std.proofs.Common.{refl}
+use Rattle.wires.specs.Wires.{wires_in}
+use Rattle.recorder.proofs.Calls.{writes_as, writes_then, writes_err}
 use Rattle.converter.proofs.NextBits.{next_is}
-use Rattle.wires.specs.Wires.{wires_of}
-use Rattle.recorder.specs.Lists.{emitted}
-use Rattle.recorder.proofs.Wrote.{wrote_as, then_done, then_same}
 use Rattle.converter.proofs.next.next_bit.Goals as goal
 
-pub returns-in_default : goal.returns-in_default
-returns-in_default c = λ s m. wrote_as (next_is (wires_of c.args.wires.now c.args.places.now) c.args.words.now c.args.at c.bit_at.ensures refl refl refl) (then_same (c.bit_expression-r.ensures s m) _ (ap emitted c.in_default.is))
+pub returns-in_err-input : goal.returns-in_err-input
+returns-in_err-input c = writes_as (next_is (wires_in c.args.map) c.args.flop.words.now c.args.flop.at c.bit.ensures refl refl refl) (writes_err c.in_err-input.ensures _ _ c.from_residual.result _ refl c.from_residual.ensures.1)
 
-pub returns-in_default-r2 : goal.returns-in_default-r2
-returns-in_default-r2 c = λ s m. wrote_as (next_is (wires_of c.args.wires.now c.args.places.now) c.args.words.now c.args.at c.bit_at.ensures c.field-output.ensures c.optional_control-enable.ensures refl) (then_done (c.bit_expression-r.ensures s m) _ (ap emitted c.in-Done.is) (then_same (c.with_enable-r2.ensures s m) _ (ap emitted c.in_default-r2.is)))
+pub returns-in_err-kept : goal.returns-in_err-kept
+returns-in_err-kept c =
+    writes_as (next_is (wires_in c.args.map) c.args.flop.words.now c.args.flop.at c.bit.ensures c.word.ensures c.optional_control.ensures refl)
+    (writes_then c.in_ok-input.ensures _ refl (writes_err c.in_err-kept.ensures _ _ c.from_residual-in_err-kept.result _ refl c.from_residual-in_err-kept.ensures.1))
 
 pub returns : goal.returns
-returns c = λ s m. wrote_as (next_is (wires_of c.args.wires.now c.args.places.now) c.args.words.now c.args.at c.bit_at.ensures c.field-output.ensures c.optional_control-enable.ensures c.optional_reset-reset.ensures) (then_done (c.bit_expression-r.ensures s m) _ (ap emitted c.in-Done.is) (then_done (c.with_enable-r2.ensures s m) _ (ap emitted c.in-Done-r2.is) (c.with_reset.ensures s m)))
+returns c =
+    writes_as (next_is (wires_in c.args.map) c.args.flop.words.now c.args.flop.at c.bit.ensures c.word.ensures c.optional_control.ensures c.optional_reset.ensures)
+    (writes_then c.in_ok-input.ensures _ refl (writes_then c.in_ok-kept.ensures _ refl c.with_reset.ensures))

@@ -1,21 +1,12 @@
-use Rattle.std.proofs.Common.{ap}
-use Rattle.std.proofs.Math.ListN.{length-set}
-use Rattle.converter.proofs.NextBits.{counting_some, counting_step, counting_index, nexting_step, nexting_stop, nexting_end}
-use Rattle.recorder.specs.Lists.{emitted}
-use Rattle.converter.proofs.Walking.{walk_past, walk_first, walk_here, rest_end}
+use Rattle.std.proofs.Common.{refl, length-set}
+use Rattle.converter.proofs.NextBits.{counting_step, nexting_step, nexting_err, nexting_end}
 use Rattle.converter.proofs.next.next_value.Goals as goal
 
-pub overflow_sub-left : goal.overflow_sub-left
-overflow_sub-left c = counting_some c.loop-c.invariant.1 (walk_first c.args.words.now c.args.banks.now c.args.scan c.loop-c.invariant.0 c.loop-c-test.true)
+pub returns-in_err-parts : goal.returns-in_err-parts
+returns-in_err-parts c = nexting_err c.loop-cell.invariant.1 c.loop-cell.invariant.0 c.in-Some.ensures.steps _ c.from_residual.result _ c.from_residual.ensures.1 c.in_err-parts.ensures
 
-pub returns-in_default : goal.returns-in_default
-returns-in_default c = nexting_stop c.loop-c.invariant.2 c.loop-c.invariant.1 (walk_first c.args.words.now c.args.banks.now c.args.scan c.loop-c.invariant.0 c.loop-c-test.true) c.next_bit-r.ensures (ap emitted c.in_default.is)
-
-pub bounds-parts-left : goal.bounds-parts-left
-bounds-parts-left c = counting_index c.loop-c.invariant.1 (walk_first c.args.words.now c.args.banks.now c.args.scan c.loop-c.invariant.0 c.loop-c-test.true)
-
-pub loop-c-preserved : goal.loop-c-preserved
-loop-c-preserved c = (walk_past c.args.words.now c.args.banks.now c.args.scan c.loop-c.invariant.0 c.loop-c-test.true c.next_member-c.ensures, counting_step c.loop-c.invariant.1 (length-set c.loop-c.parts _ _) (walk_here c.args.words.now c.args.banks.now c.args.scan c.loop-c.invariant.0 c.loop-c-test.true c.next_member-c.ensures), nexting_step c.loop-c.invariant.2 c.loop-c.invariant.1 (walk_here c.args.words.now c.args.banks.now c.args.scan c.loop-c.invariant.0 c.loop-c-test.true c.next_member-c.ensures) c.next_bit-r.ensures (ap emitted c.in-Done.is))
+pub loop-cell-preserved : goal.loop-cell-preserved
+loop-cell-preserved c = (counting_step c.loop-cell.invariant.0 (simp length-set refl) c.in-Some.ensures.steps, nexting_step c.loop-cell.invariant.1 c.loop-cell.invariant.0 c.in-Some.ensures.steps c.in_ok-parts.ensures)
 
 pub returns : goal.returns
-returns c = nexting_end c.loop-c.invariant.2 c.loop-c.invariant.1 (rest_end c.args.words.now c.args.banks.now c.args.scan c.loop-c.c.cell c.loop-c.c.place c.loop-c-test.false) c.concat_parts.ensures
+returns c = nexting_end c.loop-cell.invariant.1 c.loop-cell.invariant.0 c.in-None.ensures.steps.0 c.concat_parts.ensures

@@ -1,12 +1,10 @@
-use Rattle.std.proofs.Common.{◌-◌}
-use Rattle.wires.specs.Wires.{wires_of}
-use Rattle.converter.specs.Members.{members_in, rest_from}
+use Rattle.std.proofs.Common.{length}
+use Rattle.wires.specs.Wires.{wires_in}
+use Rattle.converter.specs.Members.{members_left}
 use Rattle.converter.proofs.NextBits.{Counting, Nexting}
-use Rattle.converter.proofs.Walking.{Walks}
 use Rattle.converter.proofs.next.next_value.Given as goal
 
-abbrev pub invariant-loop-c : goal.invariant-loop-c
-invariant-loop-c l = Walks l.words l.banks l.scan l.c 0 × Counting l.width l.left l.initial.parts l.parts (rest_from l.words l.banks l.scan l.c) × Nexting (wires_of l.wires l.places) (members_in l.words l.banks l.scan) l.width l.initial.exprs l.initial.now l.exprs l.now l.left l.parts (rest_from l.words l.banks l.scan l.c)
-
-abbrev pub decreases-loop-c : goal.decreases-loop-c
-decreases-loop-c l = l.scan.n - l.c.cell
+abbrev pub invariant-loop-cell : goal.invariant-loop-cell
+invariant-loop-cell l =
+    Counting l.width l.left l.initial.parts l.parts (members_left l.cell-iterator)
+    × Nexting (wires_in l.map) (members_left l.members) l.width l.initial.recorder l.recorder l.left l.parts (members_left l.cell-iterator)

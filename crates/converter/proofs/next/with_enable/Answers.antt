@@ -1,18 +1,20 @@
-use Rattle.std.proofs.Common.{ap}
-use Rattle.converter.proofs.NextBits.{enable_none, enable_some}
-use Rattle.wires.specs.Wires.{wires_of}
-use Rattle.recorder.specs.Lists.{emitted}
-use Rattle.recorder.proofs.Wrote.{wrote_as, wrote_pure, then_done, then_same}
+use Rattle.std.proofs.Common.{ap, refl}
+use Rattle.std.specs.Prelude.{Option}
+use Rattle.netlist.specs.declared.Control.{Control}
+use Rattle.wires.specs.Wires.{wires_in}
+use Rattle.lowering.specs.Emit.{with_enable}
+use Rattle.recorder.proofs.Calls.{writes_as, writes_pure, writes_then, writes_err}
+use Rattle.converter.proofs.NextBits.{enable_some}
 use Rattle.converter.proofs.next.with_enable.Goals as goal
 
 pub returns-in_default : goal.returns-in_default
-returns-in_default c = λ s m. wrote_as (enable_none (wires_of c.args.wires.now c.args.places.now) c.args.output c.in_default.is c.args.next.0) wrote_pure
+returns-in_default c = writes_as (ap (λ (o : Option Control). with_enable (wires_in c.args.map) c.args.output o c.args.next.0) c.in_default.is) writes_pure
 
-pub returns-in_default-r : goal.returns-in_default-r
-returns-in_default-r c = λ s m. wrote_as (enable_some (wires_of c.args.wires.now c.args.places.now) c.args.output c.in-Present.is c.args.next.0) (then_same (c.bit_expression-r.ensures s m) _ (ap emitted c.in_default-r.is))
+pub returns-in_err-held : goal.returns-in_err-held
+returns-in_err-held c = writes_as (enable_some (wires_in c.args.map) c.args.output c.in-Some.is c.args.next.0) (writes_err c.in_err-held.ensures _ _ c.from_residual.result _ refl c.from_residual.ensures.1)
 
-pub returns-in_default-r2 : goal.returns-in_default-r2
-returns-in_default-r2 c = λ s m. wrote_as (enable_some (wires_of c.args.wires.now c.args.places.now) c.args.output c.in-Present.is c.args.next.0) (then_done (c.bit_expression-r.ensures s m) _ (ap emitted c.in-Done.is) (then_same (c.asserted_expression-r2.ensures s m) _ (ap emitted c.in_default-r2.is)))
+pub returns-in_err-enabled : goal.returns-in_err-enabled
+returns-in_err-enabled c = writes_as (enable_some (wires_in c.args.map) c.args.output c.in-Some.is c.args.next.0) (writes_then c.in_ok-held.ensures _ refl (writes_err c.in_err-enabled.ensures _ _ c.from_residual-in_err-enabled.result _ refl c.from_residual-in_err-enabled.ensures.1))
 
 pub returns : goal.returns
-returns c = λ s m. wrote_as (enable_some (wires_of c.args.wires.now c.args.places.now) c.args.output c.in-Present.is c.args.next.0) (then_done (c.bit_expression-r.ensures s m) _ (ap emitted c.in-Done.is) (then_done (c.asserted_expression-r2.ensures s m) _ (ap emitted c.in-Done-r2.is) (c.mux.ensures s m)))
+returns c = writes_as (enable_some (wires_in c.args.map) c.args.output c.in-Some.is c.args.next.0) (writes_then c.in_ok-held.ensures _ refl (writes_then c.in_ok-enabled.ensures _ refl c.mux.ensures))

@@ -1,18 +1,22 @@
 use Rattle.std.proofs.Common.{arith}
 use Rattle.netlist.specs.Fields.{port_end}
-use Rattle.wires.specs.Wires.{wires_of}
+use Rattle.wires.specs.Wires.{wires_in}
 use Rattle.converter.proofs.Reserving.{place_start, place_step}
-use Rattle.converter.proofs.Emitting.{ports_start, ports_step, ports_stop, ports_end}
+use Rattle.converter.proofs.Emitting.{ports_start, ports_step, ports_err, ports_end}
 use Rattle.converter.proofs.outputs.emit_outputs.Goals as goal
 
-pub loop-i-init : goal.loop-i-init
-loop-i-init c = (omega arith, ports_start (wires_of c.args.wires.now c.args.places.now) c.args.words.now c.args.at c.args.n c.args.parts.now c.args.exprs.now c.args.stmts.now c.args.t, λ limits p. place_start (port_end c.args.words.now) c.args.at)
+pub loop-p-init : goal.loop-p-init
+loop-p-init c = (ports_start (wires_in c.args.map) c.args.ports.words.now c.args.ports.at c.args.n c.args.parts.now c.args.recorder.now, λ limits p. place_start (port_end c.args.ports.words.now) c.args.ports.at)
 
-pub returns-in_default : goal.returns-in_default
-returns-in_default c = ports_stop (wires_of c.args.wires.now c.args.places.now) c.args.words.now c.args.at c.args.n c.args.parts.now c.loop-i.invariant.1 c.loop-i.invariant.2 c.loop-i-test.true c.loop-i.parts c.loop-i.auto.parts c.emit_output-r.result c.emit_output-r.new.exprs c.emit_output-r.new.stmts c.emit_output-r.ensures c.in_default.is
+pub returns-in_err-emit_output : goal.returns-in_err-emit_output
+returns-in_err-emit_output c =
+    ports_err (wires_in c.args.map) c.args.ports.words.now c.args.ports.at c.args.n c.args.parts.now c.args.recorder.now c.loop-p.invariant.0 c.loop-p.invariant.1 c.loop-p-test.true _ c.in_err-emit_output.ensures _ c.from_residual.result c.from_residual.ensures.1
 
-pub loop-i-preserved : goal.loop-i-preserved
-loop-i-preserved c = (omega arith, ports_step (wires_of c.args.wires.now c.args.places.now) c.args.words.now c.args.at c.args.n c.args.parts.now c.loop-i.invariant.1 c.loop-i.invariant.2 c.loop-i-test.true c.loop-i.parts c.loop-i.auto.parts c.emit_output-r.result c.emit_output-r.new.exprs c.emit_output-r.new.stmts c.emit_output-r.ensures c.in-Done.is, λ limits p. place_step (port_end c.args.words.now) p.1 c.loop-i-test.true (c.loop-i.invariant.2 limits p) c.port_end-place.ensures)
+pub loop-p-preserved : goal.loop-p-preserved
+loop-p-preserved c = (
+  ports_step (wires_in c.args.map) c.args.ports.words.now c.args.ports.at c.args.n c.args.parts.now c.args.recorder.now c.loop-p.invariant.0 c.loop-p.invariant.1 c.loop-p-test.true c.emit_output.auto.parts c.in_ok-emit_output.ensures,
+  λ limits p. place_step (port_end c.args.ports.words.now) p.1 c.loop-p-test.true (c.loop-p.invariant.1 limits p) c.port_end-at.ensures,
+)
 
 pub returns : goal.returns
-returns c = ports_end (wires_of c.args.wires.now c.args.places.now) c.args.words.now c.args.at c.args.n c.args.parts.now c.loop-i.invariant.1 c.loop-i-test.false
+returns c = ports_end (wires_in c.args.map) c.args.ports.words.now c.args.ports.at c.args.n c.args.parts.now c.args.recorder.now c.loop-p.invariant.0 (omega arith)

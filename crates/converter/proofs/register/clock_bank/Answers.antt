@@ -1,12 +1,17 @@
-use Rattle.std.proofs.Common.{◌∙◌}
-use Rattle.wires.specs.Wires.{wires_of}
-use Rattle.recorder.specs.Lists.{reset_of}
-use Rattle.recorder.proofs.Wrote.{wrote_as, wrote_refuse}
-use Rattle.converter.proofs.Registers.{clock_is, reads_then, reads_stop}
+use Rattle.std.proofs.Common.{refl}
+use Rattle.wires.specs.Wires.{wires_in}
+use Rattle.recorder.specs.Calls.{reset_of}
+use Rattle.recorder.proofs.Calls.{writes_as}
+use Rattle.wires.proofs.Laws.{writes_after, unread_err}
+use Rattle.converter.proofs.Registers.{clock_is}
 use Rattle.converter.proofs.register.clock_bank.Goals as goal
 
-pub returns-in-Signal : goal.returns-in-Signal
-returns-in-Signal c = λ s e. wrote_as (clock_is (wires_of c.args.wires.now c.args.places.now) c.args.constants c.args.words.now c.args.at c.bit_at.ensures c.field-edge.ensures c.args.target.0 c.args.next.0 (reset_of c.args.reset) ∙ reads_then c.bit_signal.ensures _ c.in-Signal.is) (c.register.ensures s e)
+pub returns-in_err-clock : goal.returns-in_err-clock
+returns-in_err-clock c =
+    writes_as (clock_is (wires_in c.args.map) c.args.map.constants c.args.leader.words.now c.args.leader.at c.bit.ensures refl c.args.target.0 c.args.next.0 (reset_of c.args.reset))
+    (unread_err _ _ c.from_residual.result _ c.in_err-clock.ensures c.from_residual.ensures.1)
 
-pub returns-in-Refused : goal.returns-in-Refused
-returns-in-Refused c = λ s e. wrote_as (clock_is (wires_of c.args.wires.now c.args.places.now) c.args.constants c.args.words.now c.args.at c.bit_at.ensures c.field-edge.ensures c.args.target.0 c.args.next.0 (reset_of c.args.reset) ∙ reads_stop c.bit_signal.ensures _ c.in-Refused.is) wrote_refuse
+pub returns : goal.returns
+returns c =
+    writes_as (clock_is (wires_in c.args.map) c.args.map.constants c.args.leader.words.now c.args.leader.at c.bit.ensures c.word.ensures c.args.target.0 c.args.next.0 (reset_of c.args.reset))
+    (writes_after _ c.in_ok-clock.ensures c.register.ensures)

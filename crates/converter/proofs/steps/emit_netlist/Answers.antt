@@ -1,11 +1,15 @@
-use Rattle.converter.proofs.Sequence.{emit_stop, emit_stop_2, emit_end}
+use Rattle.std.proofs.Common.{refl}
+use Rattle.converter.proofs.Sequence.{constants_err, cells_refused, banks_refused, outputs_last}
 use Rattle.converter.proofs.steps.emit_netlist.Goals as goal
 
-pub returns-in_default : goal.returns-in_default
-returns-in_default c = emit_stop _ _ _ _ _ _ _ _ _ _ _ _ _ c.emit_constants-r.ensures c.in_default.is c.unstarted.ensures
+pub returns-in_err-constants : goal.returns-in_err-constants
+returns-in_err-constants c = constants_err c.args.works.now c.args.wires.now c.args.places.now c.args.ports c.args.n c.args.banks c.args.shared _ c.in_err-constants.ensures _ c.from_residual.result c.from_residual.ensures.1
 
-pub returns-in_default-q : goal.returns-in_default-q
-returns-in_default-q c = emit_stop_2 _ _ _ _ _ _ _ _ _ _ _ _ _ c.emit_constants-r.ensures c.in-Done.is _ c.emit_shared_cells-q.ensures c.in_default-q.is
+pub returns-in_err-emit_shared_cells : goal.returns-in_err-emit_shared_cells
+returns-in_err-emit_shared_cells c = cells_refused c.args.works.now c.args.wires.now c.args.places.now c.args.ports c.args.n c.args.banks c.args.shared c.in_ok-constants.ensures refl refl _ c.in_err-emit_shared_cells.ensures.wrote _ c.from_residual-in_err-emit_shared_cells.result c.from_residual-in_err-emit_shared_cells.ensures.1
+
+pub returns-in_err-emit_banks : goal.returns-in_err-emit_banks
+returns-in_err-emit_banks c = banks_refused c.args.works.now c.args.wires.now c.args.places.now c.args.ports c.args.n c.args.banks c.args.shared c.in_ok-constants.ensures refl refl c.in_ok-emit_shared_cells.ensures.wrote c.in_ok-emit_shared_cells.ensures.works.parts_size _ c.in_err-emit_banks.ensures _ c.from_residual-in_err-emit_banks.result c.from_residual-in_err-emit_banks.ensures.1
 
 pub returns : goal.returns
-returns c = emit_end _ _ _ _ _ _ _ _ _ _ _ _ _ c.emit_constants-r.ensures c.in-Done.is _ c.emit_shared_cells-q.ensures c.in-Done-q.is _ c.emit_shared_cells-q.auto.parts _ _ c.emit_rest.ensures
+returns c = outputs_last c.args.works.now c.args.wires.now c.args.places.now c.args.ports c.args.n c.args.banks c.args.shared c.in_ok-constants.ensures refl refl c.in_ok-emit_shared_cells.ensures.wrote c.in_ok-emit_shared_cells.ensures.works.parts_size c.in_ok-emit_banks.ensures _ c.emit_banks.auto.parts c.emit_outputs.ensures

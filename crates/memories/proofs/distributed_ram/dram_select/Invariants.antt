@@ -1,9 +1,8 @@
-use Rattle.std.proofs.Common.{◌≤◌, ◌-◌}
-use Rattle.memories.proofs.DramLaws.{Selecting}
+use Rattle.recorder.proofs.Calls.{Underway}
+use Rattle.memories.specs.Memories.{dram_select}
+use Rattle.memories.specs.Rams.{words_of}
+use Rattle.memories.proofs.WordLaws.{selects}
 use Rattle.memories.proofs.distributed_ram.dram_select.Given as goal
 
-abbrev pub invariant-loop-i : goal.invariant-loop-i
-invariant-loop-i l = (l.i ≤ 16) × Selecting l.reads.0 l.initial.word l.initial.selected l.initial.exprs l.initial.now l.exprs l.now l.selected l.word l.i
-
-abbrev pub decreases-loop-i : goal.decreases-loop-i
-decreases-loop-i l = 16 - l.i
+abbrev pub invariant-loop-index : goal.invariant-loop-index
+invariant-loop-index l = Underway l.fn.recorder (dram_select l.reads.0 0 (words_of l.words) l.fn.other.0) l.recorder (selects l.words l.reads.0 l.index l.selected.0)

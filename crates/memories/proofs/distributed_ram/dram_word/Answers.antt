@@ -1,16 +1,16 @@
 use Rattle.std.proofs.Common.{refl}
-use Rattle.recorder.proofs.Wrote.{then_done, then_stop, wrote_pure}
+use Rattle.recorder.proofs.Calls.{writes_then, writes_err, writes_pure}
 use Rattle.memories.specs.Steps.{dram_word}
 use Rattle.memories.proofs.distributed_ram.dram_word.Goals as goal
 
-pub returns-in-Done-register : goal.returns-in-Done-register
+pub returns-in_err-word : goal.returns-in_err-word
 unfolding dram_word
-returns-in-Done-register c = then_done (c.in-Done.ensures _) _ refl (then_done (c.in-Done-register.ensures _ _) _ refl wrote_pure)
+returns-in_err-word c = (writes_err c.in_err-word.ensures _ _ c.from_residual.result _ refl c.from_residual.ensures.1)
 
-pub returns-in-Refused-register : goal.returns-in-Refused-register
+pub returns-in_err-register : goal.returns-in_err-register
 unfolding dram_word
-returns-in-Refused-register c = then_done (c.in-Done.ensures _) _ refl (then_stop (c.in-Refused-register.ensures _ _) _ refl)
+returns-in_err-register c = (writes_then c.in_ok-word.ensures _ refl (writes_err c.in_err-register.ensures _ _ c.from_residual-in_err-register.result _ refl c.from_residual-in_err-register.ensures.1))
 
-pub returns-in-Refused : goal.returns-in-Refused
+pub returns : goal.returns
 unfolding dram_word
-returns-in-Refused c = then_stop (c.in-Refused.ensures _) _ refl
+returns c = (writes_then c.in_ok-word.ensures _ refl (writes_then c.in_ok-register.ensures _ refl writes_pure))

@@ -1,15 +1,16 @@
-use Rattle.std.proofs.Common.{◌≡◌, ℕ, arith, refl}
-use Rattle.memories.proofs.DramLaws.{storing_start, storing_step, storing_stop, storing_end, storing_spaced}
+use Rattle.std.proofs.Common.{refl, rules}
+use Rattle.memories.specs.Rams.{port_in}
+use Rattle.memories.proofs.WordLaws.{making_start, making_step, making_err, making_end, dram_more, dram_none, dram_made}
 use Rattle.memories.proofs.distributed_ram.dram_words.Goals as goal
 
-pub loop-i-init : goal.loop-i-init
-loop-i-init c = (omega arith, storing_start)
+pub loop-index-init : goal.loop-index-init
+loop-index-init c = making_start refl
 
-pub returns-in-Refused : goal.returns-in-Refused
-returns-in-Refused c = record { wrote = storing_stop c.loop-i.invariant.1 c.loop-i-test.true c.in-Refused.ensures refl; spaced = λ u e. absurd (let z : ◌≡◌ {A = ℕ} 0 1 = cc in omega arith) }
+pub returns-in_err-dram_word : goal.returns-in_err-dram_word
+returns-in_err-dram_word c = making_err c.loop-index.invariant (dram_more (port_in c.args.port) c.args.owner c.args.clock.0 c.args.edge c.loop-index.index _ c.loop-index-test.true) _ c.from_residual.result _ c.from_residual.ensures.1 c.in_err-dram_word.ensures
 
-pub loop-i-preserved : goal.loop-i-preserved
-loop-i-preserved c = (omega arith, storing_step c.loop-i.invariant.1 c.loop-i-test.true c.in-Done.ensures refl)
+pub loop-index-preserved : goal.loop-index-preserved
+loop-index-preserved c = making_step c.loop-index.invariant (dram_more (port_in c.args.port) c.args.owner c.args.clock.0 c.args.edge c.loop-index.index _ c.loop-index-test.true) c.in_ok-dram_word.ensures (dram_made (port_in c.args.port) c.args.owner c.args.clock.0 c.args.edge c.loop-index.index c.in_ok-dram_word.ensures)
 
 pub returns : goal.returns
-returns c = record { wrote = storing_end c.loop-i.invariant.1 (omega arith); spaced = λ u e. storing_spaced c.loop-i.invariant.1 (omega arith) }
+returns c = making_end c.loop-index.invariant 16 (search rules) c.tapes-start.ensures (dram_none (port_in c.args.port) c.args.owner c.args.clock.0 c.args.edge c.loop-index.index _ (search rules))

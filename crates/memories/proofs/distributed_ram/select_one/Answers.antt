@@ -1,13 +1,12 @@
-use Rattle.std.proofs.Common.{ap}
-use Rattle.recorder.proofs.Wrote.{then_done, then_same}
-use Rattle.recorder.specs.Lists.{emitted}
+use Rattle.std.proofs.Common.{refl}
+use Rattle.recorder.proofs.Calls.{writes_then, writes_err}
 use Rattle.memories.specs.Steps.{select_one}
 use Rattle.memories.proofs.distributed_ram.select_one.Goals as goal
 
-pub returns-in_default : goal.returns-in_default
+pub returns-in_err-found : goal.returns-in_err-found
 unfolding select_one
-returns-in_default c = λ s m. then_same (c.match_address-r.ensures s m) _ (ap emitted c.in_default.is)
+returns-in_err-found c = (writes_err c.in_err-found.ensures _ _ c.from_residual.result _ refl c.from_residual.ensures.1)
 
 pub returns : goal.returns
 unfolding select_one
-returns c = λ s m. then_done (c.match_address-r.ensures s m) _ (ap emitted c.in-Done.is) (c.mux.ensures s m)
+returns c = (writes_then c.in_ok-found.ensures _ refl c.mux.ensures)

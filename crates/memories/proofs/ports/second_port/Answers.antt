@@ -1,26 +1,48 @@
-use Rattle.std.proofs.Common.{refl, ap, sym, ◌∙◌, ℕ, ◌+◌, []}
-use Rattle.netlist.specs.Fields.{word_at, control_at, optional_control_at, first_size}
-use Rattle.wires.specs.Wires.{wires_of}
-use Rattle.wires.specs.Once.{seen_of}
-use Rattle.wires.proofs.OnceLaws.{once_as, once_done, once_stop, once_pure, once_growing}
+use Rattle.std.proofs.Common.{refl, ap, sym, ◌∙◌, ◌+◌, get_or}
+use Rattle.netlist.specs.Netlist.{SecondPort}
+use Rattle.wires.specs.Wires.{wires_in}
+use Rattle.wires.specs.Once.{seen_in}
+use Rattle.wires.proofs.OnceLaws.{once_then, once_err, once_as, once_pure}
+use Rattle.wires.proofs.OnMap.{map_on}
+use Rattle.netlist.specs.Fields.{word_at}
 use Rattle.memories.specs.Steps.{second_at}
-use Rattle.memories.proofs.PortLaws.{data_same, gate_as, second_offset, second_none, second_some}
+use Rattle.memories.proofs.PortLaws.{address_on, data_on, gate_on, second_last, second_none, second_some, second_same_at}
 use Rattle.memories.proofs.ports.second_port.Goals as goal
 
-pub returns-then-field-eq0-clause-wrote : goal.returns-then-field-eq0-clause-wrote
-returns-then-field-eq0-clause-wrote c = λ s m. once_as (second_none (wires_of c.args.wires.now c.args.places.now) (seen_of c.args.first c.args.seen.now) c.args.shift c.args.address (word_at c.args.words.now (c.args.at + 42)) (second_at c.args.words.now c.args.at) c.args.second_address (sym c.field.ensures ∙ c.if-field-eq0.true)) once_pure
+pub returns-then-word-eq0-clause-wrote : goal.returns-then-word-eq0-clause-wrote
+returns-then-word-eq0-clause-wrote c = once_as (second_none (wires_in c.args.emitter.now.map) (seen_in c.args.emitter.now) c.args.shift c.args.address (word_at c.args.fields.words.now (c.args.fields.at + 42)) (second_at c.args.fields.words.now c.args.fields.at) c.args.second_address (sym c.word.ensures ∙ c.if-word-eq0.true)) once_pure
 
-pub returns-in-Done-gated_at-clause-wrote : goal.returns-in-Done-gated_at-clause-wrote
-returns-in-Done-gated_at-clause-wrote c = λ s m. once_as (second_some (wires_of c.args.wires.now c.args.places.now) (seen_of c.args.first c.args.seen.now) c.args.shift c.args.address (word_at c.args.words.now (c.args.at + 42)) (second_at c.args.words.now c.args.at) c.args.second_address (λ e. c.if-field-eq0.false (c.field.ensures ∙ e))) (once_done (c.in-Done.ensures.wrote s m) _ refl (once_done (data_same (wires_of c.args.wires.now c.args.places.now) c.args.words.now (second_offset c.args.at c.first_size-start.result (first_size c.args.words.now (word_at c.args.words.now (c.args.at + 2))) 24 c.first_size-start.ensures) c.field-width.ensures c.in-Done-data_expression.ensures.wrote s m) _ refl (once_done (gate_as (wires_of c.args.wires.now c.args.places.now) (ap (λ (k : ℕ). control_at c.args.words.now k) (second_offset c.args.at c.first_size-start.result (first_size c.args.words.now (word_at c.args.words.now (c.args.at + 2))) 14 c.first_size-start.ensures)) (ap (λ (k : ℕ). optional_control_at c.args.words.now k) (second_offset c.args.at c.first_size-start.result (first_size c.args.words.now (word_at c.args.words.now (c.args.at + 2))) 19 c.first_size-start.ensures)) c.in-Done-gated_at.ensures.wrote s m) _ refl (once_pure))))
+pub returns-in_err-addressed-clause-wrote : goal.returns-in_err-addressed-clause-wrote
+returns-in_err-addressed-clause-wrote c =
+    once_as (second_some (wires_in c.args.emitter.now.map) (seen_in c.args.emitter.now) c.args.shift c.args.address (word_at c.args.fields.words.now (c.args.fields.at + 42)) (second_at c.args.fields.words.now c.args.fields.at) c.args.second_address (second_same_at c.args.fields.words.now c.args.fields.at c.args.fields c.second_port-second.ensures c.word-width.ensures refl) (λ e. c.if-word-eq0.false (c.word.ensures ∙ e)))
+    (once_err _ c.from_residual.result _ c.from_residual.ensures.1 (address_on refl _ c.args.shift c.args.address c.requires.0 c.in_err-addressed.ensures) _)
 
-pub returns-in-Done-gated_at-clause-grows : goal.returns-in-Done-gated_at-clause-grows
-returns-in-Done-gated_at-clause-grows c = once_growing _ (returns-in-Done-gated_at-clause-wrote c [] [])
+pub returns-in_err-data-clause-wrote : goal.returns-in_err-data-clause-wrote
+returns-in_err-data-clause-wrote c =
+    let q1 = map_on refl c.in_ok-addressed.ensures.same in
+    once_as (second_some (wires_in c.args.emitter.now.map) (seen_in c.args.emitter.now) c.args.shift c.args.address (word_at c.args.fields.words.now (c.args.fields.at + 42)) (second_at c.args.fields.words.now c.args.fields.at) c.args.second_address (second_same_at c.args.fields.words.now c.args.fields.at c.args.fields c.second_port-second.ensures c.word-width.ensures refl) (λ e. c.if-word-eq0.false (c.word.ensures ∙ e)))
+    (once_then (address_on refl _ c.args.shift c.args.address c.requires.0 c.in_ok-addressed.ensures) _
+    (once_err _ c.from_residual-in_err-data.result _ c.from_residual-in_err-data.ensures.1 (data_on q1 refl c.in_err-data.ensures) _))
 
-pub returns-in-Refused-gated_at-clause-wrote : goal.returns-in-Refused-gated_at-clause-wrote
-returns-in-Refused-gated_at-clause-wrote c = λ s m. once_as (second_some (wires_of c.args.wires.now c.args.places.now) (seen_of c.args.first c.args.seen.now) c.args.shift c.args.address (word_at c.args.words.now (c.args.at + 42)) (second_at c.args.words.now c.args.at) c.args.second_address (λ e. c.if-field-eq0.false (c.field.ensures ∙ e))) (once_done (c.in-Done.ensures.wrote s m) _ refl (once_done (data_same (wires_of c.args.wires.now c.args.places.now) c.args.words.now (second_offset c.args.at c.first_size-start.result (first_size c.args.words.now (word_at c.args.words.now (c.args.at + 2))) 24 c.first_size-start.ensures) c.field-width.ensures c.in-Done-data_expression.ensures.wrote s m) _ refl (once_stop (gate_as (wires_of c.args.wires.now c.args.places.now) (ap (λ (k : ℕ). control_at c.args.words.now k) (second_offset c.args.at c.first_size-start.result (first_size c.args.words.now (word_at c.args.words.now (c.args.at + 2))) 14 c.first_size-start.ensures)) (ap (λ (k : ℕ). optional_control_at c.args.words.now k) (second_offset c.args.at c.first_size-start.result (first_size c.args.words.now (word_at c.args.words.now (c.args.at + 2))) 19 c.first_size-start.ensures)) c.in-Refused-gated_at.ensures.wrote s m) _ refl refl)))
+pub returns-in_err-gate-clause-wrote : goal.returns-in_err-gate-clause-wrote
+returns-in_err-gate-clause-wrote c =
+    let q1 = map_on refl c.in_ok-addressed.ensures.same in
+    let q2 = map_on q1 c.in_ok-data.ensures.same in
+    once_as (second_some (wires_in c.args.emitter.now.map) (seen_in c.args.emitter.now) c.args.shift c.args.address (word_at c.args.fields.words.now (c.args.fields.at + 42)) (second_at c.args.fields.words.now c.args.fields.at) c.args.second_address (second_same_at c.args.fields.words.now c.args.fields.at c.args.fields c.second_port-second.ensures c.word-width.ensures refl) (λ e. c.if-word-eq0.false (c.word.ensures ∙ e)))
+    (once_then (address_on refl _ c.args.shift c.args.address c.requires.0 c.in_ok-addressed.ensures) _
+    (once_then (data_on q1 refl c.in_ok-data.ensures) _
+    (once_err _ c.from_residual-in_err-gate.result _ c.from_residual-in_err-gate.ensures.1 (gate_on q2 (sym c.control.ensures) (sym c.optional_control.ensures) c.in_err-gate.ensures) _)))
 
-pub returns-in-Refused-data_expression-clause-wrote : goal.returns-in-Refused-data_expression-clause-wrote
-returns-in-Refused-data_expression-clause-wrote c = λ s m. once_as (second_some (wires_of c.args.wires.now c.args.places.now) (seen_of c.args.first c.args.seen.now) c.args.shift c.args.address (word_at c.args.words.now (c.args.at + 42)) (second_at c.args.words.now c.args.at) c.args.second_address (λ e. c.if-field-eq0.false (c.field.ensures ∙ e))) (once_done (c.in-Done.ensures.wrote s m) _ refl (once_stop (data_same (wires_of c.args.wires.now c.args.places.now) c.args.words.now (second_offset c.args.at c.first_size-start.result (first_size c.args.words.now (word_at c.args.words.now (c.args.at + 2))) 24 c.first_size-start.ensures) c.field-width.ensures c.in-Refused-data_expression.ensures.wrote s m) _ refl refl))
+pub returns-clause-wrote : goal.returns-clause-wrote
+returns-clause-wrote c =
+    let q1 = map_on refl c.in_ok-addressed.ensures.same in
+    let q2 = map_on q1 c.in_ok-data.ensures.same in
+    let q3 = map_on q2 c.in_ok-gate.ensures.same in
+    once_as (second_some (wires_in c.args.emitter.now.map) (seen_in c.args.emitter.now) c.args.shift c.args.address (word_at c.args.fields.words.now (c.args.fields.at + 42)) (second_at c.args.fields.words.now c.args.fields.at) c.args.second_address (second_same_at c.args.fields.words.now c.args.fields.at c.args.fields c.second_port-second.ensures c.word-width.ensures refl) (λ e. c.if-word-eq0.false (c.word.ensures ∙ e)))
+    (once_then (address_on refl _ c.args.shift c.args.address c.requires.0 c.in_ok-addressed.ensures) _
+    (once_then (data_on q1 refl c.in_ok-data.ensures) _
+    (once_then (gate_on q2 (sym c.control.ensures) (sym c.optional_control.ensures) c.in_ok-gate.ensures) _
+    (second_last _ (sym c.optional_control-2.ensures) (ap (λ (p : SecondPort). p.output) (second_same_at c.args.fields.words.now c.args.fields.at c.args.fields c.second_port-second.ensures c.word-width.ensures refl))))))
 
-pub returns-in-Refused-clause-wrote : goal.returns-in-Refused-clause-wrote
-returns-in-Refused-clause-wrote c = λ s m. once_as (second_some (wires_of c.args.wires.now c.args.places.now) (seen_of c.args.first c.args.seen.now) c.args.shift c.args.address (word_at c.args.words.now (c.args.at + 42)) (second_at c.args.words.now c.args.at) c.args.second_address (λ e. c.if-field-eq0.false (c.field.ensures ∙ e))) (once_stop (c.in-Refused.ensures.wrote s m) _ refl refl)
+pub returns-clause-wire : goal.returns-clause-wire
+returns-clause-wire c = c.first_wire.ensures ∙ ap (λ (p : SecondPort). get_or p.output 0 0) (second_same_at c.args.fields.words.now c.args.fields.at c.args.fields c.second_port-second.ensures c.word-width.ensures refl)

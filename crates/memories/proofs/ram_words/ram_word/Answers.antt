@@ -1,24 +1,24 @@
 use Rattle.std.proofs.Common.{refl}
-use Rattle.recorder.proofs.Wrote.{wrote_pure, then_done, then_stop}
+use Rattle.recorder.proofs.Calls.{writes_then, writes_err, writes_pure}
 use Rattle.memories.specs.Memories.{ram_word}
 use Rattle.memories.proofs.ram_words.ram_word.Goals as goal
 
-pub returns-in-Done-write_second : goal.returns-in-Done-write_second
+pub returns-in_err-signal : goal.returns-in_err-signal
 unfolding ram_word
-returns-in-Done-write_second c = λ m. then_done (c.in-Done.ensures _ m) _ refl (then_done (c.in-Done-read.ensures _ m) _ refl (then_done (c.in-Done-write_word.ensures _ m) _ refl (then_done (c.in-Done-write_second.ensures _ m) _ refl wrote_pure)))
+returns-in_err-signal c = (writes_err c.in_err-signal.ensures _ _ c.from_residual.result _ refl c.from_residual.ensures.1)
 
-pub returns-in-Refused-write_second : goal.returns-in-Refused-write_second
+pub returns-in_err-current : goal.returns-in_err-current
 unfolding ram_word
-returns-in-Refused-write_second c = λ m. then_done (c.in-Done.ensures _ m) _ refl (then_done (c.in-Done-read.ensures _ m) _ refl (then_done (c.in-Done-write_word.ensures _ m) _ refl (then_stop (c.in-Refused-write_second.ensures _ m) _ refl)))
+returns-in_err-current c = (writes_then c.in_ok-signal.ensures _ refl (writes_err c.in_err-current.ensures _ _ c.from_residual-in_err-current.result _ refl c.from_residual-in_err-current.ensures.1))
 
-pub returns-in-Refused-write_word : goal.returns-in-Refused-write_word
+pub returns-in_err-once : goal.returns-in_err-once
 unfolding ram_word
-returns-in-Refused-write_word c = λ m. then_done (c.in-Done.ensures _ m) _ refl (then_done (c.in-Done-read.ensures _ m) _ refl (then_stop (c.in-Refused-write_word.ensures _ m) _ refl))
+returns-in_err-once c = (writes_then c.in_ok-signal.ensures _ refl (writes_then c.in_ok-current.ensures _ refl (writes_err c.in_err-once.ensures _ _ c.from_residual-in_err-once.result _ refl c.from_residual-in_err-once.ensures.1)))
 
-pub returns-in-Refused-read : goal.returns-in-Refused-read
+pub returns-in_err-next : goal.returns-in_err-next
 unfolding ram_word
-returns-in-Refused-read c = λ m. then_done (c.in-Done.ensures _ m) _ refl (then_stop (c.in-Refused-read.ensures _ m) _ refl)
+returns-in_err-next c = (writes_then c.in_ok-signal.ensures _ refl (writes_then c.in_ok-current.ensures _ refl (writes_then c.in_ok-once.ensures _ refl (writes_err c.in_err-next.ensures _ _ c.from_residual-in_err-next.result _ refl c.from_residual-in_err-next.ensures.1))))
 
-pub returns-in-Refused : goal.returns-in-Refused
+pub returns : goal.returns
 unfolding ram_word
-returns-in-Refused c = λ m. then_stop (c.in-Refused.ensures _ m) _ refl
+returns c = (writes_then c.in_ok-signal.ensures _ refl (writes_then c.in_ok-current.ensures _ refl (writes_then c.in_ok-once.ensures _ refl (writes_then c.in_ok-next.ensures _ refl writes_pure))))

@@ -1,22 +1,17 @@
-use Rattle.std.proofs.Common.{ap, arith}
-use Rattle.recorder.specs.Lists.{stated}
-use Rattle.memories.proofs.RamLaws.{updating_expr, updating_step, updating_stop, updating_end}
+use Rattle.std.proofs.Common.{refl, rules}
+use Rattle.recorder.proofs.Calls.{writes_pure, underway_start, underway_step, underway_end}
+use Rattle.address_mux.proofs.Binds.{underway_err}
+use Rattle.memories.proofs.WordLaws.{update_all, update_more, update_none}
 use Rattle.memories.proofs.ram_words.update_words.Goals as goal
 
-pub overflow_add-current-in-loop-i : goal.overflow_add-current-in-loop-i
-overflow_add-current-in-loop-i c = omega (arith, updating_expr c.loop-i.invariant.1 c.loop-i-test.true)
+pub loop-index-init : goal.loop-index-init
+loop-index-init c = underway_start (update_all c.args.words c.args.clock.0 c.args.edge)
 
-pub returns-in_default : goal.returns-in_default
-returns-in_default c = updating_stop c.loop-i.invariant.1 c.loop-i-test.true c.register-r.ensures (ap stated c.in_default.is)
+pub returns-in_err-register : goal.returns-in_err-register
+returns-in_err-register c = underway_err _ c.loop-index.invariant (update_more c.args.words c.args.clock.0 c.args.edge c.loop-index.index c.loop-index-test.true c.word-word.ensures) _ c.from_residual.result _ c.from_residual.ensures.1 c.in_err-register.ensures
 
-pub overflow_add-current : goal.overflow_add-current
-overflow_add-current c = omega (arith, updating_expr c.loop-i.invariant.1 c.loop-i-test.true)
-
-pub overflow_add-current-in-loop-i-2 : goal.overflow_add-current-in-loop-i-2
-overflow_add-current-in-loop-i-2 c = omega (arith, updating_expr c.loop-i.invariant.1 c.loop-i-test.true)
-
-pub loop-i-preserved : goal.loop-i-preserved
-loop-i-preserved c = (omega arith, updating_step c.loop-i.invariant.1 c.loop-i-test.true c.register-r.ensures (ap stated c.in-Done.is))
+pub loop-index-preserved : goal.loop-index-preserved
+loop-index-preserved c = underway_step _ c.loop-index.invariant (update_more c.args.words c.args.clock.0 c.args.edge c.loop-index.index c.loop-index-test.true c.word-word.ensures) c.in_ok-register.ensures refl
 
 pub returns : goal.returns
-returns c = updating_end c.loop-i.invariant.1 (omega arith)
+returns c = underway_end c.loop-index.invariant (update_none c.args.words c.args.clock.0 c.args.edge c.loop-index.index (search rules)) writes_pure

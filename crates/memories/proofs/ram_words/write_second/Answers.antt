@@ -1,12 +1,13 @@
 use Rattle.std.proofs.Common.{ap}
-use Rattle.recorder.proofs.Wrote.{wrote_as, wrote_pure}
-use Rattle.memories.specs.declared.Second.{Second}
-use Rattle.memories.specs.Rams.{second_writing}
+use Rattle.std.specs.Prelude.{Option}
+use Rattle.recorder.proofs.Calls.{writes_as, writes_pure}
+use Rattle.memories.specs.declared.Port.{Port}
 use Rattle.memories.specs.Memories.{write_second}
+use Rattle.memories.specs.Rams.{second_in}
 use Rattle.memories.proofs.ram_words.write_second.Goals as goal
 
-pub returns-in-Absent : goal.returns-in-Absent
-returns-in-Absent c = λ s m. wrote_as (ap (λ (b : Second). write_second (second_writing b) c.args.width c.args.address c.args.index c.args.old.0) c.in-Absent.is) wrote_pure
+pub returns-in-Some : goal.returns-in-Some
+returns-in-Some c = writes_as (ap (λ (b : Option Port). write_second (second_in b) c.args.width c.args.address c.args.index c.args.old.0) c.in-Some.is) c.write_word.ensures
 
-pub returns-in-Present : goal.returns-in-Present
-returns-in-Present c = λ s m. wrote_as (ap (λ (b : Second). write_second (second_writing b) c.args.width c.args.address c.args.index c.args.old.0) c.in-Present.is) (c.write_word.ensures s m)
+pub returns-in-None : goal.returns-in-None
+returns-in-None c = writes_as (ap (λ (b : Option Port). write_second (second_in b) c.args.width c.args.address c.args.index c.args.old.0) c.in-None.is) writes_pure

@@ -1,13 +1,14 @@
-use Rattle.std.proofs.Common.{ap, ◌∙◌, refl}
-use Rattle.netlist.specs.FieldForms.{presence}
-use Rattle.netlist.specs.declared.fields.OptionalControl.{OptionalControl}
-use Rattle.wires.specs.Wires.{wires_of}
+use Rattle.std.proofs.Common.{ap}
+use Rattle.wires.specs.Wires.{wires_in}
+use Rattle.wires.proofs.Laws.{reads_ok, reads_as, reads_then, reads_err}
 use Rattle.memories.specs.Memories.{enable_of}
-use Rattle.memories.proofs.ReadLaws.{signal_known, signal_refused}
 use Rattle.memories.proofs.read_port.enable_of.Goals as goal
 
-pub returns-in-Signal : goal.returns-in-Signal
-returns-in-Signal c = ap (λ (o : OptionalControl). enable_of (wires_of c.args.wires.now c.args.places.now) c.args.constants (presence o)) c.in-Present.is ∙ signal_known c.in-Signal.ensures _ refl
+pub returns-in_err-bit_signal-in-Some : goal.returns-in_err-bit_signal-in-Some
+returns-in_err-bit_signal-in-Some c = reads_as (ap (enable_of (wires_in c.args.map) c.args.map.constants) c.in-Some.is) (reads_err _ _ c.from_residual.result _ c.in_err-bit_signal-in-Some.ensures c.from_residual.ensures.1)
 
-pub returns-in-Refused : goal.returns-in-Refused
-returns-in-Refused c = ap (λ (o : OptionalControl). enable_of (wires_of c.args.wires.now c.args.places.now) c.args.constants (presence o)) c.in-Present.is ∙ signal_refused c.in-Refused.ensures _ refl
+pub returns-in_ok-bit_signal-in-Some : goal.returns-in_ok-bit_signal-in-Some
+returns-in_ok-bit_signal-in-Some c = reads_as (ap (enable_of (wires_in c.args.map) c.args.map.constants) c.in-Some.is) (reads_then _ c.in_ok-bit_signal-in-Some.ensures reads_ok)
+
+pub returns-in-None : goal.returns-in-None
+returns-in-None c = reads_as (ap (enable_of (wires_in c.args.map) c.args.map.constants) c.in-None.is) reads_ok

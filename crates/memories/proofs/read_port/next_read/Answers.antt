@@ -1,15 +1,16 @@
-use Rattle.std.proofs.Common.{ap, refl}
-use Rattle.recorder.proofs.Wrote.{wrote_as, wrote_pure, then_done, then_stop}
-use Rattle.memories.specs.declared.ClockEnabled.{ClockEnabled}
+use Rattle.std.proofs.Common.{refl, ap}
+use Rattle.std.specs.Prelude.{Option}
+use Rattle.recorder.specs.declared.ExprId.{ExprId}
+use Rattle.recorder.proofs.Calls.{writes_then, writes_err, writes_as, writes_pure}
 use Rattle.memories.specs.Memories.{next_read}
-use Rattle.memories.specs.Rams.{own_of, enabled_of}
+use Rattle.memories.specs.Rams.{expr_in}
 use Rattle.memories.proofs.read_port.next_read.Goals as goal
 
-pub returns-in-Absent : goal.returns-in-Absent
-returns-in-Absent c = λ s m. wrote_as (ap (λ (q : ClockEnabled). next_read (enabled_of q) (own_of c.args.own) c.args.width c.args.target.0 c.args.value.0) c.in-Absent.is) wrote_pure
+pub returns-in_err-kept-in-Some : goal.returns-in_err-kept-in-Some
+returns-in_err-kept-in-Some c = writes_as (ap (λ (o : Option ExprId). next_read (expr_in o) (expr_in c.args.own) c.args.width c.args.target.0 c.args.value.0) c.in-Some.is) (writes_err c.in_err-kept-in-Some.ensures _ _ c.from_residual.result _ refl c.from_residual.ensures.1)
 
-pub returns-in-Done : goal.returns-in-Done
-returns-in-Done c = λ s m. wrote_as (ap (λ (q : ClockEnabled). next_read (enabled_of q) (own_of c.args.own) c.args.width c.args.target.0 c.args.value.0) c.in-Present.is) (then_done (c.in-Done.ensures s m) _ refl (c.mux.ensures s m))
+pub returns-in_ok-kept-in-Some : goal.returns-in_ok-kept-in-Some
+returns-in_ok-kept-in-Some c = writes_as (ap (λ (o : Option ExprId). next_read (expr_in o) (expr_in c.args.own) c.args.width c.args.target.0 c.args.value.0) c.in-Some.is) (writes_then c.in_ok-kept-in-Some.ensures _ refl c.mux.ensures)
 
-pub returns-in-Refused : goal.returns-in-Refused
-returns-in-Refused c = λ s m. wrote_as (ap (λ (q : ClockEnabled). next_read (enabled_of q) (own_of c.args.own) c.args.width c.args.target.0 c.args.value.0) c.in-Present.is) (then_stop (c.in-Refused.ensures s m) _ refl)
+pub returns-in-None : goal.returns-in-None
+returns-in-None c = writes_as (ap (λ (o : Option ExprId). next_read (expr_in o) (expr_in c.args.own) c.args.width c.args.target.0 c.args.value.0) c.in-None.is) writes_pure

@@ -1,20 +1,21 @@
-use Rattle.std.proofs.Common.{ap, sym, refl, ◌∙◌, ℕ}
-use Rattle.recorder.proofs.Wrote.{wrote_as, wrote_refuse, then_done, then_stop}
-use Rattle.netlist.specs.FieldForms.{presence}
-use Rattle.recorder.specs.Writer.{refuse}
-use Rattle.wires.specs.Wires.{wires_of}
-use Rattle.memories.specs.Rams.{own_of, enabled_of}
-use Rattle.memories.proofs.ReadLaws.{read_enabled_lem, read_refused, read_missing}
+use Rattle.std.proofs.Common.{refl}
+use Rattle.recorder.proofs.Calls.{writes_then, writes_err}
+use Rattle.wires.proofs.Laws.{writes_after, unread_err}
+use Rattle.memories.specs.Rams.{read_register}
 use Rattle.memories.proofs.read_port.read_register.Goals as goal
 
-pub returns-in-Done-next_read : goal.returns-in-Done-next_read
-returns-in-Done-next_read c = λ s. wrote_as (read_enabled_lem (wires_of c.args.wires.now c.args.places.now) c.args.constants c.args.output (enabled_of c.args.clock_enabled) (own_of c.args.own) c.args.shape.width c.args.value.0 c.args.shape.clock.0 c.args.shape.edge (presence c.args.enable) (sym c.in-At.ensures) c.in-Done.ensures) (then_done (c.in-Done-next_read.ensures s _) _ refl (c.register.ensures s _))
+pub returns-in_err-target : goal.returns-in_err-target
+unfolding read_register
+returns-in_err-target c = unread_err _ _ c.from_residual.result _ c.in_err-target.ensures c.from_residual.ensures.1
 
-pub returns-in-Refused-next_read : goal.returns-in-Refused-next_read
-returns-in-Refused-next_read c = λ s. wrote_as (read_enabled_lem (wires_of c.args.wires.now c.args.places.now) c.args.constants c.args.output (enabled_of c.args.clock_enabled) (own_of c.args.own) c.args.shape.width c.args.value.0 c.args.shape.clock.0 c.args.shape.edge (presence c.args.enable) (sym c.in-At.ensures) c.in-Done.ensures) (then_stop (c.in-Refused-next_read.ensures s _) _ refl)
+pub returns-in_err-enable : goal.returns-in_err-enable
+unfolding read_register
+returns-in_err-enable c = writes_after _ c.in_ok-target.ensures (unread_err _ _ c.from_residual-in_err-enable.result _ c.in_err-enable.ensures c.from_residual-in_err-enable.ensures.1)
 
-pub returns-in-Refused : goal.returns-in-Refused
-returns-in-Refused c = λ s. wrote_as (read_refused (wires_of c.args.wires.now c.args.places.now) c.args.constants c.args.output (enabled_of c.args.clock_enabled) (own_of c.args.own) c.args.shape.width c.args.value.0 c.args.shape.clock.0 c.args.shape.edge (presence c.args.enable) (sym c.in-At.ensures) c.in-Refused.ensures) wrote_refuse
+pub returns-in_err-next : goal.returns-in_err-next
+unfolding read_register
+returns-in_err-next c = writes_after _ c.in_ok-target.ensures (writes_after _ c.in_ok-enable.ensures (writes_err c.in_err-next.ensures _ _ c.from_residual-in_err-next.result _ refl c.from_residual-in_err-next.ensures.1))
 
-pub returns-in-Missing : goal.returns-in-Missing
-returns-in-Missing c = λ s. wrote_as (read_missing (wires_of c.args.wires.now c.args.places.now) c.args.constants c.args.output (enabled_of c.args.clock_enabled) (own_of c.args.own) c.args.shape.width c.args.value.0 c.args.shape.clock.0 c.args.shape.edge (presence c.args.enable) (sym c.in-Missing.ensures) ∙ ap (λ (x : ℕ). refuse 8 x) (sym c.wide.ensures)) wrote_refuse
+pub returns : goal.returns
+unfolding read_register
+returns c = writes_after _ c.in_ok-target.ensures (writes_after _ c.in_ok-enable.ensures (writes_then c.in_ok-next.ensures _ refl c.register.ensures))

@@ -1,14 +1,13 @@
-use Rattle.std.proofs.Common.{ap}
-use Rattle.recorder.proofs.Wrote.{then_done, then_same}
-use Rattle.recorder.specs.Lists.{emitted}
+use Rattle.std.proofs.Common.{refl}
+use Rattle.recorder.proofs.Calls.{writes_then, writes_err}
 use Rattle.memories.specs.Rams.{select_word}
 use Rattle.memories.specs.Steps.{pick_word}
 use Rattle.memories.proofs.select.select_deep.Goals as goal
 
-pub returns-in_default : goal.returns-in_default
-unfolding select_word pick_word
-returns-in_default c = λ s m. then_same (c.constant-a.ensures s m) _ (ap emitted c.in_default.is)
+pub returns-in_err-zero-clause-wrote : goal.returns-in_err-zero-clause-wrote
+unfolding select_word
+returns-in_err-zero-clause-wrote c = writes_err c.in_err-zero.ensures _ _ c.from_residual.result _ refl c.from_residual.ensures.1
 
-pub returns : goal.returns
+pub returns-clause-wrote : goal.returns-clause-wrote
 unfolding select_word pick_word
-returns c = λ s m. then_done (c.constant-a.ensures s m) _ (ap emitted c.in-Done.is) (c.select_16384.ensures s m)
+returns-clause-wrote c = writes_then c.in_ok-zero.ensures _ refl c.select_of.ensures.wrote

@@ -1,11 +1,5 @@
-use Rattle.std.proofs.Common.{arith}
-use Rattle.netlist.proofs.RamLaws.{widening_more, widening_end}
+use Rattle.netlist.proofs.RamLaws.{width_is}
 use Rattle.netlist.proofs.ram.address_width.Goals as goal
 
--- src/ram.rt:33:5
-pub loop-room-preserved : goal.loop-room-preserved
-loop-room-preserved c = widening_more _ _ _ c.loop-room.invariant (omega arith) c.ranges.depth.fits
-
--- src/ram.rt:27:1
 pub returns : goal.returns
-returns c = widening_end _ _ _ c.loop-room.invariant (omega arith)
+returns c = width_is _ _ c.if-depth-le2.false c.ilog2.ensures.power_le c.ilog2.ensures.next_power_gt c.ilog2.ensures.bound

@@ -1,15 +1,8 @@
-use Rattle.std.proofs.Common.{refl}
 use Rattle.reader.proofs.SectionLaws.{ports_refused, cells_refused}
 use Rattle.reader.proofs.sections.check_sections.Goals as goal
 
--- src/sections.rt:118:9
-pub returns-in-Refused : goal.returns-in-Refused
-returns-in-Refused c =
-    let a = c.args in
-    ports_refused a.limits a.words.now a.layout _ a.layout.cells c.wide.ensures refl c.requires _ c.check_ports-ports.ensures _ c.in-Refused.is
+pub returns-in_err-ports : goal.returns-in_err-ports
+returns-in_err-ports c = ports_refused c.args.limits c.args.words.now c.args.layout _ _ c.from_residual.ensures.1 c.ports.ensures c.in_err-ports.was
 
--- src/sections.rt:123:9
-pub returns-in-Refused-walk : goal.returns-in-Refused-walk
-returns-in-Refused-walk c =
-    let a = c.args in
-    cells_refused a.limits a.words.now a.layout _ c.wide-2.result c.wide.ensures c.wide-2.ensures c.requires _ c.check_ports-ports.ensures _ c.in_default.is _ c.check_cells-cells.ensures _ c.in-Refused-walk.is
+pub returns-in_err-cell : goal.returns-in_err-cell
+returns-in_err-cell c = cells_refused c.args.limits c.args.words.now c.args.layout _ _ c.from_residual-in_err-cell.ensures.1 c.requires c.ports.ensures c.in_ok-ports.was c.cells.ensures c.in_err-cell.was

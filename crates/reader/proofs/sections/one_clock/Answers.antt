@@ -1,19 +1,20 @@
-use Rattle.std.proofs.Common.{◌∙◌}
-use Rattle.reader.proofs.SectionLaws.{clock_other, clock_single, clock_differs, clock_same}
+use Rattle.std.proofs.Common.{sym, ap, ◌∙◌}
+use Rattle.netlist.specs.declared.fields.Fields.{Fields}
+use Rattle.reader.proofs.SectionLaws.{clock_other, clock_single, clock_same, clock_differs}
 use Rattle.reader.proofs.sections.one_clock.Goals as goal
 
--- src/sections.rt:66:9
-pub returns-then-field-ne6 : goal.returns-then-field-ne6
-returns-then-field-ne6 c = clock_other c.args.words.now c.args.at _ c.field.ensures c.if-field-ne6.true
+pub returns-in_default : goal.returns-in_default
+returns-in_default c = clock_other _ _ (λ z. c.in_default.not-BlockRam (c.kind.ensures ∙ z))
 
--- src/sections.rt:69:9
-pub returns-then-field-eq0 : goal.returns-then-field-eq0
-returns-then-field-eq0 c = clock_single c.args.words.now c.args.at _ c.field.ensures c.if-field-ne6.false _ c.field-2.ensures c.if-field-eq0.true
+pub returns-then-word-eq0 : goal.returns-then-word-eq0
+returns-then-word-eq0 c = clock_single _ _ (sym c.kind.ensures ∙ c.in-BlockRam.is) (sym c.word.ensures ∙ c.if-word-eq0.true)
 
--- src/sections.rt:75:9
-pub returns-then-field-clock : goal.returns-then-field-clock
-returns-then-field-clock c = clock_differs c.args.words.now c.args.at _ c.field.ensures c.if-field-ne6.false _ _ _ c.field-2.ensures c.if-field-eq0.false (c.wide-width.ensures ∙ c.field-3.ensures) c.ahead-second.ensures _ _ c.field-clock.ensures c.field-4.ensures c.if-field-clock.true
+pub returns-then-word : goal.returns-then-word
+returns-then-word c =
+    let cell = c.args.cell in
+    clock_same cell.words.now cell.at (sym c.kind.ensures ∙ c.in-BlockRam.is) _ (ap (λ (f : Fields). f.at) c.second_port-second.ensures) (λ z. c.if-word-eq0.false (c.word.ensures ∙ z)) _ _ c.word-2.ensures (cc) _ _ c.if-word.true c.word-then-word.ensures (cc)
 
--- src/sections.rt:62:1
-pub returns : goal.returns
-returns c = clock_same c.args.words.now c.args.at _ c.field.ensures c.if-field-ne6.false _ _ _ c.field-2.ensures c.if-field-eq0.false (c.wide-width.ensures ∙ c.field-3.ensures) c.ahead-second.ensures _ _ _ _ c.field-clock.ensures c.field-4.ensures c.if-field-clock.false c.field-edge.ensures c.field-5.ensures
+pub returns-else-word : goal.returns-else-word
+returns-else-word c =
+    let cell = c.args.cell in
+    clock_differs cell.words.now cell.at (sym c.kind.ensures ∙ c.in-BlockRam.is) _ (ap (λ (f : Fields). f.at) c.second_port-second.ensures) (λ z. c.if-word-eq0.false (c.word.ensures ∙ z)) _ _ c.word-2.ensures (cc) c.if-word.false

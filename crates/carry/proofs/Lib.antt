@@ -1,0 +1,2 @@
+-- The laws of carry.
+pub mod Rows

@@ -1,0 +1,12 @@
+use Rattle.std.proofs.Common.{rules, refl}
+use Rattle.recorder.specs.Lists.{lists}
+use Rattle.recorder.specs.Calls.{lists_in}
+use Rattle.converter.specs.Steps.{RecordsNetlist}
+use Rattle.converter.proofs.Sequence.{recorded_netlist, by_lists}
+use Rattle.converter.proofs.record.record_netlist.Goals as goal
+
+pub returns : goal.returns
+returns c =
+    let w : RecordsNetlist (lists c.args.signals.now c.args.exprs.now c.args.stmts.now) c.args.wires.now c.args.places.now c.args.parts.now c.args.values.now c.args.banks.now c.args.words.now c.args.layout c.args.shared c.record_parts.result (lists_in c.record_parts.new.recorder) =
+      recorded_netlist c.args.words _ c.args.layout c.collect_flip_flop_banks-count.result _ c.args.wires.now c.args.places.now c.args.parts.now c.args.values.now c.args.banks.now _ c.args.shared refl c.collect_flip_flop_banks-count.ensures c.collect_flip_flop_banks-count.auto.parts c.collect_flip_flop_banks-count.auto.values c.record_parts.ensures in
+    by_lists w (search rules) (search rules) (search rules)

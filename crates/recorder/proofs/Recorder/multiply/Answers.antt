@@ -1,0 +1,5 @@
+use Rattle.std.proofs.Common.{refl}
+use Rattle.recorder.proofs.Recorder.multiply.Goals as goal
+
+pub returns : goal.returns
+returns c = c.push_fixed.ensures _ refl

@@ -1,0 +1,6 @@
+use Rattle.std.proofs.Common.{refl}
+use Rattle.wires.proofs.OnceLaws.{plain_swept}
+use Rattle.wires.proofs.Emitter.mux.Goals as goal
+
+pub returns : goal.returns
+returns c = plain_swept _ {e = c.args.self.now} c.mux-r.result c.swept.ensures.same c.mux-r.ensures (record { recorder = refl; seen = refl; first = refl; map = refl; size = refl }) refl c.swept.ensures.left
