@@ -4,7 +4,7 @@
 
 pub mod records;
 
-ghost use Rattle.std.specs.Prelude.{[], ◌∷◌, ◌++◌};
+ghost use Rattle.std.specs.Prelude.{◌≡◌, take, [], ◌∷◌, ◌++◌};
 ghost use Rattle.text.specs.Text.{Appended};
 ghost use Rattle.lines.specs.Ascii.{newline};
 ghost use Rattle.lines.specs.Lines.{record_text, counts_text};
@@ -12,7 +12,15 @@ ghost use Rattle.listing.specs.Listing.{line_text, lines_of};
 
 use crate::records::Records;
 use lines::records::{Record, put_counts, put_record};
+use recorder::Tape;
 use text::{Full, Text};
+
+// The words of a list that are written.
+pub fn written(list: &[u32], tape: Tape) -> &[u32]
+    ensures { result.now ≡ take tape.used list.now }
+{
+    &list[..tape.used.min(list.len())]
+}
 
 // The counts of signals, expressions and statements, with the line's end.
 pub fn put_first_line(text: &mut Text<'_>, signals: u32, exprs: u32, stmts: u32) -> Result<(), Full>

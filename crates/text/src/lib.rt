@@ -19,6 +19,13 @@ impl fmt::Display for Full {
     }
 }
 
+// Where text is put and then written, one `?` passes on both errors.
+impl From<Full> for io::Error {
+    fn from(_full: Full) -> io::Error {
+        io::Error::from(io::ErrorKind::WriteZero)
+    }
+}
+
 // Text at the start of a lent buffer.
 #[derive(Drop)]
 pub struct Text<'a> {

@@ -1,16 +1,13 @@
 -- Laws of the words of bytes.
 -- Assumes nothing.
-use mathlib.Core.Path.{◌≡◌, refl, sym, ◌∙◌, ap, subst}
+use mathlib.Core.Path.{◌≡◌, refl, sym, ◌∙◌, ap}
 use mathlib.Core.List.{List, [], ◌∷◌, ◌++◌}
-use Prim.Native.Nat.{ℕ, suc, ◌+◌, ◌-◌, ◌*◌, ◌/◌, ◌≤◌, ◌<◌, min}
+use Prim.Native.Nat.{ℕ, suc, ◌+◌, ◌-◌, ◌/◌, ◌<◌, min}
 use native.Mathlib.Omega.{arith}
 use native.Mathlib.Nat.{add-zero}
 use lib.ListN.{length, get_or, set, take, drop, length-drop, length-append, length-take}
-use lib.Seq.{take-suc, drop-cons, drop-drop, get_or-drop, append_snoc, set_at, drop_at, length-take-le, take-append-le}
-use Rattle.std.specs.Int.{from_le_bytes}
-use Rattle.std.proofs.Common.{w32}
+use lib.Seq.{take-suc, drop-cons, drop-drop, get_or-drop, append_snoc, set_at, length-take-le}
 use Rattle.std.specs.declared.option.Option.{Option}
-use Rattle.std.specs.Io.KnownBytes.{Consumes}
 use Rattle.std.proofs.KnownBytes.{Consumes-nil}
 use Rattle.words.specs.Words.{le_word, words_of, Laid, ReadWords}
 
@@ -23,10 +20,6 @@ words_length (a ∷ b ∷ c ∷ []) = refl
 words_length (a ∷ b ∷ c ∷ d ∷ bytes) =
     let h : length (words_of bytes) ≡ length bytes / 4 = words_length bytes in
     omega (arith, h)
-
--- the word of four bytes
-pub word_of_four : (a b c d : ℕ) → from_le_bytes w32 (a ∷ b ∷ c ∷ d ∷ []) ≡ le_word a b c d
-word_of_four a b c d = omega arith
 
 -- the first four bytes make the first word
 pub words_next : (four left : List ℕ) → length four ≡ 4
@@ -83,23 +76,3 @@ laid_none bytes out = record { count = omega arith; words = refl }
 -- nothing is read
 pub read_none : (bytes out : List ℕ) (n : ℕ) (left : Option (List ℕ)) → ReadWords bytes out n 0 bytes out left left
 read_none bytes out n left = record { came = 0; most = omega arith; taken = Consumes-nil left; laid = laid_none bytes out; kept = refl; roomless = λ h. (refl, refl) }
-
--- some bytes come in front of those behind n words
-pub read_some : (bytes front out : List ℕ) (n came : ℕ) {r : ℕ} {out' : List ℕ} (left left' : Option (List ℕ)) → n ≤ length bytes / 4 → length front ≡ length (take (4 * n) bytes) → came ≤ 4 * n
-    → Consumes left left' (take came front) → Laid (take came (front ++ drop (4 * n) bytes)) out r out' → ReadWords bytes out n r (front ++ drop (4 * n) bytes) out' left left'
-read_some bytes front out n came left left' room l most taken laid =
-    let e : length (take (4 * n) bytes) ≡ 4 * n = length-take-le (4 * n) bytes (omega (arith, room)) in
-    record {
-      came = came;
-      most = most;
-      taken = subst (Consumes left left') (sym (take-append-le came front (drop (4 * n) bytes) (omega (arith, l, e, most)))) taken;
-      laid = laid;
-      kept = drop_at front (drop (4 * n) bytes) (4 * n) (l ∙ e);
-      roomless = λ h. absurd (omega (arith, room, h));
-    }
-
--- no more than the room for n words
-pub never_more : (bytes front : List ℕ) (n came : ℕ) → n ≤ length bytes / 4 → length front ≡ length (take (4 * n) bytes) → came ≤ length front → 4 * n < came → ⊥
-never_more bytes front n came room l most h =
-    let e : length (take (4 * n) bytes) ≡ 4 * n = length-take-le (4 * n) bytes (omega (arith, room)) in
-    omega (arith, l, e, most, h)

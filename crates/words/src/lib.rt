@@ -47,8 +47,5 @@ pub fn read_words<R: Read>(from: &mut R, bytes: &mut [u8], out: &mut [u32], n: u
         return 0;
     }
     let got = read_full(from, &mut bytes[..4 * n]);
-    if 4 * n < got {
-        return 0;
-    }
     words_of(&bytes[..got], out)
 }
