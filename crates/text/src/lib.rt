@@ -2,7 +2,7 @@
 
 #![tactic(auto)]
 
-ghost use Rattle.std.specs.Prelude.{◌≡◌, ◌<◌, ◌≤◌, [], ◌∷◌, IsOk, length, drop, take};
+ghost use Rattle.std.specs.Prelude.{◌≡◌, ◌-◌, ◌≤◌, [], ◌∷◌, IsOk, length, drop, take};
 ghost use Rattle.std.specs.Io.KnownBytes.{Appends};
 ghost use Rattle.text.specs.Decimal.{decimal};
 
@@ -45,6 +45,13 @@ impl<'a> Text<'a> {
         Text { out, used: 0 }
     }
 
+    // How many bytes more fit.
+    pub fn room(&self) -> usize
+        ensures { result ≡ length self.now.out.now - self.now.used }
+    {
+        self.out.len() - self.used
+    }
+
     pub fn put_byte(&mut self, byte: u8) -> Result<(), Full>
         ensures { Appended self.old (byte ∷ []) result self.new }
     {
@@ -60,7 +67,7 @@ impl<'a> Text<'a> {
     pub fn put(&mut self, bytes: &[u8]) -> Result<(), Full>
         ensures { Appended self.old bytes.now result self.new }
     {
-        let fits = bytes.len().min(self.out.len() - self.used);
+        let fits = bytes.len().min(self.room());
         self.out[self.used..self.used + fits].copy_from_slice(&bytes[..fits]);
         self.used += fits;
         if fits == bytes.len() {
@@ -85,6 +92,14 @@ impl<'a> Text<'a> {
         &self.out[..self.used]
     }
 
+    pub fn clear(&mut self)
+        ensures same_reference { self.new.out.ghost_name ≡ self.old.out.ghost_name }
+        ensures same_bytes { self.new.out.now ≡ self.old.out.now }
+        ensures empty { self.new.used ≡ 0 }
+    {
+        self.used = 0;
+    }
+
     // Writes the text to a writer, as the standard output, and begins anew.
     pub fn flush<W: Write>(&mut self, to: &mut W) -> io::Result<()>
         ensures same_reference { self.new.out.ghost_name ≡ self.old.out.ghost_name }
@@ -93,7 +108,7 @@ impl<'a> Text<'a> {
         ensures written { IsOk result → Appends (W.contents to.old) (W.contents to.new) (take self.old.used self.old.out.now) }
     {
         let sent = to.write_all(self.bytes());
-        self.used = 0;
+        self.clear();
         sent
     }
 }
