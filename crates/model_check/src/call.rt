@@ -11,26 +11,16 @@ ghost use Rattle.simulation.specs.Fault.{width_total, input_field, input_total, 
 
 use crate::check::malformed;
 use refusal::Refusal;
+use simulation::Edge;
 use simulation::index::{count, field, plus, size, sum_to, wide};
-use simulation::{Fault, Fired, Ran};
 
-// The first of two answers.
-pub fn either(a: Ran, b: Ran) -> Ran
-    ensures { answer_of result ≡ or_else (answer_of a) (answer_of b) }
-{
-    match a {
-        Ran::Refused(x) => Ran::Refused(x),
-        Ran::Done => b,
-    }
-}
-
-fn too_short(n: usize, buffer: &[u8]) -> Ran
+fn too_short(n: usize, buffer: &[u8]) -> Result<(), Refusal>
     ensures { answer_of result ≡ only (ltb (length buffer.now) n) (Some (1, n)) }
 {
     if buffer.len() < n {
-        return Ran::Refused(Refusal::BufferTooShort(n));
+        return Err(Refusal::BufferTooShort(n));
     }
-    Ran::Done
+    Ok(())
 }
 
 // The widths of all records, as far as their sum can be named.
@@ -48,35 +38,32 @@ pub fn call_lengths(
     work_bits: &[u8],
     work_exprs: &[u8],
     work_signals: &[u8],
-) -> Ran
+) -> Result<(), Refusal>
     ensures { answer_of result ≡ first_of (length_causes signals.now exprs.now bytes.now work_bits.now work_exprs.now work_signals.now) }
 {
-    let a = too_short(width_total(signals), bytes);
-    let b = too_short(width_total(exprs), work_bits);
-    let e = count(exprs);
-    let c = too_short(e.count, work_exprs);
-    let s = count(signals);
-    let d = too_short(s.count, work_signals);
-    either(a, either(b, either(c, d)))
+    too_short(width_total(signals), bytes)?;
+    too_short(width_total(exprs), work_bits)?;
+    too_short(count(exprs), work_exprs)?;
+    too_short(count(signals), work_signals)
 }
 
 // The first of n bytes that is no bit.
-fn no_bit(bytes: &[u8], n: usize) -> Ran
+fn no_bit(bytes: &[u8], n: usize) -> Result<(), Refusal>
     requires { n ≤ length bytes.now }
     ensures { answer_of result ≡ no_bit 0 (take n bytes.now) }
 {
     let mut i: usize = 0;
     while i < n {
         if bytes[i] > 1 {
-            return Ran::Refused(Refusal::BadTick(i));
+            return Err(Refusal::BadTick(i));
         }
         i += 1;
     }
-    Ran::Done
+    Ok(())
 }
 
 // 14 for a signal byte: the first of them, as far as there are any, that is no bit.
-pub fn byte_fault(signals: &[u32], bytes: &[u8]) -> Ran
+pub fn byte_fault(signals: &[u32], bytes: &[u8]) -> Result<(), Refusal>
     ensures { answer_of result ≡ no_bit 0 (take (width_total signals.now) bytes.now) }
 {
     let n = width_total(signals);
@@ -112,55 +99,57 @@ pub fn input_total(signals: &[u32]) -> usize
     sum
 }
 
-fn wrong_count(n: usize, ticks: &[u8]) -> Ran
+fn wrong_count(n: usize, ticks: &[u8]) -> Result<(), Refusal>
     ensures { answer_of result ≡ wrong_count n ticks.now }
 {
     if ticks.len() == n {
-        return Ran::Done;
+        return Ok(());
     }
-    Ran::Refused(Refusal::BadTick(n))
+    Err(Refusal::BadTick(n))
 }
 
-fn wrong_edge(signals: usize, s: usize, edge: u32) -> Ran
+fn wrong_edge(signals: usize, s: usize, edge: u32) -> Result<(), Refusal>
     ensures { answer_of result ≡ pick (ltb s signals && leb edge 1) None (Some (14, 0)) }
 {
     if s >= signals {
-        return Ran::Refused(Refusal::BadTick(0));
+        return Err(Refusal::BadTick(0));
     }
     if edge > 1 {
-        return Ran::Refused(Refusal::BadTick(0));
+        return Err(Refusal::BadTick(0));
     }
-    Ran::Done
+    Ok(())
 }
 
-fn wrong_fired(signals: usize, fired: Fired) -> Ran
+fn wrong_fired(signals: usize, fired: Option<Edge>) -> Result<(), Refusal>
     ensures { answer_of result ≡ wrong_fired signals (fired_of fired) }
 {
     match fired {
-        Fired::Nothing => Ran::Done,
-        Fired::Edge(s, edge) => wrong_edge(signals, wide(s.0), edge),
+        None => Ok(()),
+        Some(e) => wrong_edge(signals, wide(e.signal.0), e.edge),
     }
 }
 
 // 14 for one tick on a model of so many signals and input bits: a wrong count of tick bits, the first that is no bit, an edge that is none.
-pub fn tick_fault(count: usize, bits: usize, ticks: &[u8], fired: Fired) -> Ran
+pub fn tick_fault(
+    count: usize,
+    bits: usize,
+    ticks: &[u8],
+    fired: Option<Edge>,
+) -> Result<(), Refusal>
     ensures { answer_of result ≡ first_of (tick_causes count bits ticks.now (fired_of fired)) }
 {
-    let a = wrong_count(bits, ticks);
-    let b = no_bit(ticks, ticks.len());
-    let c = wrong_fired(count, fired);
-    either(a, either(b, c))
+    wrong_count(bits, ticks)?;
+    no_bit(ticks, ticks.len())?;
+    wrong_fired(count, fired)
 }
 
 // Refusal 14, for bytes that are enough.
-fn bits(signals: &[u32], bytes: &[u8], ticks: &[u8], fired: Fired) -> Ran
+fn bits(signals: &[u32], bytes: &[u8], ticks: &[u8], fired: Option<Edge>) -> Result<(), Refusal>
     requires { width_total signals.now ≤ length bytes.now }
     ensures { answer_of result ≡ first_of (bit_causes signals.now bytes.now ticks.now (fired_of fired)) }
 {
-    let s = count(signals);
-    let a = byte_fault(signals, bytes);
-    let b = tick_fault(s.count, input_total(signals), ticks, fired);
-    either(a, b)
+    byte_fault(signals, bytes)?;
+    tick_fault(count(signals), input_total(signals), ticks, fired)
 }
 
 // Refusals 1 and 14, for a model without a fault.
@@ -169,17 +158,14 @@ fn call_fault(
     exprs: &[u32],
     bytes: &[u8],
     ticks: &[u8],
-    fired: Fired,
+    fired: Option<Edge>,
     work_bits: &[u8],
     work_exprs: &[u8],
     work_signals: &[u8],
-) -> Ran
+) -> Result<(), Refusal>
     ensures { answer_of result ≡ call_causes (call_of (lists signals.now exprs.now []) bytes.now ticks.now (fired_of fired) work_bits.now work_exprs.now work_signals.now) }
 {
-    let a = call_lengths(signals, exprs, bytes, work_bits, work_exprs, work_signals);
-    let Ran::Done = a else {
-        return a;
-    };
+    call_lengths(signals, exprs, bytes, work_bits, work_exprs, work_signals)?;
     bits(signals, bytes, ticks, fired)
 }
 
@@ -192,16 +178,16 @@ pub fn check_call(
     stmts: &[u32],
     bytes: &[u8],
     ticks: &[u8],
-    fired: Fired,
+    fired: Option<Edge>,
     work_bits: &[u8],
     work_exprs: &[u8],
     work_signals: &mut [u8],
     widest: u32,
-) -> Ran
+) -> Result<(), Refusal>
     ensures answer { answer_of result ≡ checked_by widest (call_of (lists signals.now exprs.now stmts.now) bytes.now ticks.now (fired_of fired) work_bits.now work_exprs.now work_signals.old) }
     ensures zeros { (signal_table.new ≡ zeroed signal_table.old) × (expr_table.new ≡ zeroed expr_table.old) × (work_signals.new ≡ zeroed work_signals.old) }
 {
-    let f = malformed(
+    let fault = malformed(
         signals,
         signal_table,
         exprs,
@@ -210,9 +196,9 @@ pub fn check_call(
         work_signals,
         widest,
     );
-    match f {
-        Fault::At(n) => Ran::Refused(Refusal::MalformedModel(n)),
-        Fault::Fine => call_fault(
+    match fault {
+        Some(n) => Err(Refusal::MalformedModel(n)),
+        None => call_fault(
             signals,
             exprs,
             bytes,

@@ -7,30 +7,10 @@ ghost use Rattle.recorder.specs.Read.{split, read_signal, read_expr, read_stmt};
 ghost use Rattle.simulation.specs.Wellformed.{drives, count_of, fits, signal_fits, unsplit_all, in_range, earlier, width_sum, wide as wider, broad, suits, or_else, behind, malformed as malformed_by};
 ghost use Rattle.simulation.specs.Index.{fields_at, records_in, widths_in, Listed};
 ghost use Rattle.simulation.specs.Run.{zeroed};
-ghost use Rattle.simulation.specs.Fault.{fault_of, stands, Tallied, signal_fault_of, all_wide, const_test, read_test, concat_test, fixed_test, mux_test, eq_test, expr_test, expr_fault_of, Widths, head_test, reset_test, enable_test, reg_test, stmt_test, stmt_fault_of};
+ghost use Rattle.simulation.specs.Fault.{stands, Tallied, signal_fault_of, all_wide, const_test, read_test, concat_test, fixed_test, mux_test, eq_test, expr_test, expr_fault_of, Widths, head_test, reset_test, enable_test, reg_test, stmt_test, stmt_fault_of};
 
 use crate::widths::{fill, width};
-use simulation::Fault;
-use simulation::index::{Counted, count, field, size, wide};
-use simulation::zero::{zero_bytes, zero_words};
-
-// The first record that does not stand whole, with the signals and the expressions counted.
-fn unsplit(signals: &[u32], s: Counted, exprs: &[u32], e: Counted, stmts: &[u32]) -> Fault
-    requires { (s.count ≡ length (records_in signals.now)) × (s.whole ≡ (split signals.now).whole) × (e.count ≡ length (records_in exprs.now)) × (e.whole ≡ (split exprs.now).whole) }
-    ensures { fault_of result ≡ unsplit_all (lists signals.now exprs.now stmts.now) }
-{
-    if !s.whole {
-        return Fault::At(s.count);
-    }
-    if !e.whole {
-        return Fault::At(s.count + e.count);
-    }
-    let t = count(stmts);
-    if !t.whole {
-        return Fault::At(s.count + (e.count + t.count));
-    }
-    Fault::Fine
-}
+use simulation::index::{count_whole, field, size, wide};
 
 // The signal that the statement at an index stands on; `none` for a record that is no statement.
 fn target(list: &[u32], at: usize, size: usize, none: usize) -> usize
@@ -62,7 +42,7 @@ fn bump(table: &mut [u8], i: usize)
 fn tally(stmts: &[u32], table: &mut [u8])
     ensures { Tallied (records_in stmts.now) table.new }
 {
-    zero_bytes(table);
+    table.fill(0);
     let mut at: usize = 0;
     while at < stmts.len() {
         let size = size(stmts, at);
@@ -148,25 +128,25 @@ fn signal_fits(list: &[u32], at: usize, size: usize, k: u8, widest: u32) -> bool
 }
 
 // The first faulty signal.
-fn signal_fault(signals: &[u32], stmts: &[u32], table: &[u8], widest: u32) -> Fault
+fn signal_fault(signals: &[u32], stmts: &[u32], table: &[u8], widest: u32) -> Option<usize>
     requires { Tallied (records_in stmts.now) table.now }
-    ensures { fault_of result ≡ signal_fault_of widest (records_in signals.now) (records_in stmts.now) }
+    ensures { result ≡ signal_fault_of widest (records_in signals.now) (records_in stmts.now) }
 {
     let mut at: usize = 0;
     let mut n: usize = 0;
     while at < signals.len() {
         let size = size(signals, at);
         if size == 0 {
-            return Fault::Fine;
+            return None;
         }
         let k = drivers(stmts, table, n);
         if !signal_fits(signals, at, size, k, widest) {
-            return Fault::At(n);
+            return Some(n);
         }
         at += size;
         n += 1;
     }
-    Fault::Fine
+    None
 }
 
 // A value fits so many bits.
@@ -403,16 +383,16 @@ fn expr_fault(
     signal_table: &[u32],
     count: usize,
     widest: u32,
-) -> Fault
+) -> Option<usize>
     requires { Listed (widths_in exprs.now) table.now × Listed (widths_in signals.now) signal_table.now × (count ≡ length (records_in signals.now)) }
-    ensures { fault_of result ≡ expr_fault_of widest (records_in signals.now) (records_in exprs.now) }
+    ensures { result ≡ expr_fault_of widest (records_in signals.now) (records_in exprs.now) }
 {
     let mut at: usize = 0;
     let mut n: usize = 0;
     while at < exprs.len() {
         let size = size(exprs, at);
         if size == 0 {
-            return Fault::Fine;
+            return None;
         }
         if !expr_fits(
             exprs,
@@ -425,12 +405,12 @@ fn expr_fault(
             count,
             widest,
         ) {
-            return Fault::At(n);
+            return Some(n);
         }
         at += size;
         n += 1;
     }
-    Fault::Fine
+    None
 }
 
 // Signal s is there and has one bit.
@@ -683,16 +663,16 @@ fn stmt_fault(
     exprs: &[u32],
     table: &[u32],
     n: usize,
-) -> Fault
+) -> Option<usize>
     requires { Widths signals.now signal_table.now count exprs.now table.now n }
-    ensures { fault_of result ≡ stmt_fault_of (records_in signals.now) (records_in exprs.now) (records_in stmts.now) }
+    ensures { result ≡ stmt_fault_of (records_in signals.now) (records_in exprs.now) (records_in stmts.now) }
 {
     let mut at: usize = 0;
     let mut k: usize = 0;
     while at < stmts.len() {
         let size = size(stmts, at);
         if size == 0 {
-            return Fault::Fine;
+            return None;
         }
         if !stmt_fits(
             stmts,
@@ -705,26 +685,12 @@ fn stmt_fault(
             table,
             n,
         ) {
-            return Fault::At(k);
+            return Some(k);
         }
         at += size;
         k += 1;
     }
-    Fault::Fine
-}
-
-// The first fault, or else the second, behind k records.
-fn first(a: Fault, k: usize, b: Fault) -> Fault
-    requires { (n : ℕ) → fault_of b ≡ Some n → k + n < 18446744073709551616 }
-    ensures { fault_of result ≡ or_else (fault_of a) (behind k (fault_of b)) }
-{
-    match a {
-        Fault::At(n) => Fault::At(n),
-        Fault::Fine => match b {
-            Fault::At(n) => Fault::At(k + n),
-            Fault::Fine => Fault::Fine,
-        },
-    }
+    None
 }
 
 // The first faulty record of three lists, with tables of the signals' and the expressions' widths and of the statements on each signal.
@@ -736,19 +702,31 @@ fn first_fault(
     stmts: &[u32],
     bytes: &[u8],
     widest: u32,
-) -> Fault
+) -> Option<usize>
     requires { Listed (widths_in signals.now) signal_table.now × Listed (widths_in exprs.now) expr_table.now × Tallied (records_in stmts.now) bytes.now }
-    ensures { fault_of result ≡ malformed_by widest (lists signals.now exprs.now stmts.now) }
+    ensures { result ≡ malformed_by widest (lists signals.now exprs.now stmts.now) }
 {
-    let signals_counted = count(signals);
-    let s = signals_counted.count;
-    let exprs_counted = count(exprs);
-    let e = exprs_counted.count;
-    let cut = unsplit(signals, signals_counted, exprs, exprs_counted, stmts);
-    let a = signal_fault(signals, stmts, bytes, widest);
-    let b = expr_fault(exprs, expr_table, signals, signal_table, s, widest);
-    let c = stmt_fault(stmts, signals, signal_table, s, exprs, expr_table, e);
-    first(cut, 0, first(a, s, first(b, e, c)))
+    let s = match count_whole(signals) {
+        Ok(n) => n,
+        Err(n) => return Some(n),
+    };
+    let e = match count_whole(exprs) {
+        Ok(n) => n,
+        Err(n) => return Some(s + n),
+    };
+    if let Err(n) = count_whole(stmts) {
+        return Some(s + (e + n));
+    }
+    if let Some(n) = signal_fault(signals, stmts, bytes, widest) {
+        return Some(n);
+    }
+    if let Some(n) = expr_fault(exprs, expr_table, signals, signal_table, s, widest) {
+        return Some(s + n);
+    }
+    match stmt_fault(stmts, signals, signal_table, s, exprs, expr_table, e) {
+        Some(n) => Some(s + (e + n)),
+        None => None,
+    }
 }
 
 // Refusal 12: the first faulty record. The tables are work, for widths; so are the bytes, which count the statements on each signal. The
@@ -761,8 +739,8 @@ pub fn malformed(
     stmts: &[u32],
     bytes: &mut [u8],
     widest: u32,
-) -> Fault
-    ensures fault { fault_of result ≡ malformed_by widest (lists signals.now exprs.now stmts.now) }
+) -> Option<usize>
+    ensures fault { result ≡ malformed_by widest (lists signals.now exprs.now stmts.now) }
     ensures zeros { (signal_table.new ≡ zeroed signal_table.old) × (expr_table.new ≡ zeroed expr_table.old) × (bytes.new ≡ zeroed bytes.old) }
 {
     fill(signals, signal_table);
@@ -777,8 +755,8 @@ pub fn malformed(
         bytes,
         widest,
     );
-    zero_words(signal_table);
-    zero_words(expr_table);
-    zero_bytes(bytes);
+    signal_table.fill(0);
+    expr_table.fill(0);
+    bytes.fill(0);
     fault
 }

@@ -21,9 +21,8 @@ use crate::marks::{driver_marked, is_marked, ready};
 use crate::show::ports_end;
 use crate::tables::offset;
 use fusing::fill_forms;
+use simulation::index;
 use simulation::index::{field, plus, size, wide};
-use simulation::zero::zero_bytes;
-use simulation::{Driver, index};
 
 // Whether there is code; a word before which all ports begin; the bits of all expressions, and of all signals; how many registers, signals that they ask for and outputs are
 // listed; how many words the two pieces of code have; how much of the order is lent.
@@ -132,8 +131,8 @@ fn want_driver(
     ensures { Unplaced values.new }
 {
     match index::driver(stmts, driver_table, s) {
-        Driver::By(d) => want_expr(exprs, expr_table, d, values),
-        Driver::None => {}
+        Some(d) => want_expr(exprs, expr_table, d, values),
+        None => {}
     }
 }
 
@@ -549,7 +548,7 @@ fn first_code(
     ensures loaded { result ≤ n → (e : ℕ) → Loaded stmts.now e → Among order.new from result e }
     ensures driven { result ≤ n → (x d : ℕ) → Among order.new asked controls x → given assigns (stmts_in stmts.now) x ≡ Some d → Among order.new from result d }
 {
-    zero_bytes(values);
+    values.fill(0);
     want_loads(exprs, expr_table, stmts, order, loads, registers, values);
     want_drivers(
         exprs,
@@ -571,7 +570,7 @@ fn first_code(
         n,
         values,
     );
-    zero_bytes(marks);
+    marks.fill(0);
     let k = emit_all(
         signals,
         exprs,
@@ -624,7 +623,7 @@ fn second_code(
     ensures coded { result ≤ n → Coded signals.now exprs.now stmts.now n from result order.new }
     ensures driven { result ≤ n → (x d : ℕ) → Among order.new shown outputs x → given assigns (stmts_in stmts.now) x ≡ Some d → Among order.new from result d }
 {
-    zero_bytes(values);
+    values.fill(0);
     want_drivers(
         exprs,
         expr_table,
@@ -645,7 +644,7 @@ fn second_code(
         n,
         values,
     );
-    zero_bytes(marks);
+    marks.fill(0);
     let k = emit_all(
         signals,
         exprs,

@@ -3,7 +3,7 @@
 ghost use Rattle.std.specs.Prelude.{◌≡◌, Bool, List, [], ℕ, ◌+◌, ◌≤◌, ◌<◌, length, get_or};
 ghost use Rattle.bits.specs.Bits.{Bits};
 ghost use Rattle.settle.specs.Table.{at as signals_at};
-ghost use Rattle.simulation.specs.Index.{records_in, widths_in, offset as sum_to, start_of, Indexed, driver_of};
+ghost use Rattle.simulation.specs.Index.{records_in, widths_in, offset as sum_to, start_of, Indexed};
 ghost use Rattle.simulation.specs.Run.{fired_of, firing};
 ghost use Rattle.simulation.specs.Tick.{asserted as asserted_in};
 ghost use Rattle.evaluation.specs.Bytes.{Holds};
@@ -14,20 +14,20 @@ ghost use Rattle.evaluation.specs.Loads.{stmt_in, Stated, Begins, Control, contr
 
 use crate::store::store;
 use crate::tables::offset;
+use simulation::Edge;
 use simulation::index::{size, wide};
-use simulation::{Driver, Fired};
 
 // An edge (0 rises, 1 falls) of signal c fires.
-fn fires(fired: Fired, c: u32, edge: u32) -> bool
+fn fires(fired: Option<Edge>, c: u32, edge: u32) -> bool
     ensures { result ≡ firing (fired_of fired) c edge }
 {
     match fired {
-        Fired::Nothing => false,
-        Fired::Edge(s, d) => {
-            if s.0 != c {
+        None => false,
+        Some(e) => {
+            if e.signal.0 != c {
                 return false;
             }
-            d == edge
+            e.edge == edge
         }
     }
 }
@@ -82,7 +82,7 @@ fn load_of(
     stmts: &[u32],
     signal_table: &[u32],
     at: usize,
-    fired: Fired,
+    fired: Option<Edge>,
     bytes: &[u8],
 ) -> u8
     requires { Indexed (widths_in signals.now) signal_table.now × (sum_to (widths_in signals.now) (length (records_in signals.now)) ≤ length bytes.now) × Stated signals.now stmts.now × Begins stmts.now at × (get_or stmts.now (at + 1) 0 ≡ 1) }
@@ -113,7 +113,7 @@ fn note_load(
     stmts: &[u32],
     signal_table: &[u32],
     at: usize,
-    fired: Fired,
+    fired: Option<Edge>,
     bytes: &[u8],
     marks: &mut [u8],
 )
@@ -132,7 +132,7 @@ fn note_loads(
     signals: &[u32],
     stmts: &[u32],
     signal_table: &[u32],
-    fired: Fired,
+    fired: Option<Edge>,
     bytes: &[u8],
     marks: &mut [u8],
 )
@@ -151,24 +151,24 @@ fn note_loads(
 }
 
 // The expression that the statement at a word loads, by the marks.
-fn loaded(stmts: &[u32], at: usize, marks: &[u8]) -> Driver
+fn loaded(stmts: &[u32], at: usize, marks: &[u8]) -> Option<u32>
     requires { Begins stmts.now at × Markable stmts.now marks.now }
-    ensures { (k : ℕ) → k < length (records_in stmts.now) → at ≡ start_of stmts.now k → driver_of result ≡ by_marks marks.now (stmt_in stmts.now k) }
+    ensures { (k : ℕ) → k < length (records_in stmts.now) → at ≡ start_of stmts.now k → result ≡ by_marks marks.now (stmt_in stmts.now k) }
 {
     if stmts[at + 1] != 1 {
-        return Driver::None;
+        return None;
     }
     let mark = marks[wide(stmts[at + 2])];
     if mark == 1 {
-        return Driver::By(stmts[at + 3]);
+        return Some(stmts[at + 3]);
     }
     if mark != 2 {
-        return Driver::None;
+        return None;
     }
     if stmts[at + 6] == 0 {
-        return Driver::None;
+        return None;
     }
-    Driver::By(stmts[at + 9])
+    Some(stmts[at + 9])
 }
 
 // The statement at a word stores what it loads.
@@ -187,7 +187,7 @@ fn store_load(
     ensures { (k : ℕ) → k < length (records_in stmts.now) → at ≡ start_of stmts.now k → StoresLoad signals.now exprs.now stmts.now values.now marks.now k bytes.old bytes.new }
 {
     match loaded(stmts, at, marks) {
-        Driver::By(d) => store(
+        Some(d) => store(
             signals,
             exprs,
             expr_table,
@@ -197,7 +197,7 @@ fn store_load(
             wide(d),
             bytes,
         ),
-        Driver::None => {}
+        None => {}
     }
 }
 
@@ -242,7 +242,7 @@ fn note_listed(
     signals: &[u32],
     stmts: &[u32],
     signal_table: &[u32],
-    fired: Fired,
+    fired: Option<Edge>,
     order: &[u32],
     from: usize,
     k: usize,
@@ -301,7 +301,7 @@ pub fn commit_listed(
     stmts: &[u32],
     expr_table: &[u32],
     signal_table: &[u32],
-    fired: Fired,
+    fired: Option<Edge>,
     order: &[u32],
     from: usize,
     k: usize,
@@ -345,7 +345,7 @@ pub fn commit(
     stmts: &[u32],
     expr_table: &[u32],
     signal_table: &[u32],
-    fired: Fired,
+    fired: Option<Edge>,
     values: &[u8],
     marks: &mut [u8],
     bytes: &mut [u8],

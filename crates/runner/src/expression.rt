@@ -7,7 +7,6 @@ ghost use Rattle.evaluation.specs.Ready.{Ready, Evaluated, Prepared, Room, Compu
 
 use crate::bytes::{copy, copy_within, equal, gate, number, product, put_number};
 use crate::tables::{driver, offset, start};
-use simulation::Driver;
 use simulation::index::wide;
 
 // Where the value of an operand begins, whose number is word i.
@@ -160,11 +159,11 @@ fn eval_read(
     let s = wide(exprs[at + 3]);
     let l = wide(exprs[at + 4]);
     match driver(stmts, driver_table, s) {
-        Driver::By(d) => {
+        Some(d) => {
             let from = offset(exprs, expr_table, wide(d));
             copy_within(values, to, from + l, w);
         }
-        Driver::None => {
+        None => {
             let from = offset(signals, signal_table, s);
             copy(values, to, bytes, from + l, w);
         }

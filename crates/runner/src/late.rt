@@ -14,7 +14,7 @@ use crate::code::Code;
 use crate::coded::settle_coded;
 use crate::commit::commit_listed;
 use crate::store::{set_inputs, store_listed};
-use simulation::Fired;
+use simulation::Edge;
 
 // The registers load, over signals whose inputs are set.
 fn load_late(
@@ -29,7 +29,7 @@ fn load_late(
     n: usize,
     code: Code,
     count: usize,
-    fired: Fired,
+    fired: Option<Edge>,
     bytes: &mut [u8],
     values: &mut [u8],
     marks: &mut [u8],
@@ -152,7 +152,7 @@ pub fn tick_late(
     code: Code,
     count: usize,
     ticks: &[u8],
-    fired: Fired,
+    fired: Option<Edge>,
     bytes: &mut [u8],
     values: &mut [u8],
     marks: &mut [u8],

@@ -21,8 +21,8 @@ use crate::show::{end_of, fired_by, put_answer, show};
 use crate::ticks::tick;
 use model_check::call::tick_fault;
 use refusal::Refusal;
+use simulation::Edge;
 use simulation::index::wide;
-use simulation::{Fired, Ran};
 
 // One tick, by the plan if there is one.
 fn tick_either(
@@ -38,7 +38,7 @@ fn tick_either(
     code: Code,
     count: usize,
     ticks: &[u8],
-    fired: Fired,
+    fired: Option<Edge>,
     bytes: &mut [u8],
     values: &mut [u8],
     work_exprs: &mut [u8],
@@ -90,11 +90,17 @@ fn tick_either(
 }
 
 // 14 for one tick of which `asked` bits are asked for and `ticks` are there.
-pub fn head_fault(count: usize, inputs: usize, asked: usize, ticks: &[u8], fired: Fired) -> Ran
+pub fn head_fault(
+    count: usize,
+    inputs: usize,
+    asked: usize,
+    ticks: &[u8],
+    fired: Option<Edge>,
+) -> Result<(), Refusal>
     ensures { answer_of result ≡ tick_causes count inputs (handed inputs asked ticks.now) (fired_of fired) }
 {
     if ticks.len() < asked {
-        return Ran::Refused(Refusal::BadTick(inputs));
+        return Err(Refusal::BadTick(inputs));
     }
     tick_fault(count, inputs, ticks, fired)
 }
@@ -115,50 +121,46 @@ fn run_tick(
     inputs: usize,
     asked: usize,
     ticks: &[u8],
-    fired: Fired,
+    fired: Option<Edge>,
     bytes: &mut [u8],
     values: &mut [u8],
     work_exprs: &mut [u8],
     work_signals: &mut [u8],
-) -> Ran
+) -> Result<(), Refusal>
     requires { Prepared signals.now exprs.now stmts.now expr_table.now signal_table.now × Starts exprs.now starts.now × Driven stmts.now driver_table.now × Room signals.now exprs.now bytes.old values.old × (n ≡ length (records_in exprs.now)) × (count ≡ length (records_in signals.now)) × (n ≤ length work_exprs.old) × (count ≤ length work_signals.old) × Ordered (model_in signals.now exprs.now stmts.now) n order.now × (looped (model_in signals.now exprs.now stmts.now) ≡ None) × Filled (widths_in exprs.now) values.old × Filled (widths_in signals.now) bytes.old × (inputs ≡ total input_width (signals_in signals.now)) × Planning signals.now exprs.now stmts.now n count code order.now values.old }
     ensures answered { answer_of result ≡ tick_causes count inputs (handed inputs asked ticks.now) (fired_of fired) }
     ensures runs { RunsLate signals.now exprs.now stmts.now (handed inputs asked ticks.now) (fired_of fired) (answer_of result) bytes.old bytes.new }
     ensures filled { Filled (widths_in exprs.now) values.new }
 {
-    match head_fault(count, inputs, asked, ticks, fired) {
-        Ran::Refused(x) => Ran::Refused(x),
-        Ran::Done => {
-            tick_either(
-                signals,
-                exprs,
-                stmts,
-                starts,
-                expr_table,
-                signal_table,
-                driver_table,
-                order,
-                n,
-                code,
-                count,
-                ticks,
-                fired,
-                bytes,
-                values,
-                work_exprs,
-                work_signals,
-            );
-            Ran::Done
-        }
-    }
+    head_fault(count, inputs, asked, ticks, fired)?;
+    tick_either(
+        signals,
+        exprs,
+        stmts,
+        starts,
+        expr_table,
+        signal_table,
+        driver_table,
+        order,
+        n,
+        code,
+        count,
+        ticks,
+        fired,
+        bytes,
+        values,
+        work_exprs,
+        work_signals,
+    );
+    Ok(())
 }
 
-fn is_made(r: Ran) -> bool
+fn is_made(r: Result<(), Refusal>) -> bool
     ensures { result ≡ is_made (answer_of r) }
 {
     match r {
-        Ran::Done => true,
-        Ran::Refused(_x) => false,
+        Ok(()) => true,
+        Err(_x) => false,
     }
 }
 

@@ -9,7 +9,6 @@ ghost use Rattle.runner.specs.Plan.{Listing, Controls, Outputs};
 
 use crate::commit::enable_at;
 use simulation::index::{size, wide};
-use simulation::zero::zero_bytes;
 
 // The words at which registers begin.
 pub fn list_registers(
@@ -130,7 +129,7 @@ pub fn list_controls(
     ensures kept { take from order.new ≡ take from order.old }
     ensures listed { result ≤ room → Controls stmts.now order.new from result }
 {
-    zero_bytes(marks);
+    marks.fill(0);
     let mut k: usize = 0;
     let mut j: usize = 0;
     while j < count {

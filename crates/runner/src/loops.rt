@@ -5,11 +5,9 @@ ghost use Rattle.simulation.specs.Index.{records_in};
 ghost use Rattle.simulation.specs.Tick.{depends, looped};
 ghost use Rattle.ordering.specs.Marks.{Backed};
 ghost use Rattle.ordering.specs.Words.{model_in, model_with, Tabled, Faultless};
-ghost use Rattle.ordering.specs.Loops.{loop_of, finds, Touch, Touches, Found, OnLoop};
+ghost use Rattle.ordering.specs.Loops.{finds, Touch, Touches, Found, OnLoop};
 
 use crate::marks::{driver_marked, is_marked, touched};
-use ordering::Loop;
-use simulation::zero::zero_bytes;
 
 fn finds_one(
     exprs: &[u32],
@@ -95,7 +93,7 @@ fn mark_leading(
     requires { Tabled exprs.now starts.now stmts.now drivers.now × (n ≡ length (records_in exprs.now)) × (n ≤ length marks.old) × Faultless signals.now exprs.now stmts.now }
     ensures { Found (model_with signals.now exprs.now stmts.now) s marks.new }
 {
-    zero_bytes(marks);
+    marks.fill(0);
     loop {
         let more = touch_pass(exprs, starts, stmts, drivers, marks, signals, s, n);
         if !more {
@@ -131,16 +129,16 @@ pub fn lowest_on_loop(
     signals: &[u32],
     n: usize,
     count: usize,
-) -> Loop
+) -> Option<usize>
     requires { Tabled exprs.now starts.now stmts.now drivers.now × (n ≡ length (records_in exprs.now)) × (n ≤ length marks.old) × Faultless signals.now exprs.now stmts.now × (count ≡ length (model_with signals.now exprs.now stmts.now).signals) }
-    ensures { loop_of result ≡ looped (model_with signals.now exprs.now stmts.now) }
+    ensures { result ≡ looped (model_with signals.now exprs.now stmts.now) }
 {
     let mut s: usize = 0;
     while s < count {
         if on_loop(exprs, starts, stmts, drivers, marks, signals, s, n) {
-            return Loop::At(s);
+            return Some(s);
         }
         s += 1;
     }
-    Loop::Free
+    None
 }

@@ -6,7 +6,6 @@ ghost use Rattle.ordering.specs.Marks.{marked, ready as ready_in, touched as tou
 ghost use Rattle.ordering.specs.Words.{model_in, driver_marked, Tabled};
 
 use crate::tables::{driver, start};
-use simulation::Driver;
 use simulation::index::wide;
 
 pub fn is_marked(marks: &[u8], e: usize) -> bool
@@ -54,8 +53,8 @@ pub fn driver_marked(stmts: &[u32], drivers: &[u32], marks: &[u8], s: usize, non
     ensures { result ≡ driver_marked stmts.now marks.now s none }
 {
     match driver(stmts, drivers, s) {
-        Driver::None => none,
-        Driver::By(e) => is_marked(marks, wide(e)),
+        None => none,
+        Some(e) => is_marked(marks, wide(e)),
     }
 }
 

@@ -2,20 +2,17 @@
 ghost use Rattle.std.specs.Prelude.{◌≡◌, ◌≤◌, length, take};
 ghost use Rattle.simulation.specs.Index.{records_in, Starts, Driven};
 ghost use Rattle.simulation.specs.Tick.{looped};
-ghost use Rattle.ordering.specs.Loops.{loop_of};
 ghost use Rattle.evaluation.specs.Ready.{Prepared, model_in};
 ghost use Rattle.evaluation.specs.Ticks.{NoFault, Ordered};
 
 use crate::loops::lowest_on_loop;
 use crate::sort::sort;
-use ordering::Loop;
 use simulation::index::{fill_drivers, fill_offsets, fill_starts};
-use simulation::zero::zero_bytes;
 
 // Whether the model has a loop, and how many expressions the order has: all or none.
 #[derive(Clone, Copy)]
 pub struct Readied {
-    pub found: Loop,
+    pub found: Option<usize>,
     pub ordered: usize,
 }
 
@@ -37,7 +34,7 @@ pub fn prepare(
     ensures prepared { Prepared signals.now exprs.now stmts.now expr_table.new signal_table.new }
     ensures started { Starts exprs.now starts.new }
     ensures driven { Driven stmts.now driver_table.new }
-    ensures found { loop_of result.found ≡ looped (model_in signals.now exprs.now stmts.now) }
+    ensures found { result.found ≡ looped (model_in signals.now exprs.now stmts.now) }
     ensures inside { result.ordered ≤ length order.new }
     ensures ordered { Ordered (model_in signals.now exprs.now stmts.now) n (take result.ordered order.new) }
 {
@@ -52,7 +49,7 @@ pub fn prepare(
             ordered: 0,
         };
     }
-    zero_bytes(marks);
+    marks.fill(0);
     let k = sort(exprs, starts, stmts, driver_table, marks, order, n);
     if k != n {
         let found = lowest_on_loop(exprs, starts, stmts, driver_table, marks, signals, n, count);
@@ -63,12 +60,12 @@ pub fn prepare(
     }
     if n <= order.len() {
         return Readied {
-            found: Loop::Free,
+            found: None,
             ordered: n,
         };
     }
     Readied {
-        found: Loop::Free,
+        found: None,
         ordered: 0,
     }
 }

@@ -14,24 +14,25 @@ ghost use Rattle.runner.specs.Whole.{among, Stopped};
 
 use crate::list::head_fault;
 use crate::show::{end_of, fired_by, ports_end, put_answer, show};
-use model_check::call::either;
+use refusal::Refusal;
+use simulation::Edge;
 use simulation::index::wide;
-use simulation::{Fired, Ran};
 
 // What refuses a tick: what stands ahead of its own causes, those, or what stands behind them.
 fn tick_refusal(
-    ahead: Ran,
+    ahead: Result<(), Refusal>,
     count: usize,
     inputs: usize,
     asked: usize,
     ticks: &[u8],
-    fired: Fired,
-    behind: Ran,
-) -> Ran
+    fired: Option<Edge>,
+    behind: Result<(), Refusal>,
+) -> Result<(), Refusal>
     ensures { answer_of result ≡ among (answer_of ahead) (tick_causes count inputs (handed inputs asked ticks.now) (fired_of fired)) (answer_of behind) }
 {
-    let own = head_fault(count, inputs, asked, ticks, fired);
-    either(ahead, either(own, behind))
+    ahead?;
+    head_fault(count, inputs, asked, ticks, fired)?;
+    behind
 }
 
 // All ticks, each with its answer; the outputs show the bytes as they stand.
@@ -42,10 +43,10 @@ pub fn refuse_ticks(
     heads: &[u32],
     bits: &[u8],
     bytes: &[u8],
-    ahead: Ran,
+    ahead: Result<(), Refusal>,
     count: usize,
     inputs: usize,
-    behind: Ran,
+    behind: Result<(), Refusal>,
     answers: &mut [u64],
     shown: &mut [u8],
 )

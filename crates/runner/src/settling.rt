@@ -12,7 +12,6 @@ use crate::loops::either;
 use crate::sort::adds_one;
 use crate::store::store_assigned;
 use simulation::index::wide;
-use simulation::zero::zero_bytes;
 
 // Along an order of all n expressions.
 fn settle_ordered(
@@ -144,7 +143,7 @@ fn settle_marked(
     requires { Prepared signals.now exprs.now stmts.now expr_table.now signal_table.now × Starts exprs.now starts.now × Driven stmts.now driver_table.now × Room signals.now exprs.now bytes.now values.old × (n ≡ length (records_in exprs.now)) × (n ≤ length marks.old) × (looped (model_in signals.now exprs.now stmts.now) ≡ None) × Filled (widths_in exprs.now) values.old }
     ensures { Settles signals.now exprs.now stmts.now bytes.now values.new }
 {
-    zero_bytes(marks);
+    marks.fill(0);
     loop {
         let more = settle_pass(
             signals,

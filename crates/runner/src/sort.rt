@@ -7,9 +7,8 @@ ghost use Rattle.ordering.specs.Words.{model_in, Tabled};
 ghost use Rattle.ordering.specs.Sorts.{Step, Sorts, SortsAll};
 
 use crate::marks::{is_marked, ready};
+use simulation::index;
 use simulation::index::{clip, driver, field, size, wide};
-use simulation::zero::zero_bytes;
-use simulation::{Driver, index};
 
 // Expression e can be marked, and is not yet.
 pub fn adds_one(
@@ -108,8 +107,8 @@ fn need(
         return n;
     }
     match driver(stmts, drivers, x) {
-        Driver::None => n,
-        Driver::By(e) => wide(e),
+        None => n,
+        Some(e) => wide(e),
     }
 }
 
@@ -341,7 +340,7 @@ pub fn sort(
     ensures { SortsAll (model_in exprs.now stmts.now) n result marks.new order.new }
 {
     guess_order(exprs, starts, stmts, drivers, marks, order, n);
-    zero_bytes(marks);
+    marks.fill(0);
     let mut k = sort_along(exprs, starts, stmts, drivers, marks, order, n);
     loop {
         let next = sort_pass(exprs, starts, stmts, drivers, marks, order, n, k);

@@ -7,7 +7,6 @@ ghost use Rattle.evaluation.specs.Ticks.{ReadSignals, GoodTicks, Inputs, StoresO
 
 use crate::bytes::copy;
 use crate::tables::{driver, offset};
-use simulation::Driver;
 use simulation::index::{size, wide};
 
 // Signal t takes the value of expression d, which is as wide.
@@ -50,7 +49,7 @@ fn store_driven(
         return;
     }
     match driver(stmts, driver_table, s) {
-        Driver::By(d) => store(
+        Some(d) => store(
             signals,
             exprs,
             expr_table,
@@ -60,7 +59,7 @@ fn store_driven(
             wide(d),
             bytes,
         ),
-        Driver::None => {}
+        None => {}
     }
 }
 
@@ -82,7 +81,7 @@ pub fn store_assigned(
     let mut s: usize = 0;
     while s < count {
         match driver(stmts, driver_table, s) {
-            Driver::By(d) => store(
+            Some(d) => store(
                 signals,
                 exprs,
                 expr_table,
@@ -92,7 +91,7 @@ pub fn store_assigned(
                 wide(d),
                 bytes,
             ),
-            Driver::None => {}
+            None => {}
         }
         s += 1;
     }

@@ -1,9 +1,9 @@
 // Where records and values stand, and what is assigned to a signal, by tables that are right.
 ghost use Rattle.std.specs.Prelude.{◌≡◌, ◌≤◌, ◌<◌, length};
-ghost use Rattle.simulation.specs.Index.{records_in, widths_in, offset as sum_to, start_of, Indexed, Starts, stmts_in, driver_of, Driven};
+ghost use Rattle.simulation.specs.Index.{records_in, widths_in, offset as sum_to, start_of, Indexed, Starts, stmts_in, Driven};
 ghost use Rattle.simulation.specs.Tick.{given, assigns as by_assign};
 
-use simulation::{Driver, index};
+use simulation::index;
 
 // The word at which record k begins.
 pub fn start(list: &[u32], table: &[u32], k: usize) -> usize
@@ -22,9 +22,9 @@ pub fn offset(list: &[u32], table: &[u32], k: usize) -> usize
 }
 
 // The expression that is assigned to signal s.
-pub fn driver(stmts: &[u32], table: &[u32], s: usize) -> Driver
+pub fn driver(stmts: &[u32], table: &[u32], s: usize) -> Option<u32>
     requires { Driven stmts.now table.now }
-    ensures { driver_of result ≡ given by_assign (stmts_in stmts.now) s }
+    ensures { result ≡ given by_assign (stmts_in stmts.now) s }
 {
     index::driver(stmts, table, s)
 }

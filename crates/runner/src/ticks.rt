@@ -10,7 +10,7 @@ ghost use Rattle.evaluation.specs.Ticks.{Filled, Ordered, GoodTicks, Ticks};
 use crate::commit::commit;
 use crate::settling::settle;
 use crate::store::set_inputs;
-use simulation::Fired;
+use simulation::Edge;
 
 // Inputs, settle, commit, settle.
 pub fn tick(
@@ -25,7 +25,7 @@ pub fn tick(
     n: usize,
     count: usize,
     ticks: &[u8],
-    fired: Fired,
+    fired: Option<Edge>,
     bytes: &mut [u8],
     values: &mut [u8],
     work_exprs: &mut [u8],

@@ -1,12 +1,9 @@
 // Where a list's records stand, their widths and offsets, and what is assigned to a signal. A table holds the first; for the others the list
 // is walked.
 ghost use Rattle.std.specs.Prelude.{◌≡◌, ◌+◌, ◌≤◌, min, length, get_or};
-ghost use Rattle.recorder.specs.Read.{split};
-ghost use Rattle.simulation.specs.Index.{size_at, fields_at, records_in, widths_in, offset as sum_to, start_of, clipped, start_table, start_by, offset_table, offset_by, stmts_in, driver_of, driver_table, driver_by, is_assign, assigns_to, noted};
+ghost use Rattle.simulation.specs.Index.{size_at, fields_at, records_in, counted, widths_in, offset as sum_to, start_of, clipped, start_table, start_by, offset_table, offset_by, stmts_in, driver_table, driver_by, is_assign, assigns_to, noted};
 ghost use Rattle.simulation.specs.Tick.{given, assigns as by_assign};
 
-use crate::Driver;
-use crate::zero::zero_words;
 use recorder::Cut;
 use recorder::read::cut;
 
@@ -57,32 +54,29 @@ pub fn field(list: &[u32], at: usize, size: usize, j: usize) -> u32
     list[at + 1 + j]
 }
 
-#[derive(Clone, Copy)]
-pub struct Counted {
-    pub count: usize,
-    pub whole: bool,
-}
-
-// How many records stand whole from the left, and whether they are the whole list.
-pub fn count(list: &[u32]) -> Counted
-    ensures { (result.count ≡ length (records_in list.now)) × (result.whole ≡ (split list.now).whole) }
+// How many records a list has; an error where words are left that are no record, with how many stand before them.
+pub fn count_whole(list: &[u32]) -> Result<usize, usize>
+    ensures { result ≡ counted list.now }
 {
     let mut at: usize = 0;
     let mut n: usize = 0;
     while at < list.len() {
         let size = size(list, at);
         if size == 0 {
-            return Counted {
-                count: n,
-                whole: false,
-            };
+            return Err(n);
         }
         at += size;
         n += 1;
     }
-    Counted {
-        count: n,
-        whole: true,
+    Ok(n)
+}
+
+// How many records stand whole from the left.
+pub fn count(list: &[u32]) -> usize
+    ensures { result ≡ length (records_in list.now) }
+{
+    match count_whole(list) {
+        Ok(n) | Err(n) => n,
     }
 }
 
@@ -219,33 +213,33 @@ fn assigns(stmts: &[u32], at: usize, size: usize, s: usize) -> bool
     wide(field(stmts, at, size, 1)) == s
 }
 
-fn walk_driver(stmts: &[u32], s: usize) -> Driver
-    ensures { driver_of result ≡ given by_assign (stmts_in stmts.now) s }
+fn walk_driver(stmts: &[u32], s: usize) -> Option<u32>
+    ensures { result ≡ given by_assign (stmts_in stmts.now) s }
 {
     let mut at: usize = 0;
     while at < stmts.len() {
         let size = size(stmts, at);
         if size == 0 {
-            return Driver::None;
+            return None;
         }
         if assigns(stmts, at, size, s) {
-            return Driver::By(field(stmts, at, size, 2));
+            return Some(field(stmts, at, size, 2));
         }
         at += size;
     }
-    Driver::None
+    None
 }
 
 // The expression that is assigned to signal s, from the table, or else from the list.
-pub fn driver(stmts: &[u32], table: &[u32], s: usize) -> Driver
-    ensures { driver_of result ≡ driver_by stmts.now table.now s }
+pub fn driver(stmts: &[u32], table: &[u32], s: usize) -> Option<u32>
+    ensures { result ≡ driver_by stmts.now table.now s }
 {
     let w = entry(table, s);
     if w == 0 {
-        return Driver::None;
+        return None;
     }
     if w < 4294967295 {
-        return Driver::By(w - 1);
+        return Some(w - 1);
     }
     walk_driver(stmts, s)
 }
@@ -272,7 +266,7 @@ fn note(stmts: &[u32], at: usize, size: usize, table: &mut [u32])
 pub fn fill_drivers(stmts: &[u32], table: &mut [u32])
     ensures { table.new ≡ driver_table stmts.now table.old }
 {
-    zero_words(table);
+    table.fill(0);
     let mut at: usize = 0;
     while at < stmts.len() {
         let size = size(stmts, at);

@@ -15,7 +15,7 @@ pub bounds-stmts-at : goal.bounds-stmts-at
 bounds-stmts-at c = omega (arith, fields_inside (stated c.requires.0) c.requires.3)
 
 pub store-requires : goal.store-requires
-store-requires c = load_asks c.requires.0 c.args.marks.now _ c.requires.3 c.in-By.ensures c.requires.1 c.wide.ensures c.wide-in-By.ensures
+store-requires c = load_asks c.requires.0 c.args.marks.now _ c.requires.3 c.in-Some.ensures c.requires.1 c.wide.ensures c.wide-in-Some.ensures
 
-pub returns-in-By : goal.returns-in-By
-returns-in-By c = λ k q b. load_stored c.requires.0 q b (c.in-By.ensures k q b) c.wide.ensures c.wide-in-By.ensures c.store.ensures
+pub returns-in-Some : goal.returns-in-Some
+returns-in-Some c = λ k q b. load_stored c.requires.0 q b (c.in-Some.ensures k q b) c.wide.ensures c.wide-in-Some.ensures c.store.ensures

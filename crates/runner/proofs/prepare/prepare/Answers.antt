@@ -48,7 +48,7 @@ pub lowest_on_loop-found-requires-then-k-n : goal.lowest_on_loop-found-requires-
 lowest_on_loop-found-requires-then-k-n c = (tabled c.requires.0 (starts_filled _ _ c.fill_starts.ensures) (drivers_filled _ _ c.fill_drivers.ensures), c.requires.1, omega arith, faultless c.requires.0, counted c.requires.0 c.requires.2)
 
 pub sort-k-requires : goal.sort-k-requires
-sort-k-requires c = (tabled c.requires.0 (starts_filled _ _ c.fill_starts.ensures) (drivers_filled _ _ c.fill_drivers.ensures), c.requires.1, omega arith, omega arith, sorting_zeroed (part_in c.args.exprs.now c.args.stmts.now) c.args.n c.args.marks.now c.zero_bytes.ensures)
+sort-k-requires c = (tabled c.requires.0 (starts_filled _ _ c.fill_starts.ensures) (drivers_filled _ _ c.fill_drivers.ensures), c.requires.1, omega arith, omega arith, sorting_zeroed (part_in c.args.exprs.now c.args.stmts.now) c.args.n c.args.marks.now (c.fill.ensures.after (λ _ e. e)))
 
 pub returns-then-n-ge4294967296-clause-found : goal.returns-then-n-ge4294967296-clause-found
 returns-then-n-ge4294967296-clause-found c = c.lowest_on_loop-found.ensures ∙ ap looped (model_is c.args.signals.now c.args.exprs.now c.args.stmts.now)

@@ -7,7 +7,7 @@ pub returns-then-s-count : goal.returns-then-s-count
 returns-then-s-count c = driven_past c.requires.0 (omega (arith, c.if-s-count.true, c.requires.3))
 
 pub store-requires : goal.store-requires
-store-requires c = driven_asks c.requires.0 c.requires.2 (sym c.in-By.ensures ∙ ap (λ (n : ℕ). Some n) (sym c.wide.ensures))
+store-requires c = driven_asks c.requires.0 c.requires.2 (sym c.in-Some.ensures ∙ ap (λ (n : ℕ). Some n) (sym c.wide.ensures))
 
-pub returns-in-By : goal.returns-in-By
-returns-in-By c = driven_by c.requires.0 (sym c.in-By.ensures ∙ ap (λ (n : ℕ). Some n) (sym c.wide.ensures)) c.store.ensures
+pub returns-in-Some : goal.returns-in-Some
+returns-in-Some c = driven_by c.requires.0 (sym c.in-Some.ensures ∙ ap (λ (n : ℕ). Some n) (sym c.wide.ensures)) c.store.ensures

@@ -1,6 +1,6 @@
 use Rattle.std.proofs.Common.{arith}
-use Rattle.simulation.proofs.Steps.{walked_start, walked_next, walked_within, walked_broken, walked_end}
-use Rattle.simulation.proofs.index.count.Goals as goal
+use Rattle.simulation.proofs.Steps.{walked_start, walked_next, walked_within, walked_broken, walked_end, counted_as}
+use Rattle.simulation.proofs.index.count_whole.Goals as goal
 
 -- src/index.rt:73:5
 pub loop-at-init : goal.loop-at-init
@@ -8,7 +8,7 @@ loop-at-init c = walked_start _
 
 -- src/index.rt:76:13
 pub returns-then-size-eq0 : goal.returns-then-size-eq0
-returns-then-size-eq0 c = walked_broken c.loop-at.invariant _ c.size-size.ensures c.loop-at-test.true c.if-size-eq0.true
+returns-then-size-eq0 c = counted_as _ (walked_broken c.loop-at.invariant _ c.size-size.ensures c.loop-at-test.true c.if-size-eq0.true)
 
 -- src/index.rt:81:9
 pub overflow_add-at : goal.overflow_add-at
@@ -20,4 +20,4 @@ loop-at-preserved c = walked_next c.loop-at.invariant _ c.size-size.ensures c.if
 
 -- src/index.rt:68:1
 pub returns : goal.returns
-returns c = walked_end c.loop-at.invariant c.loop-at-test.false
+returns c = counted_as _ (walked_end c.loop-at.invariant c.loop-at-test.false)

@@ -1,6 +1,6 @@
 use Rattle.std.proofs.Common.{length, ◌-◌}
 use Rattle.simulation.proofs.Steps.{Walked}
-use Rattle.simulation.proofs.index.count.Given as goal
+use Rattle.simulation.proofs.index.count_whole.Given as goal
 
 abbrev pub invariant-loop-at : goal.invariant-loop-at
 invariant-loop-at l = Walked l.list l.at l.n
