@@ -149,32 +149,50 @@ impl<R: Read, W: Write> Replay<'_, R, W> {
         if read_words(&mut self.from, self.bytes, self.words, n) != n {
             return Ok(false);
         }
-        let Some(words) = self.words.get(..n) else {
-            return Ok(false);
-        };
-        let Some(signals) = self.signals.get_mut(..head[1] as usize) else {
-            return Ok(false);
-        };
-        let Some(exprs) = self.exprs.get_mut(..head[2] as usize) else {
-            return Ok(false);
-        };
-        let Some(stmts) = self.stmts.get_mut(..head[3] as usize) else {
-            return Ok(false);
-        };
-        match lower_words(words, signals, exprs, stmts) {
-            Lowered::Accepted(tapes) => {
-                let model = Model {
-                    signals,
-                    exprs,
-                    stmts,
-                    tapes,
-                };
-                print_model(&mut self.to, &mut self.text, model)?;
-            }
-            Lowered::Refused(x) => print_refusal(&mut self.to, &mut self.text, x)?,
-        }
-        Ok(true)
+        lower_one(
+            &mut self.to,
+            &mut self.text,
+            self.words,
+            self.signals,
+            self.exprs,
+            self.stmts,
+            head,
+        )
     }
+}
+
+// A netlist of so many words (lent by `&mut`, as the replay holds them), with lists of these lengths.
+fn lower_one<W: Write>(
+    to: &mut W,
+    text: &mut Text<'_>,
+    words: &mut [u32],
+    signals: &mut [u32],
+    exprs: &mut [u32],
+    stmts: &mut [u32],
+    head: [u32; 4],
+) -> io::Result<bool> {
+    let [n, a, b, c] = head;
+    let (Some(words), Some(signals), Some(exprs), Some(stmts)) = (
+        words.get(..n as usize),
+        signals.get_mut(..a as usize),
+        exprs.get_mut(..b as usize),
+        stmts.get_mut(..c as usize),
+    ) else {
+        return Ok(false);
+    };
+    match lower_words(words, signals, exprs, stmts) {
+        Lowered::Accepted(tapes) => {
+            let model = Model {
+                signals,
+                exprs,
+                stmts,
+                tapes,
+            };
+            print_model(to, text, model)?;
+        }
+        Lowered::Refused(x) => print_refusal(to, text, x)?,
+    }
+    Ok(true)
 }
 
 fn main(rt: HostRuntime) -> io::Result<()> {

@@ -13,6 +13,7 @@ use std::io;
 use text::{Full, Text};
 
 const NONE: Tape = Tape { used: 0, count: 0 };
+
 const EMPTY: Tapes = Tapes {
     signals: NONE,
     exprs: NONE,

@@ -34,7 +34,7 @@ impl<R: Read> Cases<'_, R> {
 
     // One case; none where the input ends within it.
     fn replay<P: Print>(&mut self, to: &P, case: usize) -> Option<()> {
-        let [number, place, n] = self.read()?;
+        let [number, place, n] = self.read::<3>()?;
         let n = n as usize;
         if read_words(&mut self.from, self.bytes, self.words, n) != n {
             return None;
@@ -42,8 +42,7 @@ impl<R: Read> Cases<'_, R> {
         let expected = (number as usize, place as usize);
         let got = checked(self.words.get(..n)?);
         if got != expected {
-            let _ = println!(
-                to;
+            let _ = println!(to;
                 "case {case} expected {} {} got {} {}",
                 expected.0, expected.1, got.0, got.1
             );
@@ -53,7 +52,7 @@ impl<R: Read> Cases<'_, R> {
 
     // The cases, as many as are whole.
     fn replay_all<P: Print>(&mut self, to: &P) -> Option<usize> {
-        let [count] = self.read()?;
+        let [count] = self.read::<1>()?;
         for case in 0..count as usize {
             if self.replay(to, case).is_none() {
                 return Some(case);
