@@ -99,6 +99,7 @@ fn main(rt: HostRuntime) {
     let mut text = Text::new(&mut out);
     let mut to = rt.stdout();
     let n = read_full(&mut rt.stdin(), &mut bytes);
+    // Output that cannot be written is not reported.
     let _ = match lower_bytes(&bytes[..n], &mut signals, &mut exprs, &mut stmts) {
         Lowered::Accepted(tapes) => {
             let model = Model {

@@ -39,6 +39,7 @@ fn main(rt: HostRuntime) {
         heads: &mut heads,
         bits: &mut bits,
     };
+    // Output that cannot be written is not reported.
     let _ = if asked(&rt, b"--batch") {
         session.replay_all()
     } else {

@@ -118,6 +118,7 @@ pub fn decimal(n: u64, figures: &mut [u8; 20]) -> usize
     ensures within { result ≤ 20 }
     ensures digits { drop result figures.new ≡ decimal n }
 {
+    // From the last digit, since their number is not known before: no `for` is plainer.
     let mut i = 20;
     let mut rest = n;
     while 10 <= rest {

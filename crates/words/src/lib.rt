@@ -25,6 +25,7 @@ pub fn read_full<R: Read>(from: &mut R, bytes: &mut [u8]) -> usize
     ensures prefix_len { IsPrefixLen result bytes.new }
     ensures consumed { Consumes (R.remaining from.old) (R.remaining from.new) (take result bytes.new) }
 {
+    // `read_exact` does not say how much came before the input ended.
     let mut done = 0;
     while done < bytes.len() {
         let Ok(n) = from.read(&mut bytes[done..]) else {
