@@ -7,5 +7,6 @@ pub mod Settled
 pub mod Kept
 pub mod Cases
 pub mod Index
+pub mod Records
 pub mod Fault
 pub mod Shown

@@ -3,6 +3,7 @@
 #![tactic(auto)]
 
 pub mod index;
+pub mod records;
 
 use recorder::SignalId;
 
