@@ -1,8 +1,9 @@
 -- A list's records, one after the other. Assumes nothing.
-use Rattle.std.proofs.Common.{ℕ, zero, suc, ◌+◌, ◌-◌, ◌≤◌, ◌<◌, ◌≡◌, min, Bool, true, false, refl, sym, ◌∙◌, ap, List, [], ◌∷◌, length, get_or, take, drop, map, leb, Option, None, Some, arith, MatchOption, Bor}
+use Rattle.std.proofs.Common.{ℕ, zero, suc, ◌+◌, ◌-◌, ◌≤◌, ◌<◌, ◌≡◌, min, Bool, true, false, refl, sym, ◌∙◌, ap, List, [], ◌∷◌, length, get_or, take, drop, map, leb, Option, None, Some, arith, MatchOption, Bor, slice_get, unwrap_or, option_map}
 use Rattle.std.specs.Iterator.{YieldsFirstRef, Yields}
 use Rattle.std.specs.Iterator.Adapters.{take_steps}
 use Rattle.std.specs.List.{IsSplitAt, zip, range_with_len}
+use Rattle.std.specs.declared.iter.Enumerate.{Enumerate}
 use Rattle.std.specs.declared.iter.Take.{Take}
 use Rattle.std.specs.declared.iter.Zip.{Zip}
 use Rattle.std.specs.declared.ops.Range.{Range}
@@ -20,9 +21,10 @@ use Rattle.recorder.specs.Read.{Cut, cut, split, before, stopped}
 use Rattle.recorder.proofs.Roundtrip.{split_nil, split_zero, split_record, split_short}
 use Rattle.simulation.specs.declared.records.Records.{Records}
 use Rattle.simulation.specs.Index.{records_in, widths_in, offset, start_of}
+use Rattle.simulation.specs.Wellformed.{widths}
 use Rattle.simulation.specs.Records.{left, is_empty, Splits}
 use Rattle.simulation.proofs.Offsets.{offset_past, start_next}
-use Rattle.simulation.proofs.Steps.{width_of, length_widths}
+use Rattle.simulation.proofs.Steps.{width_of, length_widths, records_count}
 
 -- THE FIRST RECORD
 
@@ -132,3 +134,18 @@ module _ {l : List ℕ} {a b : ℕ} (k : ℕ) {s z : Zip (Range ℕ) Records} {w
 
     pub numbered_end : r ≡ None → zips nat_range_steps (YieldsFirstRef left) t r u → length xs ≡ min k (length (records_in l))
     numbered_end w m = (YieldsList-end numbered xs t y r u w m).1 ∙ numbered_count a k l
+
+-- RECORD i, IF THERE IS ONE
+
+module _ (l : List ℕ) (i : ℕ) where
+  got : (rs : List (List ℕ)) (i : ℕ) (o : Option (List ℕ)) → o ≡ slice_get rs i → unwrap_or (option_map (λ r. get_or r 1 0) o) 0 ≡ get_or (widths rs) i 0
+  got [] i o e = ap (λ (o : Option (List ℕ)). unwrap_or (option_map (λ r. get_or r 1 0) o) 0) e
+  got (r ∷ rs) zero o e = ap (λ (o : Option (List ℕ)). unwrap_or (option_map (λ r. get_or r 1 0) o) 0) e
+  got (r ∷ rs) (suc i) o e = got rs i o e
+
+  pub width_got : (o : Option (List ℕ)) → o ≡ slice_get (records_in l) i → unwrap_or (option_map (λ r. get_or r 1 0) o) 0 ≡ get_or (widths_in l) i 0
+  width_got = got (records_in l) i
+
+-- there are few enough to number
+pub few : {s z : Enumerate Records} {w : Records} {l : List ℕ} → s ≡ z → z.iter ≡ w → z.count ≡ 0 → w.rest.now ≡ l → length l < 18446744073709551616 → s.count + length (left s.iter) < 18446744073709551616
+few {l = l} g f q e h = omega (arith, ap (λ (z : Enumerate Records). z.count) g, q, ap (λ (z : Enumerate Records). length (left z.iter)) g, ap (λ (w : Records). length (left w)) f, ap (λ (l : List ℕ). length (records_in l)) e, records_count l, h)
