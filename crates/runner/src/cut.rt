@@ -7,7 +7,7 @@ ghost use Rattle.simulation.specs.Run.{answer_of, fired_of, zeroed};
 
 use model_check::{call, check};
 use refusal::Refusal;
-use simulation::Edge;
+use simulation::{Edge, Model};
 
 fn least(a: usize, b: usize) -> usize
     ensures { result ≡ min a b }
@@ -30,12 +30,15 @@ pub fn malformed(
 {
     let s = least(signals.len(), signal_table.len());
     let e = least(exprs.len(), expr_table.len());
-    check::malformed(
+    let m = Model {
         signals,
-        &mut signal_table[..s],
         exprs,
-        &mut expr_table[..e],
         stmts,
+    };
+    check::malformed(
+        m,
+        &mut signal_table[..s],
+        &mut expr_table[..e],
         bytes,
         widest,
     )
@@ -61,12 +64,15 @@ pub fn check_call(
 {
     let s = least(signals.len(), signal_table.len());
     let e = least(exprs.len(), expr_table.len());
-    call::check_call(
+    let m = Model {
         signals,
-        &mut signal_table[..s],
         exprs,
-        &mut expr_table[..e],
         stmts,
+    };
+    call::check_call(
+        m,
+        &mut signal_table[..s],
+        &mut expr_table[..e],
         bytes,
         ticks,
         fired,

@@ -18,6 +18,7 @@ use crate::refused::refuse_ticks;
 use crate::show::{output_total, times};
 use model_check::call::{byte_fault, call_lengths, input_total};
 use refusal::Refusal;
+use simulation::Model;
 use simulation::index::count;
 
 pub fn zero_works(work_bits: &mut [u8], work_exprs: &mut [u8], work_signals: &mut [u8])
@@ -80,7 +81,12 @@ fn list_fault(
     requires { ReadSignals signals.now }
     ensures { answer_of result ≡ fault_causes (list_call (lists signals.now exprs.now []) heads.now [] bytes.now work_bits.now work_exprs.now work_signals.now answers.now shown.now) }
 {
-    call_lengths(signals, exprs, bytes, work_bits, work_exprs, work_signals)?;
+    let m = Model {
+        signals,
+        exprs,
+        stmts: &[],
+    };
+    call_lengths(m, bytes, work_bits, work_exprs, work_signals)?;
     shown_lengths(signals, heads, answers, shown)
 }
 

@@ -116,6 +116,10 @@ driver_by list table s = tabled table s uncoded (given assigns (stmts_in list) s
 abbrev pub is_assign : List ℕ → Bool
 is_assign r = eqb (length r) 3 && eqb (get_or r 0 0) 0
 
+-- its signal and its expression
+abbrev pub assigned : List ℕ → Option (ℕ × ℕ)
+assigned r = pick (is_assign r) (Some (get_or r 1 0, get_or r 2 0)) None
+
 abbrev pub assigns_to : ℕ → List ℕ → Bool
 assigns_to s r = is_assign r && eqb (get_or r 1 0) s
 

@@ -3,8 +3,17 @@
 #![tactic(auto)]
 
 pub mod index;
+pub mod records;
 
 use recorder::SignalId;
+
+// A model as its three lists of words.
+#[derive(Clone, Copy)]
+pub struct Model<'a> {
+    pub signals: &'a [u32],
+    pub exprs: &'a [u32],
+    pub stmts: &'a [u32],
+}
 
 // An edge of a signal: 0 rises, 1 falls. A caller can say a larger number; then the tick is refused.
 #[derive(Clone, Copy, Debug, PartialEq, Eq)]
