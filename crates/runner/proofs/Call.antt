@@ -82,7 +82,7 @@ module _ {signals exprs stmts bytes ticks : List ℕ} {fired : Option (ℕ × �
   abbrev l : Lists
   l = lists signals exprs stmts
 
-  fine : first_fault largest (raw_of (lists signals exprs stmts)) ≡ None
+  pub fine : first_fault largest (raw_of (lists signals exprs stmts)) ≡ None
   fine = faultless largest (lists signals exprs stmts) u.well_formed
 
   pub no_fault : NoFault signals exprs stmts

@@ -1,4 +1,5 @@
 -- The laws of runner.
+pub mod Models
 pub mod Tick
 pub mod Showing
 pub mod Ticking

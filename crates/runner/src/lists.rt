@@ -8,28 +8,23 @@ ghost use Rattle.evaluation.specs.Late.{Among, Asks, Registers};
 ghost use Rattle.runner.specs.Plan.{Listing, Controls, Outputs};
 
 use crate::commit::enable_at;
+use crate::tables::Model;
 use simulation::index::{size, wide};
 
 // The words at which registers begin.
-pub fn list_registers(
-    signals: &[u32],
-    stmts: &[u32],
-    order: &mut [u32],
-    from: usize,
-    room: usize,
-) -> usize
-    requires { Stated signals.now stmts.now × (from + room ≤ length order.old) }
+pub fn list_registers(m: &Model, order: &mut [u32], from: usize, room: usize) -> usize
+    requires { from + room ≤ length order.old }
     ensures kept { take from order.new ≡ take from order.old }
-    ensures listed { result ≤ room → Registers stmts.now order.new from result }
+    ensures listed { result ≤ room → Registers m.now.stmts.now order.new from result }
 {
     let mut k: usize = 0;
     let mut at: usize = 0;
-    while at < stmts.len() {
-        let size = size(stmts, at);
+    while at < m.stmts.len() {
+        let size = size(m.stmts, at);
         if size == 0 {
             return k;
         }
-        if stmts[at + 1] == 1 {
+        if m.stmts[at + 1] == 1 {
             if k >= room {
                 return room + 1;
             }
@@ -91,8 +86,7 @@ fn list_control(
 
 // The signals that the statement at a word asks for.
 fn list_asked(
-    signals: &[u32],
-    stmts: &[u32],
+    m: &Model,
     at: usize,
     order: &mut [u32],
     from: usize,
@@ -100,24 +94,23 @@ fn list_asked(
     k: usize,
     marks: &mut [u8],
 ) -> usize
-    requires { Stated signals.now stmts.now × Begins stmts.now at × (from + room ≤ length order.old) × (k ≤ room) × (length (records_in signals.now) ≤ length marks.old) × Listing order.old from k marks.old }
+    requires { Begins m.now.stmts.now at × (from + room ≤ length order.old) × (k ≤ room) × (length (records_in m.now.signals.now) ≤ length marks.old) × Listing order.old from k marks.old }
     ensures kept { take from order.new ≡ take from order.old }
-    ensures listed { result ≤ room → Listing order.new from result marks.new × ((number x : ℕ) → number < length (records_in stmts.now) → at ≡ start_of stmts.now number → Asks (stmt_in stmts.now number) x → Among order.new from result x) × ((y : ℕ) → Among order.old from k y → Among order.new from result y) }
+    ensures listed { result ≤ room → Listing order.new from result marks.new × ((number x : ℕ) → number < length (records_in m.now.stmts.now) → at ≡ start_of m.now.stmts.now number → Asks (stmt_in m.now.stmts.now number) x → Among order.new from result x) × ((y : ℕ) → Among order.old from k y → Among order.new from result y) }
 {
-    if stmts[at + 1] != 1 {
+    if m.stmts[at + 1] != 1 {
         return k;
     }
-    let a = list_control(stmts, at + 6, order, from, room, k, marks);
+    let a = list_control(m.stmts, at + 6, order, from, room, k, marks);
     if a > room {
         return a;
     }
-    list_control(stmts, enable_at(stmts, at), order, from, room, a, marks)
+    list_control(m.stmts, enable_at(m.stmts, at), order, from, room, a, marks)
 }
 
 // The signals whose levels the registers ask for that begin at `count` words from `loads` on. Marks are work.
 pub fn list_controls(
-    signals: &[u32],
-    stmts: &[u32],
+    m: &Model,
     order: &mut [u32],
     loads: usize,
     count: usize,
@@ -125,16 +118,16 @@ pub fn list_controls(
     room: usize,
     marks: &mut [u8],
 ) -> usize
-    requires { Stated signals.now stmts.now × Registers stmts.now order.old loads count × (loads + count ≤ from) × (from + room ≤ length order.old) × (length (records_in signals.now) ≤ length marks.old) }
+    requires { Registers m.now.stmts.now order.old loads count × (loads + count ≤ from) × (from + room ≤ length order.old) × (length (records_in m.now.signals.now) ≤ length marks.old) }
     ensures kept { take from order.new ≡ take from order.old }
-    ensures listed { result ≤ room → Controls stmts.now order.new from result }
+    ensures listed { result ≤ room → Controls m.now.stmts.now order.new from result }
 {
     marks.fill(0);
     let mut k: usize = 0;
     let mut j: usize = 0;
     while j < count {
         let at = wide(order[loads + j]);
-        k = list_asked(signals, stmts, at, order, from, room, k, marks);
+        k = list_asked(m, at, order, from, room, k, marks);
         if k > room {
             return k;
         }
@@ -144,20 +137,20 @@ pub fn list_controls(
 }
 
 // The numbers of the outputs.
-pub fn list_outputs(signals: &[u32], order: &mut [u32], from: usize, room: usize) -> usize
-    requires { ReadSignals signals.now × (from + room ≤ length order.old) }
+pub fn list_outputs(m: &Model, order: &mut [u32], from: usize, room: usize) -> usize
+    requires { from + room ≤ length order.old }
     ensures kept { take from order.new ≡ take from order.old }
-    ensures listed { result ≤ room → Outputs signals.now order.new from result }
+    ensures listed { result ≤ room → Outputs m.now.signals.now order.new from result }
 {
     let mut k: usize = 0;
     let mut s: usize = 0;
     let mut at: usize = 0;
-    while at < signals.len() {
-        let size = size(signals, at);
+    while at < m.signals.len() {
+        let size = size(m.signals, at);
         if size == 0 {
             return k;
         }
-        if signals[at + 1] == 1 {
+        if m.signals[at + 1] == 1 {
             if k >= room {
                 return room + 1;
             }
