@@ -94,12 +94,10 @@ fn want_loads(m: &Model, order: &[u32], from: usize, k: usize, values: &mut [u8]
     requires { (from + k ≤ length order.now) × Unplaced values.old }
     ensures { Unplaced values.new }
 {
-    let mut j: usize = 0;
-    while j < k {
+    for j in 0..k {
         let at = wide(order[from + j]);
         let size = size(m.stmts, at);
         want_stmt(m, at, size, values);
-        j += 1;
     }
 }
 
@@ -119,11 +117,9 @@ fn want_drivers(m: &Model, order: &[u32], from: usize, k: usize, values: &mut [u
     requires { (from + k ≤ length order.now) × Unplaced values.old }
     ensures { Unplaced values.new }
 {
-    let mut j: usize = 0;
-    while j < k {
+    for j in 0..k {
         let s = wide(order[from + j]);
         want_driver(m, s, values);
-        j += 1;
     }
 }
 
@@ -314,13 +310,11 @@ fn emit_all(
     ensures { EmitsAll m.now.signals.now m.now.exprs.now m.now.stmts.now m.now.expr_count from result order.old order.new values.new marks.new }
 {
     let mut k: usize = 0;
-    let mut i: usize = 0;
-    while i < m.expr_count {
+    for i in 0..m.expr_count {
         k = emit(m, from, base, top, i, k, order, values, marks);
         if k > m.expr_count {
             return k;
         }
-        i += 1;
     }
     k
 }
@@ -347,12 +341,10 @@ fn loads_marked(m: &Model, order: &[u32], from: usize, k: usize, marks: &[u8]) -
     requires { (from + k ≤ length order.now) × Registers m.now.stmts.now order.now from k }
     ensures { result ≡ true → MarksLoaded m.now.stmts.now marks.now }
 {
-    let mut j: usize = 0;
-    while j < k {
+    for j in 0..k {
         if !named(m, wide(order[from + j]), marks) {
             return false;
         }
-        j += 1;
     }
     true
 }
@@ -362,12 +354,10 @@ fn drivers_marked(m: &Model, order: &[u32], from: usize, k: usize, marks: &[u8])
     requires { from + k ≤ length order.now }
     ensures { result ≡ true → MarksDrivers m.now.stmts.now order.now from k marks.now }
 {
-    let mut j: usize = 0;
-    while j < k {
+    for j in 0..k {
         if !driver_marked(m, marks, wide(order[from + j]), true) {
             return false;
         }
-        j += 1;
     }
     true
 }

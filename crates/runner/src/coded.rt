@@ -53,8 +53,7 @@ pub fn settle_coded(
     ensures { SettlesCode m.now.signals.now m.now.exprs.now m.now.stmts.now order.now from k bytes.now values.new }
 {
     copy(values, base, bytes, 0, state);
-    let mut j: usize = 0;
-    while j < k {
+    for j in 0..k {
         let e = wide(order[from + j]);
         let at = m.expr_count + 6 * e;
         if order[at] < 65536 {
@@ -62,6 +61,5 @@ pub fn settle_coded(
         } else {
             eval_expr(m, bytes, e, values);
         }
-        j += 1;
     }
 }

@@ -170,11 +170,9 @@ fn note_listed(
     requires { (sum_to (widths_in m.now.signals.now) (length (records_in m.now.signals.now)) ≤ length bytes.now) × (length (records_in m.now.signals.now) ≤ length marks.old) × (from + k ≤ length order.now) × Registers m.now.stmts.now order.now from k }
     ensures { Noted m.now.signals.now m.now.stmts.now (firing (fired_of fired)) bytes.now (length (records_in m.now.stmts.now)) marks.new }
 {
-    let mut j: usize = 0;
-    while j < k {
+    for j in 0..k {
         let at = wide(order[from + j]);
         note_load(m, at, fired, bytes, marks);
-        j += 1;
     }
 }
 
@@ -190,11 +188,9 @@ fn load_listed(
     requires { Room m.now.signals.now m.now.exprs.now bytes.old values.now × (length (records_in m.now.signals.now) ≤ length marks.now) × (from + k ≤ length order.now) × Registers m.now.stmts.now order.now from k }
     ensures { LoadsMarked m.now.signals.now m.now.exprs.now m.now.stmts.now values.now marks.now bytes.old bytes.new }
 {
-    let mut j: usize = 0;
-    while j < k {
+    for j in 0..k {
         let at = wide(order[from + j]);
         store_load(m, values, marks, at, bytes);
-        j += 1;
     }
 }
 

@@ -15,7 +15,6 @@ ghost use Rattle.runner.specs.Plan.{Planning};
 
 use crate::code::Code;
 use crate::late::tick_late;
-use crate::loops::either;
 use crate::settling::settle;
 use crate::show::{end_of, fired_by, put_answer, show};
 use crate::tables::Model;
@@ -107,15 +106,6 @@ fn run_tick(
     Ok(())
 }
 
-fn is_made(r: Result<(), Refusal>) -> bool
-    ensures { result ≡ is_made (answer_of r) }
-{
-    match r {
-        Ok(()) => true,
-        Err(_x) => false,
-    }
-}
-
 // Behind the last tick every assigned signal takes its value, if a tick was made.
 fn finish(
     m: &Model,
@@ -155,10 +145,9 @@ pub fn run_ticks(
     let mut at: usize = 0;
     let mut pos: usize = 0;
     let mut to: usize = 0;
-    let mut i: usize = 0;
     let mut late = false;
     let k = heads.len() / 3;
-    while i < k {
+    for i in 0..k {
         let asked = wide(heads[at]);
         let end = end_of(bits, pos, asked);
         let fired = fired_by(heads[at + 1], heads[at + 2]);
@@ -175,12 +164,11 @@ pub fn run_ticks(
             work_exprs,
             work_signals,
         );
-        late = either(late, is_made(r));
+        late = late | r.is_ok();
         put_answer(answers, 2 * i, r);
         to = show(m.signals, bytes, shown, to, code.ports);
         at += 3;
         pos = end;
-        i += 1;
     }
     finish(m, order, late, bytes, values, work_exprs);
 }

@@ -124,14 +124,12 @@ pub fn list_controls(
 {
     marks.fill(0);
     let mut k: usize = 0;
-    let mut j: usize = 0;
-    while j < count {
+    for j in 0..count {
         let at = wide(order[loads + j]);
         k = list_asked(m, at, order, from, room, k, marks);
         if k > room {
             return k;
         }
-        j += 1;
     }
     k
 }

@@ -31,26 +31,15 @@ fn touch_one(m: &Model, marks: &mut [u8], s: usize, e: usize) -> bool
     true
 }
 
-pub fn either(a: bool, b: bool) -> bool
-    ensures { result ≡ (a || b) }
-{
-    if a {
-        return true;
-    }
-    b
-}
-
 // One pass over the first n expressions: whether one was added.
 fn touch_pass(m: &Model, marks: &mut [u8], s: usize) -> bool
     requires { (m.now.expr_count ≤ length marks.old) × Backed (model_with m.now.signals.now m.now.exprs.now m.now.stmts.now) s marks.old }
     ensures { Touches (model_with m.now.signals.now m.now.exprs.now m.now.stmts.now) m.now.expr_count s marks.old result marks.new }
 {
     let mut any = false;
-    let mut e: usize = 0;
-    while e < m.expr_count {
+    for e in 0..m.expr_count {
         let found = touch_one(m, marks, s, e);
-        any = either(any, found);
-        e += 1;
+        any = any | found;
     }
     any
 }
@@ -82,12 +71,10 @@ pub fn lowest_on_loop(m: &Model, marks: &mut [u8]) -> Option<usize>
     requires { m.now.expr_count ≤ length marks.old }
     ensures { result ≡ looped (model_with m.now.signals.now m.now.exprs.now m.now.stmts.now) }
 {
-    let mut s: usize = 0;
-    while s < m.signal_count {
+    for s in 0..m.signal_count {
         if on_loop(m, marks, s) {
             return Some(s);
         }
-        s += 1;
     }
     None
 }

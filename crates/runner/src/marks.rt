@@ -22,12 +22,10 @@ fn all_marked(exprs: &[u32], at: usize, n: usize, marks: &[u8]) -> bool
     requires { at + n ≤ length exprs.now }
     ensures { result ≡ all (marked marks.now) (take n (drop at exprs.now)) }
 {
-    let mut i: usize = 0;
-    while i < n {
+    for i in 0..n {
         if !is_marked(marks, wide(exprs[at + i])) {
             return false;
         }
-        i += 1;
     }
     true
 }
@@ -37,12 +35,10 @@ fn any_marked(exprs: &[u32], at: usize, n: usize, marks: &[u8]) -> bool
     requires { at + n ≤ length exprs.now }
     ensures { result ≡ any (marked marks.now) (take n (drop at exprs.now)) }
 {
-    let mut i: usize = 0;
-    while i < n {
+    for i in 0..n {
         if is_marked(marks, wide(exprs[at + i])) {
             return true;
         }
-        i += 1;
     }
     false
 }

@@ -8,7 +8,6 @@ ghost use Rattle.evaluation.specs.Settling.{InMarks, RightOn, SettlesOne, Settle
 ghost use Rattle.evaluation.specs.Ticks.{Filled, Ordered, Settles, SettlesNamed, Settled};
 
 use crate::expression::eval_expr;
-use crate::loops::either;
 use crate::sort::adds_one;
 use crate::store::store_assigned;
 use crate::tables::Model;
@@ -19,13 +18,11 @@ fn settle_ordered(m: &Model, order: &[u32], bytes: &[u8], values: &mut [u8])
     requires { Room m.now.signals.now m.now.exprs.now bytes.now values.old × (m.now.expr_count ≤ length order.now) × Ordered (model_in m.now.signals.now m.now.exprs.now m.now.stmts.now) m.now.expr_count order.now × Filled (widths_in m.now.exprs.now) values.old }
     ensures { Settles m.now.signals.now m.now.exprs.now m.now.stmts.now bytes.now values.new }
 {
-    let mut j: usize = 0;
-    while j < m.expr_count {
+    for j in 0..m.expr_count {
         let e = wide(order[j]);
         if e < m.expr_count {
             eval_expr(m, bytes, e, values);
         }
-        j += 1;
     }
 }
 
@@ -48,11 +45,9 @@ fn settle_pass(m: &Model, bytes: &[u8], values: &mut [u8], marks: &mut [u8]) -> 
     ensures { SettlesPass m.now.signals.now m.now.exprs.now m.now.stmts.now m.now.expr_count bytes.now marks.old result values.new marks.new }
 {
     let mut any = false;
-    let mut e: usize = 0;
-    while e < m.expr_count {
+    for e in 0..m.expr_count {
         let added = settle_one(m, e, bytes, values, marks);
-        any = either(any, added);
-        e += 1;
+        any = any | added;
     }
     any
 }

@@ -51,32 +51,30 @@ fn sort_pass(m: &Model, marks: &mut [u8], order: &mut [u32], k: usize) -> usize
     ensures { Sorts (model_in m.now.exprs.now m.now.stmts.now) m.now.expr_count k result marks.new order.new }
 {
     let mut count = k;
-    let mut e: usize = 0;
-    while e < m.expr_count {
+    for e in 0..m.expr_count {
         count = sort_one(m, marks, order, count, e);
-        e += 1;
     }
     count
 }
 
 // A GUESS of the order, depth first. It is tried, and nothing rests on it: where it is right, one pass along it marks all.
 
-// The expression that field j of the record at a word names as needed; n if it names none.
-fn need(m: &Model, at: usize, size: usize, j: usize) -> usize {
+// The expression that field j of the record at a word names as needed.
+fn need(m: &Model, at: usize, size: usize, j: usize) -> Option<usize> {
     let kind = field(m.exprs, at, size, 0);
     if kind == 0 {
-        return m.expr_count;
+        return None;
     }
     let x = wide(field(m.exprs, at, size, j));
     if kind != 1 {
-        return x;
+        return Some(x);
     }
     if j != 2 {
-        return m.expr_count;
+        return None;
     }
     match m.driver(x) {
-        None => m.expr_count,
-        Some(e) => wide(e),
+        None => None,
+        Some(e) => Some(wide(e)),
     }
 }
 
@@ -94,25 +92,21 @@ struct Unmet {
     passed: u32,
 }
 
-// The first new one that expression e needs, behind the needs that are passed; n if there is none.
-fn new_need(m: &Model, marks: &[u8], e: usize, passed: u32) -> Unmet {
+// The first new one that expression e needs, behind the needs that are passed.
+fn new_need(m: &Model, marks: &[u8], e: usize, passed: u32) -> Option<Unmet> {
     let at = index::start(m.exprs, m.starts, e);
     let size = size(m.exprs, at);
-    let mut i = wide(passed) + 3;
-    while i < size {
-        let x = need(m, at, size, i - 1);
-        if is_new(marks, m.expr_count, x) {
-            return Unmet {
-                expr: x,
-                passed: clip(i - 2),
-            };
+    for i in wide(passed) + 3..size {
+        if let Some(x) = need(m, at, size, i - 1) {
+            if is_new(marks, m.expr_count, x) {
+                return Some(Unmet {
+                    expr: x,
+                    passed: clip(i - 2),
+                });
+            }
         }
-        i += 1;
     }
-    Unmet {
-        expr: m.expr_count,
-        passed: 0,
-    }
+    None
 }
 
 // Puts expression e on the stack, order[2 n ..], no need of it passed, order[3 n ..], if it is new: how deep the stack is then.
@@ -144,57 +138,43 @@ struct Walk {
 }
 
 // Begins at an expression, goes on to a need, or notes the last on the stack, whose needs are all noted, in order[n ..].
-fn turn(
-    m: &Model,
-    marks: &mut [u8],
-    order: &mut [u32],
-    root: usize,
-    depth: usize,
-    count: usize,
-) -> Walk
-    requires { (4 * m.now.expr_count ≤ length order.old) × (root ≤ m.now.expr_count) × (depth ≤ m.now.expr_count) × (count ≤ m.now.expr_count) }
+fn turn(m: &Model, marks: &mut [u8], order: &mut [u32], walk: Walk) -> Walk
+    requires { (4 * m.now.expr_count ≤ length order.old) × (walk.root ≤ m.now.expr_count) × (walk.depth ≤ m.now.expr_count) × (walk.count ≤ m.now.expr_count) }
     ensures { (result.root ≤ m.now.expr_count) × (result.depth ≤ m.now.expr_count) × (result.count ≤ m.now.expr_count) }
 {
-    if depth == 0 {
-        if root >= m.expr_count {
-            return Walk {
-                root: root,
-                depth: 0,
-                count: count,
-            };
+    let n = m.expr_count;
+    if walk.depth == 0 {
+        if walk.root >= n {
+            return walk;
         }
-        let entered = enter(marks, order, m.expr_count, 0, root);
         return Walk {
-            root: root + 1,
-            depth: entered,
-            count: count,
+            root: walk.root + 1,
+            depth: enter(marks, order, n, 0, walk.root),
+            count: walk.count,
         };
     }
-    let top = depth - 1;
-    let e = order[2 * m.expr_count + top];
-    let found = new_need(m, marks, wide(e), order[3 * m.expr_count + top]);
-    let x = found.expr;
-    if x < m.expr_count {
-        order[3 * m.expr_count + top] = found.passed;
-        let entered = enter(marks, order, m.expr_count, depth, x);
+    let top = walk.depth - 1;
+    let e = order[2 * n + top];
+    if let Some(found) = new_need(m, marks, wide(e), order[3 * n + top]) {
+        order[3 * n + top] = found.passed;
         return Walk {
-            root: root,
-            depth: entered,
-            count: count,
+            root: walk.root,
+            depth: enter(marks, order, n, walk.depth, found.expr),
+            count: walk.count,
         };
     }
-    if count >= m.expr_count {
+    if walk.count >= n {
         return Walk {
-            root: root,
+            root: walk.root,
             depth: top,
-            count: count,
+            count: walk.count,
         };
     }
-    order[m.expr_count + count] = e;
+    order[n + walk.count] = e;
     Walk {
-        root: root,
+        root: walk.root,
         depth: top,
-        count: count + 1,
+        count: walk.count + 1,
     }
 }
 
@@ -204,17 +184,13 @@ fn guess_order(m: &Model, marks: &mut [u8], order: &mut [u32]) {
     if order.len() / 4 < m.expr_count {
         return;
     }
-    let turns = 3 * m.expr_count;
-    let mut root: usize = 0;
-    let mut depth: usize = 0;
-    let mut count: usize = 0;
-    let mut i: usize = 0;
-    while i < turns {
-        let walk = turn(m, marks, order, root, depth, count);
-        root = walk.root;
-        depth = walk.depth;
-        count = walk.count;
-        i += 1;
+    let mut walk = Walk {
+        root: 0,
+        depth: 0,
+        count: 0,
+    };
+    for _ in 0..3 * m.expr_count {
+        walk = turn(m, marks, order, walk);
     }
 }
 
@@ -239,10 +215,8 @@ fn sort_along(m: &Model, marks: &mut [u8], order: &mut [u32]) -> usize
         return 0;
     }
     let mut k: usize = 0;
-    let mut j: usize = 0;
-    while j < m.expr_count {
+    for j in 0..m.expr_count {
         k = sort_guessed(m, marks, order, k, j);
-        j += 1;
     }
     k
 }

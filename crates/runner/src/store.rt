@@ -39,13 +39,11 @@ pub fn store_assigned(m: &Model, values: &[u8], bytes: &mut [u8])
     requires { Room m.now.signals.now m.now.exprs.now bytes.old values.now }
     ensures { Stores m.now.signals.now m.now.exprs.now m.now.stmts.now values.now bytes.old bytes.new }
 {
-    let mut s: usize = 0;
-    while s < m.signal_count {
+    for s in 0..m.signal_count {
         match m.driver(s) {
             Some(d) => store(m, values, s, wide(d), bytes),
             None => {}
         }
-        s += 1;
     }
 }
 
@@ -61,11 +59,9 @@ pub fn store_listed(
     requires { Room m.now.signals.now m.now.exprs.now bytes.old values.now × (from + k ≤ length order.now) }
     ensures { StoresListed m.now.signals.now m.now.exprs.now m.now.stmts.now order.now from k values.now bytes.old bytes.new }
 {
-    let mut j: usize = 0;
-    while j < k {
+    for j in 0..k {
         let s = wide(order[from + j]);
         store_driven(m, values, s, bytes);
-        j += 1;
     }
 }
 

@@ -4,6 +4,3 @@ use Rattle.runner.proofs.code.want_loads.Given as goal
 
 abbrev pub invariant-loop-j : goal.invariant-loop-j
 invariant-loop-j l = Unplaced l.values
-
-abbrev pub decreases-loop-j : goal.decreases-loop-j
-decreases-loop-j l = l.k - l.j

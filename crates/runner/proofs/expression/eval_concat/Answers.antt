@@ -32,7 +32,7 @@ pub overflow_sub-pos : goal.overflow_sub-pos
 overflow_sub-pos c = let l : c.loop-i.i < length (expr_words (expr_in c.args.m.now.exprs.now c.args.e)) = omega (arith, concat_size c.requires.0 c.requires.1 c.wide-size.ensures, c.loop-i-test.true) in part_fits c.requires.0 c.requires.1 c.loop-i.invariant.0 l c.wide-p.ensures c.expr_offset-from.ensures c.expr_offset-in-loop-i.ensures
 
 pub copy_within-requires : goal.copy_within-requires
-copy_within-requires c = let l : c.loop-i.i < length (expr_words (expr_in c.args.m.now.exprs.now c.args.e)) = omega (arith, concat_size c.requires.0 c.requires.1 c.wide-size.ensures, c.loop-i-test.true) in part_moves c.requires.0 c.requires.1 c.loop-i.invariant.0 l c.wide-p.ensures c.expr_offset-from.ensures c.expr_offset-in-loop-i.ensures c.loop-i.auto.values
+copy_within-requires c = let l : c.loop-i.i < length (expr_words (expr_in c.args.m.now.exprs.now c.args.e)) = omega (arith, concat_size c.requires.0 c.requires.1 c.wide-size.ensures, c.loop-i-test.true) in let z = part_moves c.requires.0 c.requires.1 c.loop-i.invariant.0 l c.wide-p.ensures c.expr_offset-from.ensures c.expr_offset-in-loop-i.ensures c.loop-i.auto.values in (z.0, z.1)
 
 pub loop-i-preserved : goal.loop-i-preserved
 loop-i-preserved c =

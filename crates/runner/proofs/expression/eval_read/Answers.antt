@@ -20,7 +20,7 @@ pub overflow_add-from : goal.overflow_add-from
 overflow_add-from c = record { fits = driver_fits (prepared_of c.args.m.now) c.requires.1 c.requires.0 c.requires.2 c.requires.3 c.expr_offset-to.ensures c.wide-w.ensures c.wide-s.ensures c.wide-l.ensures (sym c.in-Some.ensures ∙ ap (λ (n : ℕ). Some n) (sym c.wide.ensures)) c.expr_offset-from.ensures (omega (arith, c.well_formed)) }
 
 pub copy_within-requires : goal.copy_within-requires
-copy_within-requires c = driver_moves (prepared_of c.args.m.now) c.requires.1 c.requires.0 c.requires.2 c.requires.3 c.expr_offset-to.ensures c.wide-w.ensures c.wide-s.ensures c.wide-l.ensures (sym c.in-Some.ensures ∙ ap (λ (n : ℕ). Some n) (sym c.wide.ensures)) c.expr_offset-from.ensures
+copy_within-requires c = let z = driver_moves (prepared_of c.args.m.now) c.requires.1 c.requires.0 c.requires.2 c.requires.3 c.expr_offset-to.ensures c.wide-w.ensures c.wide-s.ensures c.wide-l.ensures (sym c.in-Some.ensures ∙ ap (λ (n : ℕ). Some n) (sym c.wide.ensures)) c.expr_offset-from.ensures in (z.0, z.1)
 
 pub signal_offset-from-requires : goal.signal_offset-from-requires
 signal_offset-from-requires c = let z = signal_asks (prepared_of c.args.m.now) c.requires.1 c.requires.0 c.requires.2 c.requires.3 c.expr_offset-to.ensures c.wide-w.ensures c.wide-s.ensures c.wide-l.ensures (omega (arith, c.well_formed)) in (z.1, z.2)

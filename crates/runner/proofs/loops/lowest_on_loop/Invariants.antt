@@ -5,6 +5,3 @@ use Rattle.runner.proofs.loops.lowest_on_loop.Given as goal
 
 abbrev pub invariant-loop-s : goal.invariant-loop-s
 invariant-loop-s l = Unlooped (model_with l.m.signals.now l.m.exprs.now l.m.stmts.now) l.s × (l.s ≤ l.m.signal_count)
-
-abbrev pub decreases-loop-s : goal.decreases-loop-s
-decreases-loop-s l = l.m.signal_count - l.s

@@ -5,6 +5,3 @@ use Rattle.runner.proofs.sort.sort_along.Given as goal
 
 abbrev pub invariant-loop-j : goal.invariant-loop-j
 invariant-loop-j l = SortingOn (model_in l.m.exprs.now l.m.stmts.now) l.m.expr_count l.initial.marks l.initial.order l.marks l.order l.k
-
-abbrev pub decreases-loop-j : goal.decreases-loop-j
-decreases-loop-j l = l.m.expr_count - l.j

@@ -4,6 +4,3 @@ use Rattle.runner.proofs.store.store_assigned.Given as goal
 
 abbrev pub invariant-loop-s : goal.invariant-loop-s
 invariant-loop-s l = Storing l.m.signals.now l.m.exprs.now l.m.stmts.now l.values l.fn.bytes l.bytes l.s
-
-abbrev pub decreases-loop-s : goal.decreases-loop-s
-decreases-loop-s l = l.m.signal_count - l.s
