@@ -2,7 +2,7 @@
 // fusing); one piece for what registers load and ask for, one for the outputs. What is wanted is only guessed; what is used is checked, and
 // where a check fails there is no code.
 ghost use Rattle.std.specs.Prelude.{◌≡◌, Bool, true, false, List, ℕ, ◌+◌, ◌*◌, ◌≤◌, ◌<◌, length, get_or, take, drop, set};
-ghost use Rattle.std.specs.Prelude.{Some};
+ghost use Rattle.std.specs.Prelude.{Some, IfSome};
 ghost use Rattle.simulation.specs.Tick.{given, assigns};
 ghost use Rattle.simulation.specs.Index.{records_in, widths_in, start_of, stmts_in, Starts, Driven};
 ghost use Rattle.ordering.specs.Words.{Tabled};
@@ -10,26 +10,23 @@ ghost use Rattle.ordering.specs.Marks.{marked};
 ghost use Rattle.evaluation.specs.Ready.{Prepared, model_in};
 ghost use Rattle.evaluation.specs.Ticks.{Ordered};
 ghost use Rattle.evaluation.specs.Loads.{stmt_in, Stated, Begins, Names};
-ghost use Rattle.evaluation.specs.Late.{Among, PortsBefore, Loaded, Registers};
+ghost use Rattle.evaluation.specs.Late.{Among, Loaded, Registers};
 ghost use Rattle.fusing.specs.Form.{Formed};
 ghost use Rattle.coding.specs.Coded.{bits_in, Computable, Coded};
 ghost use Rattle.coding.specs.Emitting.{Unplaced, Placed, Places, MarksLoaded, MarksDrivers, Emitting, Emits, EmitsAll};
-ghost use Rattle.runner.specs.Plan.{Planning};
+ghost use Rattle.runner.specs.Plan.{Planned};
 
 use crate::lists::{list_controls, list_outputs, list_registers};
 use crate::marks::{driver_marked, is_marked, ready};
-use crate::show::ports_end;
 use crate::tables::Model;
 use fusing::fill_forms;
 use simulation::index;
 use simulation::index::{field, plus, size, wide};
 
-// Whether there is code; a word before which all ports begin; the bits of all expressions, and of all signals; how many registers, signals that they ask for and outputs are
-// listed; how many words the two pieces of code have; how much of the order is lent.
+// The bits of all expressions, and of all signals; how many registers, signals that they ask for and outputs are listed; how many words the two
+// pieces have.
 #[derive(Clone, Copy)]
 pub struct Code {
-    pub usable: bool,
-    pub ports: usize,
     pub base: usize,
     pub state: usize,
     pub registers: usize,
@@ -37,6 +34,12 @@ pub struct Code {
     pub outputs: usize,
     pub first: usize,
     pub second: usize,
+}
+
+// Code, if there is any, and how much of the order is lent.
+#[derive(Clone, Copy)]
+pub struct Plan {
+    pub code: Option<Code>,
     pub used: usize,
 }
 
@@ -364,7 +367,7 @@ fn drivers_marked(m: &Model, order: &[u32], from: usize, k: usize, marks: &[u8])
 
 // THE TWO PIECES
 
-// Code for what the listed registers load and what is assigned to the listed signals, from a word on behind the lists: how many words, or one past n. Values and marks are work.
+// Code for what the listed registers load and what is assigned to the listed signals, from a word on behind the lists: how many words. Values and marks are work.
 fn first_code(
     m: &Model,
     from: usize,
@@ -377,12 +380,13 @@ fn first_code(
     order: &mut [u32],
     values: &mut [u8],
     marks: &mut [u8],
-) -> usize
+) -> Option<usize>
     requires { (m.now.expr_count ≤ length marks.old) × (base ≡ bits_in m.now.exprs.now) × (top ≡ bits_in m.now.exprs.now + bits_in m.now.signals.now) × (base ≤ length values.old) × (7 * m.now.expr_count ≤ from) × (from + m.now.expr_count ≤ length order.old) × Formed m.now.signals.now m.now.exprs.now m.now.stmts.now (drop m.now.expr_count order.old) m.now.expr_count × (loads + registers ≤ from) × Registers m.now.stmts.now order.old loads registers × (asked + controls ≤ from) }
     ensures kept { take from order.new ≡ take from order.old }
-    ensures coded { result ≤ m.now.expr_count → Coded m.now.signals.now m.now.exprs.now m.now.stmts.now m.now.expr_count from result order.new }
-    ensures loaded { result ≤ m.now.expr_count → (e : ℕ) → Loaded m.now.stmts.now e → Among order.new from result e }
-    ensures driven { result ≤ m.now.expr_count → (x d : ℕ) → Among order.new asked controls x → given assigns (stmts_in m.now.stmts.now) x ≡ Some d → Among order.new from result d }
+    ensures few { IfSome result (λ k. k ≤ m.now.expr_count) }
+    ensures coded { IfSome result (λ k. Coded m.now.signals.now m.now.exprs.now m.now.stmts.now m.now.expr_count from k order.new) }
+    ensures loaded { IfSome result (λ k. (e : ℕ) → Loaded m.now.stmts.now e → Among order.new from k e) }
+    ensures driven { IfSome result (λ k. (x d : ℕ) → Among order.new asked controls x → given assigns (stmts_in m.now.stmts.now) x ≡ Some d → Among order.new from k d) }
 {
     values.fill(0);
     want_loads(m, order, loads, registers, values);
@@ -391,15 +395,15 @@ fn first_code(
     marks.fill(0);
     let k = emit_all(m, from, base, top, order, values, marks);
     if k > m.expr_count {
-        return k;
+        return None;
     }
     if !loads_marked(m, order, loads, registers, marks) {
-        return m.expr_count + 1;
+        return None;
     }
     if !drivers_marked(m, order, asked, controls, marks) {
-        return m.expr_count + 1;
+        return None;
     }
-    k
+    Some(k)
 }
 
 // Code for what is assigned to the listed signals alone.
@@ -413,11 +417,12 @@ fn second_code(
     order: &mut [u32],
     values: &mut [u8],
     marks: &mut [u8],
-) -> usize
+) -> Option<usize>
     requires { (m.now.expr_count ≤ length marks.old) × (base ≡ bits_in m.now.exprs.now) × (top ≡ bits_in m.now.exprs.now + bits_in m.now.signals.now) × (base ≤ length values.old) × (7 * m.now.expr_count ≤ from) × (from + m.now.expr_count ≤ length order.old) × Formed m.now.signals.now m.now.exprs.now m.now.stmts.now (drop m.now.expr_count order.old) m.now.expr_count × (shown + outputs ≤ from) }
     ensures kept { take from order.new ≡ take from order.old }
-    ensures coded { result ≤ m.now.expr_count → Coded m.now.signals.now m.now.exprs.now m.now.stmts.now m.now.expr_count from result order.new }
-    ensures driven { result ≤ m.now.expr_count → (x d : ℕ) → Among order.new shown outputs x → given assigns (stmts_in m.now.stmts.now) x ≡ Some d → Among order.new from result d }
+    ensures few { IfSome result (λ k. k ≤ m.now.expr_count) }
+    ensures coded { IfSome result (λ k. Coded m.now.signals.now m.now.exprs.now m.now.stmts.now m.now.expr_count from k order.new) }
+    ensures driven { IfSome result (λ k. (x d : ℕ) → Among order.new shown outputs x → given assigns (stmts_in m.now.stmts.now) x ≡ Some d → Among order.new from k d) }
 {
     values.fill(0);
     want_drivers(m, order, shown, outputs, values);
@@ -425,30 +430,12 @@ fn second_code(
     marks.fill(0);
     let k = emit_all(m, from, base, top, order, values, marks);
     if k > m.expr_count {
-        return k;
+        return None;
     }
     if !drivers_marked(m, order, shown, outputs, marks) {
-        return m.expr_count + 1;
+        return None;
     }
-    k
-}
-
-// No code; so much of the order is lent.
-fn none(used: usize, ports: usize) -> Code
-    ensures { (result.usable ≡ false) × (result.used ≡ used) × (result.ports ≡ ports) }
-{
-    Code {
-        usable: false,
-        ports: ports,
-        base: 0,
-        state: 0,
-        registers: 0,
-        controls: 0,
-        outputs: 0,
-        first: 0,
-        second: 0,
-        used: used,
-    }
+    Some(k)
 }
 
 // Forms, lists and code in a table with room for them. Values and both marks are work.
@@ -460,14 +447,11 @@ fn encode_in(
     values: &mut [u8],
     marks: &mut [u8],
     asked: &mut [u8],
-    ports: usize,
-) -> Code
-    requires { (m.now.expr_count ≤ length marks.old) × (m.now.signal_count ≤ length asked.old) × (base ≡ bits_in m.now.exprs.now) × (state ≡ bits_in m.now.signals.now) × (base + state ≤ length values.old) × (9 * m.now.expr_count + 3 * m.now.signal_count ≤ length order.old) × PortsBefore m.now.signals.now ports }
-    ensures planned { Planning m.now.signals.now m.now.exprs.now m.now.stmts.now m.now.expr_count m.now.signal_count result order.new values.new }
+) -> Option<Code>
+    requires { (m.now.expr_count ≤ length marks.old) × (m.now.signal_count ≤ length asked.old) × (base ≡ bits_in m.now.exprs.now) × (state ≡ bits_in m.now.signals.now) × (base + state ≤ length values.old) × (9 * m.now.expr_count + 3 * m.now.signal_count ≤ length order.old) }
+    ensures planned { IfSome result (λ c. Planned m.now.signals.now m.now.exprs.now m.now.stmts.now m.now.expr_count m.now.signal_count c order.new values.new) }
     ensures kept { take m.now.expr_count order.new ≡ take m.now.expr_count order.old }
-    ensures used { result.used ≡ length order.old }
 {
-    let all = order.len();
     fill_forms(
         m.signals,
         m.exprs,
@@ -481,10 +465,7 @@ fn encode_in(
         order,
     );
     let loads = 7 * m.expr_count;
-    let registers = list_registers(m, order, loads, m.signal_count);
-    if registers > m.signal_count {
-        return none(all, ports);
-    }
+    let registers = list_registers(m, order, loads, m.signal_count)?;
     let controls_at = loads + m.signal_count;
     let controls = list_controls(
         m,
@@ -494,15 +475,9 @@ fn encode_in(
         controls_at,
         m.signal_count,
         asked,
-    );
-    if controls > m.signal_count {
-        return none(all, ports);
-    }
+    )?;
     let outputs_at = controls_at + m.signal_count;
-    let outputs = list_outputs(m, order, outputs_at, m.signal_count);
-    if outputs > m.signal_count {
-        return none(all, ports);
-    }
+    let outputs = list_outputs(m, order, outputs_at, m.signal_count)?;
     let first_at = outputs_at + m.signal_count;
     let top = base + state;
     let first = first_code(
@@ -517,10 +492,7 @@ fn encode_in(
         order,
         values,
         marks,
-    );
-    if first > m.expr_count {
-        return none(all, ports);
-    }
+    )?;
     let second = second_code(
         m,
         first_at + m.expr_count,
@@ -531,13 +503,8 @@ fn encode_in(
         order,
         values,
         marks,
-    );
-    if second > m.expr_count {
-        return none(all, ports);
-    }
-    Code {
-        usable: true,
-        ports: ports,
+    )?;
+    Some(Code {
         base: base,
         state: state,
         registers: registers,
@@ -545,11 +512,10 @@ fn encode_in(
         outputs: outputs,
         first: first,
         second: second,
-        used: all,
-    }
+    })
 }
 
-// The code of a prepared model of n expressions and `count` signals, of which `ordered` stand in the order.
+// The code of a model of which `ordered` expressions stand in the order.
 pub fn encode(
     m: &Model,
     ordered: usize,
@@ -557,26 +523,32 @@ pub fn encode(
     values: &mut [u8],
     marks: &mut [u8],
     asked: &mut [u8],
-) -> Code
+) -> Plan
     requires { (m.now.expr_count ≤ length marks.old) × (m.now.signal_count ≤ length asked.old) × (bits_in m.now.exprs.now ≤ length values.old) × (bits_in m.now.signals.now ≤ 18446744073709551615) × (ordered ≤ length order.old) × Ordered (model_in m.now.signals.now m.now.exprs.now m.now.stmts.now) m.now.expr_count (take ordered order.old) }
-    ensures planned { Planning m.now.signals.now m.now.exprs.now m.now.stmts.now m.now.expr_count m.now.signal_count result (take result.used order.new) values.new }
+    ensures planned { IfSome result.code (λ c. Planned m.now.signals.now m.now.exprs.now m.now.stmts.now m.now.expr_count m.now.signal_count c (take result.used order.new) values.new) }
     ensures ordered { Ordered (model_in m.now.signals.now m.now.exprs.now m.now.stmts.now) m.now.expr_count (take result.used order.new) }
     ensures inside { result.used ≤ length order.new }
 {
-    let ports = ports_end(m.signals);
+    let plain = Plan {
+        code: None,
+        used: ordered,
+    };
     if ordered != m.expr_count {
-        return none(ordered, ports);
+        return plain;
     }
     if order.len() / 9 < m.expr_count {
-        return none(ordered, ports);
+        return plain;
     }
     if (order.len() - 9 * m.expr_count) / 3 < m.signal_count {
-        return none(ordered, ports);
+        return plain;
     }
     let base = m.expr_offset(m.expr_count);
     let state = m.signal_offset(m.signal_count);
     if values.len() - base < state {
-        return none(ordered, ports);
+        return plain;
     }
-    encode_in(m, base, state, order, values, marks, asked, ports)
+    Plan {
+        code: encode_in(m, base, state, order, values, marks, asked),
+        used: order.len(),
+    }
 }

@@ -6,7 +6,7 @@ ghost use Rattle.simulation.specs.Run.{fired_of, firing};
 ghost use Rattle.simulation.specs.Tick.{looped};
 ghost use Rattle.evaluation.specs.Ready.{Prepared, Room, model_in};
 ghost use Rattle.evaluation.specs.Ticks.{Filled, GoodTicks};
-ghost use Rattle.evaluation.specs.Late.{PortsBefore, TicksLate};
+ghost use Rattle.evaluation.specs.Late.{TicksLate};
 ghost use Rattle.runner.specs.Plan.{Planned};
 ghost use Rattle.runner.specs.Parts.{LoadsAfter, ShowsAfter};
 
@@ -98,11 +98,11 @@ pub fn tick_late(
     values: &mut [u8],
     marks: &mut [u8],
 )
-    requires { Room m.now.signals.now m.now.exprs.now bytes.old values.old × (m.now.signal_count ≤ length marks.old) × (looped (model_in m.now.signals.now m.now.exprs.now m.now.stmts.now) ≡ None) × Filled (widths_in m.now.exprs.now) values.old × Filled (widths_in m.now.signals.now) bytes.old × GoodTicks m.now.signals.now ticks.now × Planned m.now.signals.now m.now.exprs.now m.now.stmts.now m.now.expr_count m.now.signal_count code order.now values.old × PortsBefore m.now.signals.now code.ports }
+    requires { Room m.now.signals.now m.now.exprs.now bytes.old values.old × (m.now.signal_count ≤ length marks.old) × (looped (model_in m.now.signals.now m.now.exprs.now m.now.stmts.now) ≡ None) × Filled (widths_in m.now.exprs.now) values.old × Filled (widths_in m.now.signals.now) bytes.old × GoodTicks m.now.signals.now ticks.now × Planned m.now.signals.now m.now.exprs.now m.now.stmts.now m.now.expr_count m.now.signal_count code order.now values.old }
     ensures ticked { TicksLate m.now.signals.now m.now.exprs.now m.now.stmts.now ticks.now (firing (fired_of fired)) bytes.old bytes.new }
     ensures filled { Filled (widths_in m.now.exprs.now) values.new }
 {
-    set_inputs(m.signals, ticks, bytes, code.ports);
+    set_inputs(m, ticks, bytes);
     load_late(m, order, code, fired, bytes, values, marks);
     show_late(m, order, code, bytes, values);
 }

@@ -34,6 +34,7 @@ ghost use Rattle.runner.specs.Whole.{list_call};
 use cut::check_call;
 use prepare::{fill_tables, prepare};
 use refusal::Refusal;
+use show::ports_end;
 use simulation::Edge;
 use simulation::index::count;
 use tables::Model;
@@ -82,6 +83,7 @@ fn run_checked(
         driver_table: &*driver_table,
         expr_count: count(exprs),
         signal_count: count(signals),
+        ports: ports_end(signals),
     };
     match prepare(&m, order, work_exprs) {
         Err(s) => Err(Refusal::CombinationalLoop(s)),

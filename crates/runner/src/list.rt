@@ -1,6 +1,6 @@
 // A list of ticks on a model that was checked and prepared once.
 ghost use Rattle.std.specs.Prelude.{◌≡◌, ◌*◌, ◌/◌, ◌≤◌, length};
-ghost use Rattle.std.specs.Prelude.{None};
+ghost use Rattle.std.specs.Prelude.{None, IfSome};
 ghost use Rattle.recorder.specs.Lists.{lists};
 ghost use Rattle.simulation.specs.Wellformed.{largest, malformed};
 ghost use Rattle.simulation.specs.Index.{records_in, widths_in, Starts, Driven};
@@ -11,7 +11,7 @@ ghost use Rattle.evaluation.specs.Late.{TicksLate};
 ghost use Rattle.evaluation.specs.Ticks.{Filled, Ordered, GoodTicks, signals_in};
 ghost use Rattle.runner.specs.Calls.{output_width, handed};
 ghost use Rattle.runner.specs.Parts.{tick_causes, is_made, RunsLate, RunsTicks, Finishes};
-ghost use Rattle.runner.specs.Plan.{Planning};
+ghost use Rattle.runner.specs.Plan.{Planned};
 
 use crate::code::Code;
 use crate::late::tick_late;
@@ -28,7 +28,7 @@ use simulation::index::wide;
 fn tick_either(
     m: &Model,
     order: &[u32],
-    code: Code,
+    code: Option<Code>,
     ticks: &[u8],
     fired: Option<Edge>,
     bytes: &mut [u8],
@@ -36,14 +36,13 @@ fn tick_either(
     work_exprs: &mut [u8],
     work_signals: &mut [u8],
 )
-    requires { Room m.now.signals.now m.now.exprs.now bytes.old values.old × (m.now.expr_count ≤ length work_exprs.old) × (m.now.signal_count ≤ length work_signals.old) × Ordered (model_in m.now.signals.now m.now.exprs.now m.now.stmts.now) m.now.expr_count order.now × (looped (model_in m.now.signals.now m.now.exprs.now m.now.stmts.now) ≡ None) × Filled (widths_in m.now.exprs.now) values.old × Filled (widths_in m.now.signals.now) bytes.old × GoodTicks m.now.signals.now ticks.now × Planning m.now.signals.now m.now.exprs.now m.now.stmts.now m.now.expr_count m.now.signal_count code order.now values.old }
+    requires { Room m.now.signals.now m.now.exprs.now bytes.old values.old × (m.now.expr_count ≤ length work_exprs.old) × (m.now.signal_count ≤ length work_signals.old) × Ordered (model_in m.now.signals.now m.now.exprs.now m.now.stmts.now) m.now.expr_count order.now × (looped (model_in m.now.signals.now m.now.exprs.now m.now.stmts.now) ≡ None) × Filled (widths_in m.now.exprs.now) values.old × Filled (widths_in m.now.signals.now) bytes.old × GoodTicks m.now.signals.now ticks.now × IfSome code (λ c. Planned m.now.signals.now m.now.exprs.now m.now.stmts.now m.now.expr_count m.now.signal_count c order.now values.old) }
     ensures ticked { TicksLate m.now.signals.now m.now.exprs.now m.now.stmts.now ticks.now (firing (fired_of fired)) bytes.old bytes.new }
     ensures filled { Filled (widths_in m.now.exprs.now) values.new }
 {
-    if code.usable {
-        tick_late(m, order, code, ticks, fired, bytes, values, work_signals);
-    } else {
-        tick(
+    match code {
+        Some(code) => tick_late(m, order, code, ticks, fired, bytes, values, work_signals),
+        None => tick(
             m,
             order,
             ticks,
@@ -52,7 +51,7 @@ fn tick_either(
             values,
             work_exprs,
             work_signals,
-        );
+        ),
     }
 }
 
@@ -76,7 +75,7 @@ pub fn head_fault(
 fn run_tick(
     m: &Model,
     order: &[u32],
-    code: Code,
+    code: Option<Code>,
     inputs: usize,
     asked: usize,
     ticks: &[u8],
@@ -86,7 +85,7 @@ fn run_tick(
     work_exprs: &mut [u8],
     work_signals: &mut [u8],
 ) -> Result<(), Refusal>
-    requires { Room m.now.signals.now m.now.exprs.now bytes.old values.old × (m.now.expr_count ≤ length work_exprs.old) × (m.now.signal_count ≤ length work_signals.old) × Ordered (model_in m.now.signals.now m.now.exprs.now m.now.stmts.now) m.now.expr_count order.now × (looped (model_in m.now.signals.now m.now.exprs.now m.now.stmts.now) ≡ None) × Filled (widths_in m.now.exprs.now) values.old × Filled (widths_in m.now.signals.now) bytes.old × (inputs ≡ total input_width (signals_in m.now.signals.now)) × Planning m.now.signals.now m.now.exprs.now m.now.stmts.now m.now.expr_count m.now.signal_count code order.now values.old }
+    requires { Room m.now.signals.now m.now.exprs.now bytes.old values.old × (m.now.expr_count ≤ length work_exprs.old) × (m.now.signal_count ≤ length work_signals.old) × Ordered (model_in m.now.signals.now m.now.exprs.now m.now.stmts.now) m.now.expr_count order.now × (looped (model_in m.now.signals.now m.now.exprs.now m.now.stmts.now) ≡ None) × Filled (widths_in m.now.exprs.now) values.old × Filled (widths_in m.now.signals.now) bytes.old × (inputs ≡ total input_width (signals_in m.now.signals.now)) × IfSome code (λ c. Planned m.now.signals.now m.now.exprs.now m.now.stmts.now m.now.expr_count m.now.signal_count c order.now values.old) }
     ensures answered { answer_of result ≡ tick_causes m.now.signal_count inputs (handed inputs asked ticks.now) (fired_of fired) }
     ensures runs { RunsLate m.now.signals.now m.now.exprs.now m.now.stmts.now (handed inputs asked ticks.now) (fired_of fired) (answer_of result) bytes.old bytes.new }
     ensures filled { Filled (widths_in m.now.exprs.now) values.new }
@@ -128,7 +127,7 @@ fn finish(
 pub fn run_ticks(
     m: &Model,
     order: &[u32],
-    code: Code,
+    code: Option<Code>,
     inputs: usize,
     heads: &[u32],
     bits: &[u8],
@@ -139,7 +138,7 @@ pub fn run_ticks(
     answers: &mut [u64],
     shown: &mut [u8],
 )
-    requires { Room m.now.signals.now m.now.exprs.now bytes.old values.old × (m.now.expr_count ≤ length work_exprs.old) × (m.now.signal_count ≤ length work_signals.old) × Ordered (model_in m.now.signals.now m.now.exprs.now m.now.stmts.now) m.now.expr_count order.now × (looped (model_in m.now.signals.now m.now.exprs.now m.now.stmts.now) ≡ None) × Filled (widths_in m.now.exprs.now) values.old × Filled (widths_in m.now.signals.now) bytes.old × (inputs ≡ total input_width (signals_in m.now.signals.now)) × (2 * (length heads.now / 3) ≤ length answers.old) × (total output_width (signals_in m.now.signals.now) * (length heads.now / 3) ≤ length shown.old) × (malformed largest (lists m.now.signals.now m.now.exprs.now m.now.stmts.now) ≡ None) × Planning m.now.signals.now m.now.exprs.now m.now.stmts.now m.now.expr_count m.now.signal_count code order.now values.old }
+    requires { Room m.now.signals.now m.now.exprs.now bytes.old values.old × (m.now.expr_count ≤ length work_exprs.old) × (m.now.signal_count ≤ length work_signals.old) × Ordered (model_in m.now.signals.now m.now.exprs.now m.now.stmts.now) m.now.expr_count order.now × (looped (model_in m.now.signals.now m.now.exprs.now m.now.stmts.now) ≡ None) × Filled (widths_in m.now.exprs.now) values.old × Filled (widths_in m.now.signals.now) bytes.old × (inputs ≡ total input_width (signals_in m.now.signals.now)) × (2 * (length heads.now / 3) ≤ length answers.old) × (total output_width (signals_in m.now.signals.now) * (length heads.now / 3) ≤ length shown.old) × (malformed largest (lists m.now.signals.now m.now.exprs.now m.now.stmts.now) ≡ None) × IfSome code (λ c. Planned m.now.signals.now m.now.exprs.now m.now.stmts.now m.now.expr_count m.now.signal_count c order.now values.old) }
     ensures { RunsTicks (lists m.now.signals.now m.now.exprs.now m.now.stmts.now) heads.now bits.now bytes.old bytes.new answers.old answers.new shown.old shown.new }
 {
     let mut at: usize = 0;
@@ -166,7 +165,7 @@ pub fn run_ticks(
         );
         late = late | r.is_ok();
         put_answer(answers, 2 * i, r);
-        to = show(m.signals, bytes, shown, to, code.ports);
+        to = show(m.signals, bytes, shown, to, m.ports);
         at += 3;
         pos = end;
     }

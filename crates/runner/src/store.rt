@@ -65,21 +65,21 @@ pub fn store_listed(
     }
 }
 
-// The input signals take the tick's bits, in order. All of them begin before a word.
-pub fn set_inputs(signals: &[u32], ticks: &[u8], bytes: &mut [u8], until: usize)
-    requires { ReadSignals signals.now × GoodTicks signals.now ticks.now × (sum_to (widths_in signals.now) (length (records_in signals.now)) ≤ length bytes.old) × PortsBefore signals.now until }
-    ensures { Inputs signals.now ticks.now bytes.old bytes.new }
+// The input signals take the tick's bits, in order.
+pub fn set_inputs(m: &Model, ticks: &[u8], bytes: &mut [u8])
+    requires { GoodTicks m.now.signals.now ticks.now × (sum_to (widths_in m.now.signals.now) (length (records_in m.now.signals.now)) ≤ length bytes.old) }
+    ensures { Inputs m.now.signals.now ticks.now bytes.old bytes.new }
 {
     let mut at: usize = 0;
     let mut to: usize = 0;
     let mut pos: usize = 0;
-    while at < until {
-        let size = size(signals, at);
+    while at < m.ports {
+        let size = size(m.signals, at);
         if size == 0 {
             return;
         }
-        let width = wide(signals[at + 2]);
-        if signals[at + 1] == 0 {
+        let width = wide(m.signals[at + 2]);
+        if m.signals[at + 1] == 0 {
             copy(bytes, to, ticks, pos, width);
             pos += width;
         }

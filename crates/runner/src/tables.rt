@@ -1,5 +1,5 @@
 // A model without a fault, in words, with tables of where its records and values stand and of what is assigned to a signal. What a
-// table has no room for is found by walking the lists.
+// table has no room for is found by walking the lists. All ports begin before word `ports`.
 ghost use Rattle.std.specs.Prelude.{◌≡◌, ◌≤◌, ◌<◌, None, length};
 ghost use Rattle.std.proofs.Props.{props};
 ghost use Rattle.recorder.specs.Lists.{lists};
@@ -7,6 +7,7 @@ ghost use Rattle.recorder.specs.Words.{raw_of};
 ghost use Rattle.simulation.specs.Wellformed.{largest, first_fault};
 ghost use Rattle.simulation.specs.Index.{records_in, widths_in, offset as sum_to, start_of, Indexed, Starts, stmts_in, Driven};
 ghost use Rattle.simulation.specs.Tick.{given, assigns as by_assign};
+ghost use Rattle.evaluation.specs.Late.{PortsBefore};
 
 use simulation::index;
 
@@ -21,6 +22,7 @@ pub struct Model<'a> {
     pub driver_table: &'a [u32],
     pub expr_count: usize,
     pub signal_count: usize,
+    pub ports: usize,
     pub ghost faultless: { first_fault largest (raw_of (lists signals.now exprs.now stmts.now)) ≡ None } by { Prim.hlevel props },
     pub ghost started: { Starts exprs.now starts.now },
     pub ghost expr_offsets: { Indexed (widths_in exprs.now) expr_table.now },
@@ -28,6 +30,7 @@ pub struct Model<'a> {
     pub ghost driven: { Driven stmts.now driver_table.now },
     pub ghost expr_counted: { expr_count ≡ length (records_in exprs.now) },
     pub ghost signal_counted: { signal_count ≡ length (records_in signals.now) },
+    pub ghost ports_before: { PortsBefore signals.now ports },
 }
 
 impl Model<'_> {

@@ -28,7 +28,7 @@ pub fn tick(
     ensures ticked { Ticks m.now.signals.now m.now.exprs.now m.now.stmts.now ticks.now (firing (fired_of fired)) bytes.old bytes.new }
     ensures filled { Filled (widths_in m.now.exprs.now) values.new }
 {
-    set_inputs(m.signals, ticks, bytes, m.signals.len());
+    set_inputs(m, ticks, bytes);
     settle(m, order, bytes, values, work_exprs);
     commit(m, fired, values, work_signals, bytes);
     settle(m, order, bytes, values, work_exprs);

@@ -15,7 +15,7 @@ use crate::cut::malformed;
 use crate::list::run_ticks;
 use crate::prepare::{fill_tables, prepare};
 use crate::refused::refuse_ticks;
-use crate::show::{output_total, times};
+use crate::show::{output_total, ports_end, times};
 use crate::tables::Model;
 use model_check::call::{byte_fault, call_lengths, input_total};
 use refusal::Refusal;
@@ -169,6 +169,7 @@ fn run_unrefused(
         driver_table: &*driver_table,
         expr_count: count(exprs),
         signal_count: count(signals),
+        ports: ports_end(signals),
     };
     let inputs = input_total(signals);
     match prepare(&m, order, work_exprs) {
@@ -187,13 +188,13 @@ fn run_unrefused(
             shown,
         ),
         Ok(ordered) => {
-            let code = encode(&m, ordered, order, work_bits, work_exprs, work_signals);
-            let used = code.used;
+            let plan = encode(&m, ordered, order, work_bits, work_exprs, work_signals);
+            let used = plan.used;
             work_bits.fill(0);
             run_ticks(
                 &m,
                 &order[..used],
-                code,
+                plan.code,
                 inputs,
                 heads,
                 bits,

@@ -1,4 +1,3 @@
-use Rattle.std.proofs.Common.{◌-◌}
 use Rattle.runner.proofs.Planning.{DriversSoFar}
 use Rattle.runner.proofs.code.drivers_marked.Given as goal
 

@@ -1,4 +1,3 @@
-use Rattle.std.proofs.Common.{◌-◌}
 use Rattle.coding.proofs.Emitting.{EmittingAll}
 use Rattle.runner.proofs.code.emit_all.Given as goal
 

@@ -1,4 +1,3 @@
-use Rattle.std.proofs.Common.{◌-◌}
 use Rattle.runner.proofs.Planning.{LoadsSoFar}
 use Rattle.runner.proofs.code.loads_marked.Given as goal
 

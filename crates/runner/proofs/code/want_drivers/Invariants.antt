@@ -1,4 +1,3 @@
-use Rattle.std.proofs.Common.{◌-◌}
 use Rattle.coding.specs.Emitting.{Unplaced}
 use Rattle.runner.proofs.code.want_drivers.Given as goal
 

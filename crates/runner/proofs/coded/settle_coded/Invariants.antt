@@ -1,4 +1,3 @@
-use Rattle.std.proofs.Common.{◌-◌}
 use Rattle.coding.proofs.Running.{Running}
 use Rattle.runner.proofs.coded.settle_coded.Given as goal
 

@@ -1,4 +1,3 @@
-use Rattle.std.proofs.Common.{◌-◌}
 use Rattle.runner.proofs.Listing.{LoadsFirst}
 use Rattle.runner.proofs.commit.load_listed.Given as goal
 

@@ -1,4 +1,3 @@
-use Rattle.std.proofs.Common.{◌-◌}
 use Rattle.simulation.specs.Run.{fired_of, firing}
 use Rattle.runner.proofs.Listing.{NotesListed}
 use Rattle.runner.proofs.commit.note_listed.Given as goal

@@ -1,15 +1,14 @@
 use Rattle.std.proofs.Common.{arith, ℕ, ◌≡◌, ◌+◌, ◌-◌, ◌||◌, Bool, min, length, get_or, take, drop, sym, ap, subst, ◌∙◌}
 use Rattle.recorder.specs.Lists.{lists}
 use Rattle.runner.specs.Calls.{handed}
-use Rattle.runner.proofs.Tick.{read_signals}
 use Rattle.runner.proofs.Lagging.{Along, along_long, along_next, along_end}
 use Rattle.runner.proofs.Ticking.{ok_made}
 use Rattle.runner.proofs.Running.{shown_room}
-use Rattle.runner.proofs.Models.{prepared_of}
+use Rattle.runner.proofs.Models.{read_signals_of}
 use Rattle.runner.proofs.list.run_ticks.Goals as goal
 
 pub show-to-requires : goal.show-to-requires
-show-to-requires c = let b = c.requires.0.bytes_room in (read_signals (prepared_of c.args.m.now), omega (arith, along_long c.loop-i.invariant.0 c.requires.10 c.requires.4), shown_room c.loop-i.invariant.0.running c.loop-i-test.true c.requires.9, c.requires.11.ports)
+show-to-requires c = let b = c.requires.0.bytes_room in (read_signals_of c.args.m.now, omega (arith, along_long c.loop-i.invariant.0 c.requires.10 c.requires.4), shown_room c.loop-i.invariant.0.running c.loop-i-test.true c.requires.9, c.args.m.now.ports_before)
 
 pub loop-i-preserved : goal.loop-i-preserved
 loop-i-preserved c = let e = c.end_of-end.result in

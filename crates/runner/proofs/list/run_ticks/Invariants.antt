@@ -1,4 +1,3 @@
-use Rattle.std.proofs.Common.{◌-◌}
 use Rattle.recorder.specs.Lists.{lists}
 use Rattle.simulation.specs.Index.{widths_in}
 use Rattle.evaluation.specs.Ticks.{Filled}

@@ -1,4 +1,3 @@
-use Rattle.std.proofs.Common.{◌-◌}
 use Rattle.runner.proofs.Listing.{ListsControls}
 use Rattle.runner.proofs.lists.list_controls.Given as goal
 

@@ -1,4 +1,4 @@
-use Rattle.std.proofs.Common.{◌-◌, ◌≤◌}
+use Rattle.std.proofs.Common.{◌≤◌}
 use Rattle.ordering.specs.Words.{model_with}
 use Rattle.ordering.proofs.Touching.{Unlooped}
 use Rattle.runner.proofs.loops.lowest_on_loop.Given as goal

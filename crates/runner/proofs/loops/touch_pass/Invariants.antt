@@ -1,4 +1,3 @@
-use Rattle.std.proofs.Common.{◌-◌}
 use Rattle.ordering.specs.Words.{model_with}
 use Rattle.ordering.proofs.Touching.{Touching}
 use Rattle.runner.proofs.loops.touch_pass.Given as goal

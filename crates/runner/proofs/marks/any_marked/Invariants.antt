@@ -1,4 +1,3 @@
-use Rattle.std.proofs.Common.{◌-◌}
 use Rattle.ordering.specs.Marks.{marked}
 use Rattle.ordering.proofs.Scans.{Failed}
 use Rattle.runner.proofs.marks.any_marked.Given as goal

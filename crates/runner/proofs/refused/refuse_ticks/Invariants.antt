@@ -1,4 +1,3 @@
-use Rattle.std.proofs.Common.{◌-◌}
 use Rattle.recorder.specs.Lists.{lists}
 use Rattle.runner.proofs.Running.{Running}
 use Rattle.runner.proofs.refused.refuse_ticks.Given as goal

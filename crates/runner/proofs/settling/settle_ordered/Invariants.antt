@@ -1,4 +1,3 @@
-use Rattle.std.proofs.Common.{◌-◌}
 use Rattle.evaluation.proofs.Settling.{Along}
 use Rattle.runner.proofs.settling.settle_ordered.Given as goal
 

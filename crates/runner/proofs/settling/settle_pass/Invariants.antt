@@ -1,4 +1,3 @@
-use Rattle.std.proofs.Common.{◌-◌}
 use Rattle.evaluation.proofs.Settling.{Passing}
 use Rattle.runner.proofs.settling.settle_pass.Given as goal
 

@@ -1,4 +1,3 @@
-use Rattle.std.proofs.Common.{◌-◌}
 use Rattle.ordering.specs.Words.{model_in}
 use Rattle.ordering.proofs.Sorted.{SortingOn}
 use Rattle.runner.proofs.sort.sort_along.Given as goal

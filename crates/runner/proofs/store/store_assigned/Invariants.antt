@@ -1,4 +1,3 @@
-use Rattle.std.proofs.Common.{◌-◌}
 use Rattle.evaluation.proofs.Storing.{Storing}
 use Rattle.runner.proofs.store.store_assigned.Given as goal
 

@@ -1,4 +1,3 @@
-use Rattle.std.proofs.Common.{◌-◌}
 use Rattle.runner.proofs.Listing.{StoresFirst}
 use Rattle.runner.proofs.store.store_listed.Given as goal
 
