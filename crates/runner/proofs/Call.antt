@@ -24,7 +24,8 @@ use Rattle.simulation.proofs.Found.{faultless, signals_count, exprs_count, exprs
 use Rattle.simulation.proofs.Kept.{AllNone, all_none, short_none}
 use Rattle.evaluation.specs.Bytes.{Holds}
 use Rattle.evaluation.specs.Ready.{Room, model_in}
-use Rattle.evaluation.specs.Ticks.{NoFault, Filled, GoodTicks, Ticks}
+use Rattle.simulation.proofs.Sound.{signals_read}
+use Rattle.evaluation.specs.Ticks.{NoFault, ReadSignals, Filled, GoodTicks, Ticks}
 use Rattle.evaluation.proofs.Calling.{bytes_hold, bytes_count}
 use Rattle.runner.specs.Calls.{Answers, Runs}
 use Rattle.runner.specs.Parts.{Unrefused, Tries}
@@ -82,8 +83,11 @@ module _ {signals exprs stmts bytes ticks : List ℕ} {fired : Option (ℕ × �
   abbrev l : Lists
   l = lists signals exprs stmts
 
-  fine : first_fault largest (raw_of (lists signals exprs stmts)) ≡ None
+  pub fine : first_fault largest (raw_of (lists signals exprs stmts)) ≡ None
   fine = faultless largest (lists signals exprs stmts) u.well_formed
+
+  pub signals_read_in : ReadSignals signals
+  signals_read_in = record { readable = signals_read largest (raw_of (lists signals exprs stmts)) fine }
 
   pub no_fault : NoFault signals exprs stmts
   no_fault = record { widest = largest; faultless = fine }

@@ -19,7 +19,7 @@ mod settling; // settling.rt: the values of all expressions
 mod show; // show.rt: what a list of ticks reads and shows
 mod sort; // sort.rt: an order of all expressions
 mod store; // store.rt: inputs and values in the signals' bytes
-mod tables; // tables.rt: where records and values stand, by tables
+mod tables; // tables.rt: a model and where its records and values stand
 mod ticks; // ticks.rt: one tick
 mod whole; // whole.rt: a whole list's run
 
@@ -32,10 +32,12 @@ ghost use Rattle.runner.specs.Parts.{Unrefused, Tries};
 ghost use Rattle.runner.specs.Whole.{list_call};
 
 use cut::check_call;
-use prepare::prepare;
+use prepare::{fill_tables, prepare};
 use refusal::Refusal;
+use show::ports_end;
 use simulation::Edge;
 use simulation::index::count;
+use tables::Model;
 use ticks::tick;
 use whole::{run_list_with, zero_tables, zero_works};
 
@@ -62,9 +64,7 @@ fn run_checked(
     requires { Unrefused (lists signals.now exprs.now stmts.now) bytes.old ticks.now (fired_of fired) work_bits.old work_exprs.old work_signals.old }
     ensures { Tries (lists signals.now exprs.now stmts.now) bytes.old ticks.now (fired_of fired) result bytes.new }
 {
-    let n = count(exprs);
-    let s = count(signals);
-    let ready = prepare(
+    fill_tables(
         signals,
         exprs,
         stmts,
@@ -72,28 +72,26 @@ fn run_checked(
         expr_table,
         signal_table,
         driver_table,
-        order,
-        n,
-        s,
-        work_exprs,
     );
-    let found = ready.found;
-    match found {
-        Some(x) => Err(Refusal::CombinationalLoop(x)),
-        None => {
-            let ordered = ready.ordered;
+    let m = Model {
+        signals: signals,
+        exprs: exprs,
+        stmts: stmts,
+        starts: &*starts,
+        expr_table: &*expr_table,
+        signal_table: &*signal_table,
+        driver_table: &*driver_table,
+        expr_count: count(exprs),
+        signal_count: count(signals),
+        ports: ports_end(signals),
+    };
+    match prepare(&m, order, work_exprs) {
+        Err(s) => Err(Refusal::CombinationalLoop(s)),
+        Ok(ordered) => {
             work_bits.fill(0);
             tick(
-                signals,
-                exprs,
-                stmts,
-                starts,
-                expr_table,
-                signal_table,
-                driver_table,
+                &m,
                 &order[..ordered],
-                n,
-                s,
                 ticks,
                 fired,
                 bytes,

@@ -57,9 +57,8 @@ pub fn refuse_ticks(
     let mut at: usize = 0;
     let mut pos: usize = 0;
     let mut to: usize = 0;
-    let mut i: usize = 0;
     let k = heads.len() / 3;
-    while i < k {
+    for i in 0..k {
         let asked = wide(heads[at]);
         let end = end_of(bits, pos, asked);
         let fired = fired_by(heads[at + 1], heads[at + 2]);
@@ -68,6 +67,5 @@ pub fn refuse_ticks(
         to = show(signals, bytes, shown, to, ports);
         at += 3;
         pos = end;
-        i += 1;
     }
 }

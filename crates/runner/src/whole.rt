@@ -13,9 +13,10 @@ use crate::WIDEST;
 use crate::code::encode;
 use crate::cut::malformed;
 use crate::list::run_ticks;
-use crate::prepare::prepare;
+use crate::prepare::{fill_tables, prepare};
 use crate::refused::refuse_ticks;
-use crate::show::{output_total, times};
+use crate::show::{output_total, ports_end, times};
+use crate::tables::Model;
 use model_check::call::{byte_fault, call_lengths, input_total};
 use refusal::Refusal;
 use simulation::Model;
@@ -155,9 +156,7 @@ fn run_unrefused(
     requires { ListUnrefused (lists signals.now exprs.now stmts.now) heads.now bytes.old work_bits.old work_exprs.old work_signals.old answers.old shown.old }
     ensures { RunsTicks (lists signals.now exprs.now stmts.now) heads.now bits.now bytes.old bytes.new answers.old answers.new shown.old shown.new }
 {
-    let n = count(exprs);
-    let s = count(signals);
-    let ready = prepare(
+    fill_tables(
         signals,
         exprs,
         stmts,
@@ -165,62 +164,43 @@ fn run_unrefused(
         expr_table,
         signal_table,
         driver_table,
-        order,
-        n,
-        s,
-        work_exprs,
     );
-    let found = ready.found;
-    match found {
-        Some(x) => {
-            let inputs = input_total(signals);
-            refuse_ticks(
-                signals,
-                exprs,
-                stmts,
-                heads,
-                bits,
-                bytes,
-                Ok(()),
-                s,
-                inputs,
-                Err(Refusal::CombinationalLoop(x)),
-                answers,
-                shown,
-            );
-        }
-        None => {
-            let inputs = input_total(signals);
-            let code = encode(
-                signals,
-                exprs,
-                stmts,
-                starts,
-                expr_table,
-                signal_table,
-                driver_table,
-                n,
-                s,
-                ready.ordered,
-                order,
-                work_bits,
-                work_exprs,
-                work_signals,
-            );
-            let used = code.used;
+    let m = Model {
+        signals: signals,
+        exprs: exprs,
+        stmts: stmts,
+        starts: &*starts,
+        expr_table: &*expr_table,
+        signal_table: &*signal_table,
+        driver_table: &*driver_table,
+        expr_count: count(exprs),
+        signal_count: count(signals),
+        ports: ports_end(signals),
+    };
+    let inputs = input_total(signals);
+    match prepare(&m, order, work_exprs) {
+        Err(s) => refuse_ticks(
+            signals,
+            exprs,
+            stmts,
+            heads,
+            bits,
+            bytes,
+            Ok(()),
+            m.signal_count,
+            inputs,
+            Err(Refusal::CombinationalLoop(s)),
+            answers,
+            shown,
+        ),
+        Ok(ordered) => {
+            let plan = encode(&m, ordered, order, work_bits, work_exprs, work_signals);
+            let used = plan.used;
             work_bits.fill(0);
             run_ticks(
-                signals,
-                exprs,
-                stmts,
-                starts,
-                expr_table,
-                signal_table,
-                driver_table,
+                &m,
                 &order[..used],
-                n,
-                code,
-                s,
+                plan.code,
                 inputs,
                 heads,
                 bits,
