@@ -19,7 +19,6 @@ use crate::show::{output_total, ports_end, times};
 use crate::tables::Model;
 use model_check::call::{byte_fault, call_lengths, input_total};
 use refusal::Refusal;
-use simulation::Model;
 use simulation::index::count;
 
 pub fn zero_works(work_bits: &mut [u8], work_exprs: &mut [u8], work_signals: &mut [u8])
@@ -82,7 +81,7 @@ fn list_fault(
     requires { ReadSignals signals.now }
     ensures { answer_of result ≡ fault_causes (list_call (lists signals.now exprs.now []) heads.now [] bytes.now work_bits.now work_exprs.now work_signals.now answers.now shown.now) }
 {
-    let m = Model {
+    let m = simulation::Model {
         signals,
         exprs,
         stmts: &[],
