@@ -16,7 +16,7 @@ use Rattle.recorder.specs.Record.{Model}
 use Rattle.recorder.specs.Lists.{Lists}
 use Rattle.recorder.specs.Read.{only}
 use Rattle.lowering.specs.Lower.{Lowered, Refused, Lowering, lower_words}
-use Rattle.simulation.specs.declared.Ran as s
+use Rattle.simulation.specs.Run as s
 use Rattle.simulation.specs.Wellformed.{or_else, largest, malformed}
 use Rattle.simulation.specs.Tick.{looped}
 use Rattle.simulation.specs.Run.{Call, call_model, Outcome, signal_bytes, expr_bits, tick_bits, no_bit, on_loop, first_of, causes, refusal, verdict, answer, run, bytes_after}

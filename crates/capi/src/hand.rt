@@ -10,8 +10,7 @@ ghost use Rattle.capi.specs.Answer.{refusal_numbers, numbers_of, Hands, or_no_ro
 use converter::Lowered;
 use recorder::SignalId;
 use refusal::Refusal;
-use simulation::zero::zero_longs;
-use simulation::{Fired, Ran};
+use simulation::Edge;
 
 // A number at an index, if there is room.
 fn put(buffer: &mut [u64], i: usize, n: u64)
@@ -45,11 +44,14 @@ pub fn words_for(room: usize, n: usize) -> usize
 }
 
 // What fires: where the call is refused for want of room, an edge that there is not.
-pub fn fired_for(room: usize, fired: Fired) -> Fired
+pub fn fired_for(room: usize, fired: Option<Edge>) -> Option<Edge>
     ensures { fired_of result ≡ pick (ltb room 8) (Some (0, 2)) (fired_of fired) }
 {
     if room < ROOM {
-        return Fired::Edge(SignalId(0), 2);
+        return Some(Edge {
+            signal: SignalId(0),
+            edge: 2,
+        });
     }
     fired
 }
@@ -79,21 +81,21 @@ pub fn lowered_for(room: usize, r: Lowered) -> Lowered
 }
 
 // Refused for want of room, unless the model is malformed or another buffer is short.
-fn ran_short(r: Ran) -> Ran
+fn ran_short(r: Result<(), Refusal>) -> Result<(), Refusal>
     ensures { ran_of result ≡ or_no_room_ran (ran_of r) }
 {
     match r {
-        Ran::Done => Ran::Refused(Refusal::BufferTooShort(ROOM)),
-        Ran::Refused(x) => {
+        Ok(()) => Err(Refusal::BufferTooShort(ROOM)),
+        Err(x) => {
             if x.number() < 13 {
-                return Ran::Refused(x);
+                return Err(x);
             }
-            Ran::Refused(Refusal::BufferTooShort(ROOM))
+            Err(Refusal::BufferTooShort(ROOM))
         }
     }
 }
 
-pub fn ran_for(room: usize, r: Ran) -> Ran
+pub fn ran_for(room: usize, r: Result<(), Refusal>) -> Result<(), Refusal>
     ensures { ran_of result ≡ pick (ltb room 8) (or_no_room_ran (ran_of r)) (ran_of r) }
 {
     if room < ROOM {
@@ -105,7 +107,7 @@ pub fn ran_for(room: usize, r: Ran) -> Ran
 pub fn hand_lowered(buffer: &mut [u64], r: Lowered) -> usize
     ensures { Hands (numbers_of (answer_of r)) buffer.old result buffer.new }
 {
-    zero_longs(buffer);
+    buffer.fill(0);
     match r {
         Lowered::Accepted(t) => {
             let s = t.signals;
@@ -124,28 +126,31 @@ pub fn hand_lowered(buffer: &mut [u64], r: Lowered) -> usize
     }
 }
 
-pub fn hand_ran(buffer: &mut [u64], r: Ran) -> usize
+pub fn hand_ran(buffer: &mut [u64], r: Result<(), Refusal>) -> usize
     ensures { Hands (refusal_numbers (ran_of r)) buffer.old result buffer.new }
 {
-    zero_longs(buffer);
+    buffer.fill(0);
     match r {
-        Ran::Done => {
+        Ok(()) => {
             put_two(buffer, 0, 0, 0);
             0
         }
-        Ran::Refused(x) => {
+        Err(x) => {
             put_two(buffer, 0, x.number() as u64, x.place() as u64);
             x.number()
         }
     }
 }
 
-pub fn fired_by(fires: u32, signal: u32) -> Fired
+pub fn fired_by(fires: u32, signal: u32) -> Option<Edge>
     ensures { fired_of result ≡ fired_by fires signal }
 {
     if fires == 0 {
-        Fired::Nothing
+        None
     } else {
-        Fired::Edge(SignalId(signal), fires - 1)
+        Some(Edge {
+            signal: SignalId(signal),
+            edge: fires - 1,
+        })
     }
 }

@@ -4,29 +4,17 @@
 
 #![tactic(auto)]
 
-ghost use Rattle.std.specs.Prelude.{◌≡◌};
-ghost use Rattle.std.specs.Counts.{IsPrefixLen};
-
 use converter::{Lowered, lower};
+use hashes::{hash_bytes, hash_words};
 use lines::fields::put_fields;
-use lines::records::put_refused;
-use listing::{put_expressions, put_first_line, put_signals, put_statements};
-use recorder::read::word;
-use recorder::{Tape, Tapes};
+use lines::records::{Expression, Record, Signal, Statement, put_refused};
+use listing::{put_first_line, put_list, written};
+use recorder::Tapes;
 use refusal::Refusal;
+use std::io;
 use std::io::{Read, Write};
-use text::{Place, flush, put_byte, put_text};
+use text::{Full, Text};
 use words::read_words;
-
-fn wide(x: u32) -> usize
-    ensures { result ≡ x }
-{
-    x as usize
-}
-
-fn low(x: usize) -> u32 {
-    (x % 4294967296) as u32
-}
 
 // The model's lists, or the refusal. Works are this program's own.
 fn lower_words(
@@ -35,261 +23,199 @@ fn lower_words(
     exprs: &mut [u32],
     stmts: &mut [u32],
 ) -> Lowered {
-    let mut w0 = [0u32; 16384];
-    let mut w1 = [0u32; 16384];
-    let mut w2 = [0u32; 16384];
-    let mut w3 = [0u32; 16384];
-    let mut w4 = [0u32; 16384];
+    let mut wires = [0u32; 16384];
+    let mut places = [0u32; 16384];
+    let mut parts = [0u32; 16384];
+    let mut values = [0u32; 16384];
+    let mut banks = [0u32; 16384];
     lower(
-        words, signals, exprs, stmts, &mut w0, &mut w1, &mut w2, &mut w3, &mut w4,
+        words,
+        signals,
+        exprs,
+        stmts,
+        &mut wires,
+        &mut places,
+        &mut parts,
+        &mut values,
+        &mut banks,
     )
 }
 
-// HASHES
-
-fn take_in(h: u32, w: u32) -> u32 {
-    ((31 * (h as u64) + (w as u64)) % 4294967296) as u32
+// An accepted netlist's model.
+#[derive(Clone, Copy)]
+struct Model<'a> {
+    signals: &'a [u32],
+    exprs: &'a [u32],
+    stmts: &'a [u32],
+    tapes: Tapes,
 }
 
-fn take_words(list: &[u32], h: u32) -> u32 {
-    let n = list.len();
-    let mut k = h;
-    let mut i = 0;
-    while i < n {
-        k = take_in(k, list[i]);
-        i += 1;
+impl Model<'_> {
+    fn hash_words(self) -> u32 {
+        let h = hash_words(0, written(self.signals, self.tapes.signals));
+        let h = hash_words(h, written(self.exprs, self.tapes.exprs));
+        hash_words(h, written(self.stmts, self.tapes.stmts))
     }
-    k
+
+    // Its listing's bytes, a list at a time through the text's buffer.
+    fn hash_text(self, text: &mut Text<'_>) -> u32 {
+        let Tapes {
+            signals,
+            exprs,
+            stmts,
+        } = self.tapes;
+        let first = put_first_line(text, signals.count, exprs.count, stmts.count);
+        let h = take_text(text, first, 0);
+        let h = hash_list::<Signal>(text, written(self.signals, signals), h);
+        let h = hash_list::<Expression>(text, written(self.exprs, exprs), h);
+        hash_list::<Statement>(text, written(self.stmts, stmts), h)
+    }
 }
 
-fn byte_word(b: u8) -> u32 {
-    b as u32
-}
-
-// The bytes of a text that ends at a place.
-fn take_text(text: &[u8], end: Place, h: u32) -> u32 {
-    let Place::At(to) = end else {
-        return h;
+// A text that fitted is hashed, and the buffer is empty again.
+fn take_text(text: &mut Text<'_>, put: Result<(), Full>, h: u32) -> u32 {
+    let h = match put {
+        Ok(()) => hash_bytes(h, text.bytes()),
+        Err(Full) => h,
     };
-    if text.len() < to {
-        return h;
-    }
-    let mut k = h;
-    let mut i = 0;
-    while i < to {
-        k = take_in(k, byte_word(text[i]));
-        i += 1;
-    }
-    k
+    text.clear();
+    h
 }
 
-fn used(list: &[u32], tape: Tape) -> usize
-    ensures { IsPrefixLen result list.now }
-{
-    let n = tape.used;
-    if n <= list.len() { n } else { 0 }
-}
-
-fn hash_words(t: Tapes, signals: &[u32], exprs: &[u32], stmts: &[u32]) -> u32 {
-    let a = used(signals, t.signals);
-    let b = used(exprs, t.exprs);
-    let c = used(stmts, t.stmts);
-    let h = take_words(&signals[..a], 0);
-    let k = take_words(&exprs[..b], h);
-    take_words(&stmts[..c], k)
-}
-
-fn hash_first(text: &mut [u8], t: Tapes) -> u32 {
-    let s = t.signals;
-    let e = t.exprs;
-    let m = t.stmts;
-    let end = put_first_line(text, 0, s.count, e.count, m.count);
-    take_text(text, end, 0)
-}
-
-fn hash_signals(text: &mut [u8], list: &[u32], tape: Tape, h: u32) -> u32 {
-    let n = used(list, tape);
-    let end = put_signals(text, 0, &list[..n]);
-    take_text(text, end, h)
-}
-
-fn hash_expressions(text: &mut [u8], list: &[u32], tape: Tape, h: u32) -> u32 {
-    let n = used(list, tape);
-    let end = put_expressions(text, 0, &list[..n]);
-    take_text(text, end, h)
-}
-
-fn hash_statements(text: &mut [u8], list: &[u32], tape: Tape, h: u32) -> u32 {
-    let n = used(list, tape);
-    let end = put_statements(text, 0, &list[..n]);
-    take_text(text, end, h)
-}
-
-fn hash_text(text: &mut [u8], t: Tapes, signals: &[u32], exprs: &[u32], stmts: &[u32]) -> u32 {
-    let a = hash_first(text, t);
-    let b = hash_signals(text, signals, t.signals, a);
-    let c = hash_expressions(text, exprs, t.exprs, b);
-    hash_statements(text, stmts, t.stmts, c)
+fn hash_list<R: Record>(text: &mut Text<'_>, list: &[u32], h: u32) -> u32 {
+    let put = put_list::<R>(text, list);
+    take_text(text, put, h)
 }
 
 // LINES
 
-fn end_line<W: Write>(to: &mut W, text: &mut [u8], end: Place) -> bool {
-    let Place::At(a) = end else {
-        return false;
-    };
-    match put_byte(text, a, b'\n') {
-        Place::At(b) => flush(to, text, b),
-        Place::Full => false,
-    }
-}
-
-fn put_numbers(text: &mut [u8], numbers: [u32; 8]) -> Place {
-    let r = put_text(text, 0, b"model");
-    let Place::At(a) = r else {
-        return r;
-    };
-    put_fields(text, a, b"", b'-', &numbers)
-}
-
-fn print_model<W: Write>(to: &mut W, text: &mut [u8], t: Tapes, words: u32, listing: u32) -> bool {
-    let s = t.signals;
-    let e = t.exprs;
-    let m = t.stmts;
+fn print_model<W: Write>(to: &mut W, text: &mut Text<'_>, model: Model<'_>) -> io::Result<()> {
+    let words = model.hash_words();
+    let listing = model.hash_text(text);
+    let Tapes {
+        signals,
+        exprs,
+        stmts,
+    } = model.tapes;
+    text.put(b"model")?;
     let numbers = [
-        s.count,
-        e.count,
-        m.count,
-        low(s.used),
-        low(e.used),
-        low(m.used),
+        signals.count,
+        exprs.count,
+        stmts.count,
+        low(signals.used),
+        low(exprs.used),
+        low(stmts.used),
         words,
         listing,
     ];
-    let end = put_numbers(text, numbers);
-    end_line(to, text, end)
+    put_fields(text, b"", b'-', &numbers)?;
+    text.put_byte(b'\n')?;
+    text.flush(to)
 }
 
-fn print_refusal<W: Write>(to: &mut W, text: &mut [u8], x: Refusal) -> bool {
-    let end = put_refused(text, 0, x.number(), x.place());
-    end_line(to, text, end)
+fn low(x: usize) -> u32 {
+    (x & 0xffffffff) as u32
 }
 
-fn print_answer<W: Write>(
-    to: &mut W,
-    text: &mut [u8],
-    answer: Lowered,
-    signals: &[u32],
-    exprs: &[u32],
-    stmts: &[u32],
-) -> bool {
-    match answer {
-        Lowered::Accepted(t) => {
-            let h = hash_words(t, signals, exprs, stmts);
-            let k = hash_text(text, t, signals, exprs, stmts);
-            print_model(to, text, t, h, k)
-        }
-        Lowered::Refused(x) => print_refusal(to, text, x),
-    }
+fn print_refusal<W: Write>(to: &mut W, text: &mut Text<'_>, x: Refusal) -> io::Result<()> {
+    put_refused(text, x.number(), x.place())?;
+    text.put_byte(b'\n')?;
+    text.flush(to)
 }
 
 // REPLAY
 
-// A netlist with lists of these lengths; false where they are not to be had.
-fn replay<W: Write>(
-    to: &mut W,
-    words: &[u32],
-    signals: &mut [u32],
-    exprs: &mut [u32],
-    stmts: &mut [u32],
-    text: &mut [u8],
-    lengths: [usize; 3],
-) -> bool {
-    let a = lengths[0];
-    let b = lengths[1];
-    let c = lengths[2];
-    if signals.len() < a {
-        return false;
-    }
-    if exprs.len() < b {
-        return false;
-    }
-    if stmts.len() < c {
-        return false;
-    }
-    let answer = lower_words(words, &mut signals[..a], &mut exprs[..b], &mut stmts[..c]);
-    print_answer(to, text, answer, signals, exprs, stmts)
+// Where netlists come from and lines go, and buffers.
+#[derive(Drop)]
+struct Replay<'a, R, W> {
+    from: R,
+    to: W,
+    bytes: &'a mut [u8],
+    words: &'a mut [u32],
+    signals: &'a mut [u32],
+    exprs: &'a mut [u32],
+    stmts: &'a mut [u32],
+    text: Text<'a>,
 }
 
-// The next netlist; false where the input ends.
-fn replay_next<R: Read, W: Write>(
-    from: &mut R,
-    to: &mut W,
-    bytes: &mut [u8],
-    words: &mut [u32],
-    signals: &mut [u32],
-    exprs: &mut [u32],
-    stmts: &mut [u32],
-    text: &mut [u8],
-) -> bool {
-    let h = read_words(from, bytes, words, 4);
-    if h != 4 {
-        return false;
-    }
-    let n = wide(word(words, 0));
-    let lengths = [
-        wide(word(words, 1)),
-        wide(word(words, 2)),
-        wide(word(words, 3)),
-    ];
-    let m = read_words(from, bytes, words, n);
-    if m != n {
-        return false;
-    }
-    replay(to, &words[..m], signals, exprs, stmts, text, lengths)
-}
-
-// At most so many netlists, and how many there were.
-fn replay_all<R: Read, W: Write>(
-    from: &mut R,
-    to: &mut W,
-    bytes: &mut [u8],
-    words: &mut [u32],
-    signals: &mut [u32],
-    exprs: &mut [u32],
-    stmts: &mut [u32],
-    text: &mut [u8],
-    most: u32,
-) -> u32 {
-    let mut n = 0;
-    while n < most {
-        if replay_next(from, to, bytes, words, signals, exprs, stmts, text) {
-            n += 1;
-        } else {
-            return n;
+impl<R: Read, W: Write> Replay<'_, R, W> {
+    // The next netlist; false where the input ends, or where lists of its lengths are not to be had.
+    fn next(&mut self) -> io::Result<bool> {
+        let mut head = [0u32; 4];
+        if read_words(&mut self.from, self.bytes, &mut head, 4) != 4 {
+            return Ok(false);
         }
+        let n = head[0] as usize;
+        if read_words(&mut self.from, self.bytes, self.words, n) != n {
+            return Ok(false);
+        }
+        lower_one(
+            &mut self.to,
+            &mut self.text,
+            self.words,
+            self.signals,
+            self.exprs,
+            self.stmts,
+            head,
+        )
     }
-    n
+}
+
+// A netlist of so many words (lent by `&mut`, as the replay holds them), with lists of these lengths.
+fn lower_one<W: Write>(
+    to: &mut W,
+    text: &mut Text<'_>,
+    words: &mut [u32],
+    signals: &mut [u32],
+    exprs: &mut [u32],
+    stmts: &mut [u32],
+    head: [u32; 4],
+) -> io::Result<bool> {
+    let [n, a, b, c] = head;
+    let (Some(words), Some(signals), Some(exprs), Some(stmts)) = (
+        words.get(..n as usize),
+        signals.get_mut(..a as usize),
+        exprs.get_mut(..b as usize),
+        stmts.get_mut(..c as usize),
+    ) else {
+        return Ok(false);
+    };
+    match lower_words(words, signals, exprs, stmts) {
+        Lowered::Accepted(tapes) => {
+            let model = Model {
+                signals,
+                exprs,
+                stmts,
+                tapes,
+            };
+            print_model(to, text, model)?;
+        }
+        Lowered::Refused(x) => print_refusal(to, text, x)?,
+    }
+    Ok(true)
 }
 
 fn main(rt: HostRuntime) {
-    let mut from = rt.stdin();
-    let mut to = rt.stdout();
     let mut bytes = [0u8; 65536];
     let mut words = [0u32; 16384];
     let mut signals = [0u32; 65536];
     let mut exprs = [0u32; 65536];
     let mut stmts = [0u32; 65536];
     let mut text = [0u8; 524288];
-    replay_all(
-        &mut from,
-        &mut to,
-        &mut bytes,
-        &mut words,
-        &mut signals,
-        &mut exprs,
-        &mut stmts,
-        &mut text,
-        4294967295,
-    );
+    let mut replay = Replay {
+        from: rt.stdin(),
+        to: rt.stdout(),
+        bytes: &mut bytes,
+        words: &mut words,
+        signals: &mut signals,
+        exprs: &mut exprs,
+        stmts: &mut stmts,
+        text: Text::new(&mut text),
+    };
+    for _ in 0..u32::MAX {
+        // Output that cannot be written ends the replay, and is not reported.
+        let Ok(true) = replay.next() else {
+            break;
+        };
+    }
 }

@@ -4,103 +4,72 @@
 #![tactic(auto)]
 
 use netlist::Limits;
-use netlist::fields::{wide, word};
 use reader::Checked;
 use std::io::Read;
 use words::read_words;
 
-fn number_of(answer: Checked) -> usize {
-    match answer {
-        Checked::Netlist(_) => 0,
-        Checked::Refused(x) => x.number(),
+// Number and place of the check's refusal.
+fn checked(words: &[u32]) -> (usize, usize) {
+    match reader::check(Limits::base(), words) {
+        Checked::Netlist(_) => (0, 0),
+        Checked::Refused(x) => (x.number(), x.place()),
     }
 }
 
-fn place_of(answer: Checked) -> usize {
-    match answer {
-        Checked::Netlist(_) => 0,
-        Checked::Refused(x) => x.place(),
+// A reader of words, and buffers for them.
+#[derive(Drop)]
+struct Cases<'a, R> {
+    from: R,
+    bytes: &'a mut [u8],
+    words: &'a mut [u32],
+}
+
+impl<R: Read> Cases<'_, R> {
+    // As many words as asked, if they are there.
+    fn read<const N: usize>(&mut self) -> Option<[u32; N]> {
+        let mut words = [0u32; N];
+        let n = read_words(&mut self.from, self.bytes, &mut words, N);
+        (n == N).then_some(words)
     }
-}
 
-fn print_pair<P: Print>(to: &P, number: usize, place: usize) {
-    let _ = print!(to; "{number} {place}");
-}
-
-fn print_wrong<P: Print>(to: &P, case: usize, number: usize, place: usize, got: Checked) {
-    let _ = print!(to; "case {case} expected ");
-    print_pair(to, number, place);
-    let _ = print!(to; " got ");
-    print_pair(to, number_of(got), place_of(got));
-    let _ = println!(to);
-}
-
-fn judge<P: Print>(to: &P, case: usize, number: usize, place: usize, words: &[u32]) {
-    let answer = reader::check(Limits::base(), words);
-    if number_of(answer) != number {
-        print_wrong(to, case, number, place, answer);
-    } else if place_of(answer) != place {
-        print_wrong(to, case, number, place, answer);
-    }
-}
-
-// One case; false where the input ends within it.
-fn replay<P: Print, R: Read>(
-    to: &P,
-    from: &mut R,
-    bytes: &mut [u8],
-    words: &mut [u32],
-    case: usize,
-) -> bool {
-    let h = read_words(from, bytes, words, 3);
-    if h != 3 {
-        return false;
-    }
-    let number = wide(word(words, 0));
-    let place = wide(word(words, 1));
-    let n = wide(word(words, 2));
-    let m = read_words(from, bytes, words, n);
-    if m != n {
-        return false;
-    }
-    judge(to, case, number, place, &words[..m]);
-    true
-}
-
-// The cases, as many as were whole.
-fn replay_all<P: Print, R: Read>(
-    to: &P,
-    from: &mut R,
-    bytes: &mut [u8],
-    words: &mut [u32],
-    count: usize,
-) -> usize {
-    let mut case: usize = 0;
-    while case < count {
-        if replay(to, from, bytes, words, case) {
-            case += 1;
-        } else {
-            return case;
+    // One case; none where the input ends within it.
+    fn replay<P: Print>(&mut self, to: &P, case: usize) -> Option<()> {
+        let [number, place, n] = self.read::<3>()?;
+        let n = n as usize;
+        if read_words(&mut self.from, self.bytes, self.words, n) != n {
+            return None;
         }
+        let expected = (number as usize, place as usize);
+        let got = checked(self.words.get(..n)?);
+        if got != expected {
+            let _ = println!(to;
+                "case {case} expected {} {} got {} {}",
+                expected.0, expected.1, got.0, got.1
+            );
+        }
+        Some(())
     }
-    case
-}
 
-fn replay_set<P: Print, R: Read>(
-    to: &P,
-    from: &mut R,
-    bytes: &mut [u8],
-    words: &mut [u32],
-) -> usize {
-    read_words(from, bytes, words, 1);
-    let count = wide(word(words, 0));
-    replay_all(to, from, bytes, words, count)
+    // The cases, as many as are whole.
+    fn replay_all<P: Print>(&mut self, to: &P) -> Option<usize> {
+        let [count] = self.read::<1>()?;
+        for case in 0..count as usize {
+            if self.replay(to, case).is_none() {
+                return Some(case);
+            }
+        }
+        Some(count as usize)
+    }
 }
 
 fn main(rt: HostRuntime) {
     let mut bytes = [0u8; 65536];
     let mut words = [0u32; 16384];
-    let mut from = rt.stdin();
-    let n = replay_set(&rt, &mut from, &mut bytes, &mut words);
+    let mut cases = Cases {
+        from: rt.stdin(),
+        bytes: &mut bytes,
+        words: &mut words,
+    };
+    let n = cases.replay_all(&rt).unwrap_or(0);
     let _ = println!(rt; "{n} cases");
 }

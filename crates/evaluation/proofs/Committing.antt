@@ -25,8 +25,6 @@ use Rattle.recorder.specs.Read.{only, read_stmt, model_of}
 use Rattle.recorder.specs.Evaluate.{Signals}
 use Rattle.recorder.proofs.Roundtrip.{stmt_said}
 use Rattle.recorder.specs.declared.SignalId.{SignalId}
-use Rattle.simulation.specs.declared.Fired.{Fired}
-use Rattle.simulation.specs.declared.Fired.TheVariants.{Edge}
 use Rattle.simulation.specs.Run.{fired_of, firing}
 use Rattle.simulation.specs.Wellformed.{wide, broad, suits, reset_fits, enable_fits, stmt_fits, count_of, or_else}
 use Rattle.simulation.specs.Tick.{target, values_in, asserted, reset_loads, enabled, Firing, loads}
@@ -44,15 +42,6 @@ use Rattle.evaluation.specs.Loads.{stmt_in, Stated, Begins, Control, control_at,
 use Rattle.evaluation.proofs.Held.{holds_length, holds_bit}
 use Rattle.evaluation.proofs.Evaluating.{offset_before}
 use Rattle.evaluation.proofs.Whole.{read_length, read_at, all_at, record_inside, record_word, is_sound, signals_wide, exprs_wide}
-
--- AN EDGE
-
-module _ {x : Fired} {s : SignalId} {d : ℕ} (h : x ≡ Edge s d) (c e : ℕ) where
-  pub fires_other : (s.0 ≡ c → ⊥) → false ≡ firing (fired_of x) c e
-  fires_other n = sym (ap (λ (y : Fired). firing (fired_of y) c e) h ∙ ap (λ (b : Bool). b && eqb d e) (ne_eqb s.0 c n))
-
-  pub fires_own : s.0 ≡ c → eqb d e ≡ firing (fired_of x) c e
-  fires_own n = sym (ap (λ (y : Fired). firing (fired_of y) c e) h ∙ ap (λ (b : Bool). b && eqb d e) (eq-eqb s.0 c n))
 
 -- THE LEVEL OF A SIGNAL OF ONE BIT
 

@@ -16,11 +16,9 @@ use Rattle.bits.proofs.TableBits.{bit_none, bit_ones}
 use Rattle.recorder.specs.Record.{Model, expr_words}
 use Rattle.recorder.specs.Read.{model_of}
 use Rattle.recorder.specs.Evaluate.{Signals, value_of, eval_expr}
-use Rattle.simulation.specs.declared.Driver.{Driver}
-use Rattle.simulation.specs.declared.Driver.TheVariants.{None as Undriven, By}
 use Rattle.simulation.specs.Run.{flat}
 use Rattle.simulation.specs.Tick.{given, assigns, become}
-use Rattle.simulation.specs.Index.{records_in, widths_in, offset, start_of, clipped, stmts_in, driver_of, driver_by, Indexed, Starts}
+use Rattle.simulation.specs.Index.{records_in, widths_in, offset, start_of, clipped, stmts_in, driver_by, Indexed, Starts}
 use Rattle.simulation.proofs.Flat.{Wide, flat_part}
 use Rattle.simulation.proofs.Tables.{indexed_read, starts_read, driver_right}
 use Rattle.simulation.proofs.Steps.{length_widths}
@@ -54,26 +52,25 @@ entry_start {l} {table} {k} n i h s = let e = n.said s in e ∙ starts_read i k 
 -- WHERE A SIGNAL'S BIT STANDS
 
 module _ (stmts expr_table signal_table driver_table : List ℕ) (base s l : ℕ) where
-  module _ (by : Driver) (choice : driver_of by ≡ driver_by stmts driver_table s) where
-    pub spot_by : (d : ℕ) → by ≡ By d → (w n : ℕ) → w ≡ d → Entry expr_table w n → (r : ℕ) → r ≡ clipped (n + l) → Spotted stmts expr_table signal_table driver_table base s l r
-    spot_by d e w n hw t r hr = record {
-      spotted = λ ew sw i j v b k g z.
-          let o : given assigns (stmts_in stmts) s ≡ Some d = sym (driver_right _ _ _ choice v) ∙ ap driver_of e in
-          let q : w ≤ length ew = (let m = g d o in omega arith) in
-          let p : n ≡ offset ew w = entry_offset t i q (omega arith) in
-          let p' : n ≡ offset ew d = p ∙ ap (offset ew) hw in
-          let y : r ≡ offset ew d + l = omega arith in
-          y ∙ ap (spot_of ew sw s l) (sym o);
-    }
+  pub spot_by : (d : ℕ) → Some d ≡ driver_by stmts driver_table s → (w n : ℕ) → w ≡ d → Entry expr_table w n → (r : ℕ) → r ≡ clipped (n + l) → Spotted stmts expr_table signal_table driver_table base s l r
+  spot_by d e w n hw t r hr = record {
+    spotted = λ ew sw i j v b k g z.
+        let o : given assigns (stmts_in stmts) s ≡ Some d = sym (driver_right _ _ _ e v) in
+        let q : w ≤ length ew = (let m = g d o in omega arith) in
+        let p : n ≡ offset ew w = entry_offset t i q (omega arith) in
+        let p' : n ≡ offset ew d = p ∙ ap (offset ew) hw in
+        let y : r ≡ offset ew d + l = omega arith in
+        y ∙ ap (spot_of ew sw s l) (sym o);
+  }
 
-    pub spot_kept : by ≡ Undriven → (n : ℕ) → Entry signal_table s n → (m r : ℕ) → m ≡ clipped (base + n) → r ≡ clipped (m + l) → Spotted stmts expr_table signal_table driver_table base s l r
-    spot_kept e n t m r hm hr = record {
-      spotted = λ ew sw i j v b k g z.
-          let o : given assigns (stmts_in stmts) s ≡ None = sym (driver_right _ _ _ choice v) ∙ ap driver_of e in
-          let p : n ≡ offset sw s = entry_offset t j k (omega arith) in
-          let y : r ≡ offset ew (length ew) + offset sw s + l = omega arith in
-          y ∙ ap (spot_of ew sw s l) (sym o);
-    }
+  pub spot_kept : None ≡ driver_by stmts driver_table s → (n : ℕ) → Entry signal_table s n → (m r : ℕ) → m ≡ clipped (base + n) → r ≡ clipped (m + l) → Spotted stmts expr_table signal_table driver_table base s l r
+  spot_kept e n t m r hm hr = record {
+    spotted = λ ew sw i j v b k g z.
+        let o : given assigns (stmts_in stmts) s ≡ None = sym (driver_right _ _ _ e v) in
+        let p : n ≡ offset sw s = entry_offset t j k (omega arith) in
+        let y : r ≡ offset ew (length ew) + offset sw s + l = omega arith in
+        y ∙ ap (spot_of ew sw s l) (sym o);
+  }
 
 -- CONSTANTS
 

@@ -6,7 +6,6 @@ ghost use Rattle.fusing.specs.Join.{form_of, Alone, Matches};
 ghost use Rattle.fusing.specs.Finding.{Entry, Spotted, OneBit, OneSpot, Fuses, Compared, Equates, Known, Finds};
 
 use crate::join::{Lut, alone, joined, no_table};
-use simulation::Driver;
 use simulation::index::{driver, wide};
 
 // A word of a list, 0 behind it.
@@ -58,8 +57,8 @@ fn spot(
         return 4294967295;
     }
     match driver(stmts, driver_table, s) {
-        Driver::By(d) => plus(entry(expr_table, wide(d)), l),
-        Driver::None => plus(plus(base, entry(signal_table, s)), l),
+        Some(d) => plus(entry(expr_table, wide(d)), l),
+        None => plus(plus(base, entry(signal_table, s)), l),
     }
 }
 

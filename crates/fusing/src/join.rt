@@ -122,9 +122,7 @@ fn table(kind: u32, s: Spots, p: Lut, q: Lut, r: Lut) -> u32
     ensures { Tabled (row_bit kind s p q r) result 0 }
 {
     let mut t: u32 = 0;
-    let mut i: u32 = 16;
-    while i > 0 {
-        i -= 1;
+    for i in (0..16).rev() {
         t = above(row(kind, s, p, q, r, i), t);
     }
     t
@@ -133,70 +131,46 @@ fn table(kind: u32, s: Spots, p: Lut, q: Lut, r: Lut) -> u32
 fn has(s: Spots, p: u32) -> bool
     ensures { result ≡ among s p }
 {
-    if p == s.a {
-        return true;
-    }
-    if p == s.b {
-        return true;
-    }
-    if p == s.c {
-        return true;
-    }
-    p == s.d
+    p == s.a || p == s.b || p == s.c || p == s.d
 }
 
 // It shows the same in every row.
 fn flat(v: Lut) -> bool
     ensures { result ≡ flat_table v.table }
 {
-    if v.table == 0 {
-        return true;
-    }
-    v.table == 65535
+    v.table == 0 || v.table == 65535
 }
 
 // One position more, if there is room.
 fn add(s: Spots, p: u32) -> Spots {
-    if s.count == 0 {
-        return Spots {
+    if s.count > 0 && has(s, p) {
+        return s;
+    }
+    match s.count {
+        0 => Spots {
             count: 1,
             a: p,
             b: p,
             c: p,
             d: p,
-        };
-    }
-    if has(s, p) {
-        return s;
-    }
-    if s.count == 1 {
-        return Spots {
+        },
+        1 => Spots {
             count: 2,
-            a: s.a,
             b: p,
-            c: s.c,
-            d: s.d,
-        };
-    }
-    if s.count == 2 {
-        return Spots {
+            ..s
+        },
+        2 => Spots {
             count: 3,
-            a: s.a,
-            b: s.b,
             c: p,
-            d: s.d,
-        };
-    }
-    if s.count == 3 {
-        return Spots {
+            ..s
+        },
+        3 => Spots {
             count: 4,
-            a: s.a,
-            b: s.b,
-            c: s.c,
             d: p,
-        };
+            ..s
+        },
+        _ => s,
     }
-    s
 }
 
 // What a flat table stands on does not matter.

@@ -54,8 +54,7 @@ fn fill(
     ensures formed { (signals : List ℕ) → Known signals exprs.now stmts.now starts.now expr_table.now signal_table.now driver_table.now → n ≡ length (records_in exprs.now) → Formed signals exprs.now stmts.now forms.new n }
 {
     let base = clip(sum_to(exprs, n));
-    let mut e: usize = 0;
-    while e < n {
+    for e in 0..n {
         let own = entry(expr_table, e);
         let f = form_of(
             exprs,
@@ -69,7 +68,6 @@ fn fill(
             forms,
         );
         put(forms, e, own, f);
-        e += 1;
     }
 }
 

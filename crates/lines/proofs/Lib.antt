@@ -1,3 +1,2 @@
 -- The laws of lines.
-pub mod Lines
 pub mod Marked

@@ -19,10 +19,14 @@ fields_text marks last [] = []
 fields_text [] last (n ∷ f) = field last n ++ fields_text [] last f
 fields_text (m ∷ marks) last (n ∷ f) = field m n ++ fields_text marks last f
 
--- letter and number, the first field by its name, the others as rest writes them
+-- the first field by its name, the others as rest writes them
+abbrev pub fields_named : List (List ℕ) → (ℕ → List ℕ → List ℕ) → List ℕ → List ℕ
+fields_named names rest [] = []
+fields_named names rest (k ∷ f) = (space ∷ named names k) ++ rest k f
+
+-- letter and number, then the fields
 unfoldable pub record_text : ℕ → List (List ℕ) → (ℕ → List ℕ → List ℕ) → ℕ → List ℕ → List ℕ
-record_text letter names rest n [] = letter ∷ decimal n
-record_text letter names rest n (k ∷ f) = (letter ∷ decimal n) ++ ((space ∷ named names k) ++ rest k f)
+record_text letter names rest n f = (letter ∷ decimal n) ++ fields_named names rest f
 
 -- RECORDS
 

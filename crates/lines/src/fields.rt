@@ -1,55 +1,36 @@
 // Numbers, each behind a space and its mark.
-ghost use Rattle.std.specs.Prelude.{◌≡◌, ◌++◌, get_or};
+ghost use Rattle.std.specs.Prelude.{◌++◌};
 ghost use Rattle.text.specs.Text.{Appended};
 ghost use Rattle.text.specs.Decimal.{decimal};
 ghost use Rattle.lines.specs.Lines.{field, fields_text};
 
-use text::{Place, put_decimal, put_text};
+use text::{Full, Text};
 
 // A number behind a few bytes.
-pub fn put_number(out: &mut [u8], at: usize, lead: &[u8], n: u64) -> Place
-    ensures { Appended out.old at (lead.now ++ decimal n) result out.new }
+pub fn put_number(text: &mut Text<'_>, lead: &[u8], n: u64) -> Result<(), Full>
+    ensures { Appended text.old (lead.now ++ decimal n) result text.new }
 {
-    let r = put_text(out, at, lead);
-    let Place::At(a) = r else {
-        return r;
-    };
-    put_decimal(out, a, n)
+    text.put(lead)?;
+    text.put_decimal(n)
 }
 
-fn mark_at(marks: &[u8], last: u8, i: usize) -> u8
-    ensures { result ≡ get_or marks.now i last }
-{
-    if i < marks.len() { marks[i] } else { last }
-}
-
-fn put_field(out: &mut [u8], at: usize, mark: u8, n: u32) -> Place
-    ensures { Appended out.old at (field mark n) result out.new }
+fn put_field(text: &mut Text<'_>, mark: u8, n: u32) -> Result<(), Full>
+    ensures { Appended text.old (field mark n) result text.new }
 {
     if mark == b'-' {
-        return put_number(out, at, b" ", n as u64);
+        put_number(text, b" ", n as u64)
+    } else {
+        put_number(text, &[b' ', mark], n as u64)
     }
-    let lead = [b' ', mark];
-    put_number(out, at, &lead, n as u64)
 }
 
 // Fields with their marks; those past the marks have the last.
-pub fn put_fields(out: &mut [u8], at: usize, marks: &[u8], last: u8, fields: &[u32]) -> Place
-    ensures { Appended out.old at (fields_text marks.now last fields.now) result out.new }
+pub fn put_fields(text: &mut Text<'_>, marks: &[u8], last: u8, fields: &[u32]) -> Result<(), Full>
+    ensures { Appended text.old (fields_text marks.now last fields.now) result text.new }
 {
-    if out.len() < at {
-        return Place::Full;
+    for (i, n) in fields.iter().enumerate() {
+        let mark = marks.get(i).copied().unwrap_or(last);
+        put_field(text, mark, *n)?;
     }
-    let n = fields.len();
-    let mut a = at;
-    let mut i = 0;
-    while i < n {
-        let r = put_field(out, a, mark_at(marks, last, i), fields[i]);
-        let Place::At(b) = r else {
-            return r;
-        };
-        a = b;
-        i += 1;
-    }
-    Place::At(a)
+    Ok(())
 }

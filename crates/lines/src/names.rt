@@ -1,61 +1,51 @@
-// The names of labels and kinds, each behind a space. A number without a name stands for itself.
-ghost use Rattle.std.specs.Prelude.{◌∷◌};
+// The names of labels and kinds, each behind a space.
+ghost use Rattle.std.specs.Prelude.{◌∷◌, map};
 ghost use Rattle.text.specs.Text.{Appended};
 ghost use Rattle.lines.specs.Ascii.{space};
 ghost use Rattle.lines.specs.Names.{labels, kinds, statements, named};
 
 use crate::fields::put_number;
-use text::{Place, put_text};
+use text::{Full, Text};
 
-pub fn put_label(out: &mut [u8], at: usize, label: u32) -> Place
-    ensures { Appended out.old at (space ∷ named labels label) result out.new }
+const LABELS: [&[u8]; 16] = [
+    b"input", b"output", b"lut", b"pfumx", b"l6mux", b"ccu", b"mul", b"ff", b"ram", b"dram", b"io",
+    b"jtagg", b"pll", b"word", b"zero", b"one",
+];
+
+const KINDS: [&[u8]; 10] = [
+    b"const", b"read", b"concat", b"not", b"and", b"or", b"xor", b"mux", b"eq", b"mul",
+];
+
+const STATEMENTS: [&[u8]; 2] = [b"assign", b"reg"];
+
+// A number without a name stands for itself: any number may stand in a list of words.
+fn put_name(text: &mut Text<'_>, names: &[&[u8]], k: u32) -> Result<(), Full>
+    ensures { Appended text.old (space ∷ named (map (λ name. name.now) names.now) k) result text.new }
 {
-    match label {
-        0 => put_text(out, at, b" input"),
-        1 => put_text(out, at, b" output"),
-        2 => put_text(out, at, b" lut"),
-        3 => put_text(out, at, b" pfumx"),
-        4 => put_text(out, at, b" l6mux"),
-        5 => put_text(out, at, b" ccu"),
-        6 => put_text(out, at, b" mul"),
-        7 => put_text(out, at, b" ff"),
-        8 => put_text(out, at, b" ram"),
-        9 => put_text(out, at, b" dram"),
-        10 => put_text(out, at, b" io"),
-        11 => put_text(out, at, b" jtagg"),
-        12 => put_text(out, at, b" pll"),
-        13 => put_text(out, at, b" word"),
-        14 => put_text(out, at, b" zero"),
-        15 => put_text(out, at, b" one"),
-        _ => put_number(out, at, b" ", label as u64),
+    match names.get(k as usize) {
+        Some(name) => {
+            text.put_byte(b' ')?;
+            text.put(name)
+        }
+        None => put_number(text, b" ", k as u64),
     }
 }
 
-pub fn put_kind(out: &mut [u8], at: usize, kind: u32) -> Place
-    ensures { Appended out.old at (space ∷ named kinds kind) result out.new }
+pub fn put_label(text: &mut Text<'_>, label: u32) -> Result<(), Full>
+    ensures { Appended text.old (space ∷ named labels label) result text.new }
 {
-    match kind {
-        0 => put_text(out, at, b" const"),
-        1 => put_text(out, at, b" read"),
-        2 => put_text(out, at, b" concat"),
-        3 => put_text(out, at, b" not"),
-        4 => put_text(out, at, b" and"),
-        5 => put_text(out, at, b" or"),
-        6 => put_text(out, at, b" xor"),
-        7 => put_text(out, at, b" mux"),
-        8 => put_text(out, at, b" eq"),
-        9 => put_text(out, at, b" mul"),
-        _ => put_number(out, at, b" ", kind as u64),
-    }
+    put_name(text, &LABELS, label)
+}
+
+pub fn put_kind(text: &mut Text<'_>, kind: u32) -> Result<(), Full>
+    ensures { Appended text.old (space ∷ named kinds kind) result text.new }
+{
+    put_name(text, &KINDS, kind)
 }
 
 // A statement's kind.
-pub fn put_verb(out: &mut [u8], at: usize, kind: u32) -> Place
-    ensures { Appended out.old at (space ∷ named statements kind) result out.new }
+pub fn put_verb(text: &mut Text<'_>, kind: u32) -> Result<(), Full>
+    ensures { Appended text.old (space ∷ named statements kind) result text.new }
 {
-    match kind {
-        0 => put_text(out, at, b" assign"),
-        1 => put_text(out, at, b" reg"),
-        _ => put_number(out, at, b" ", kind as u64),
-    }
+    put_name(text, &STATEMENTS, kind)
 }

@@ -1,2 +1,2 @@
 -- The laws of listing.
-pub mod Reached
+pub mod Left

@@ -1,2 +1,3 @@
 -- The specs of listing.
 pub mod Listing
+pub mod Records

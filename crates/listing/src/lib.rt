@@ -2,138 +2,47 @@
 
 #![tactic(auto)]
 
-ghost use Rattle.std.specs.Prelude.{◌≡◌, [], ◌∷◌, ◌++◌};
-ghost use Rattle.recorder.specs.Standing.{size_at};
+pub mod records;
+
+ghost use Rattle.std.specs.Prelude.{◌≡◌, take, [], ◌∷◌, ◌++◌};
 ghost use Rattle.text.specs.Text.{Appended};
 ghost use Rattle.lines.specs.Ascii.{newline};
-ghost use Rattle.lines.specs.Lines.{signal_text, expr_text, stmt_text, counts_text};
+ghost use Rattle.lines.specs.Lines.{record_text, counts_text};
 ghost use Rattle.listing.specs.Listing.{line_text, lines_of};
 
-use lines::records::{put_counts, put_expression, put_signal, put_statement};
-use recorder::Cut;
-use recorder::read::cut;
-use text::{Place, put_byte};
+use crate::records::Records;
+use lines::records::{Record, put_counts, put_record};
+use recorder::Tape;
+use text::{Full, Text};
 
-// The length of the record at an index, 0 if no whole one stands there.
-fn size(list: &[u32], at: usize) -> usize
-    ensures { result ≡ size_at list.now at }
+// The words of a list that are written.
+pub fn written(list: &[u32], tape: Tape) -> &[u32]
+    ensures { result.now ≡ take tape.used list.now }
 {
-    match cut(list, at) {
-        Cut::Record(n) => n + 1,
-        Cut::End => 0,
-        Cut::Broken => 0,
-    }
-}
-
-fn put_signal_line(out: &mut [u8], at: usize, number: u64, fields: &[u32]) -> Place
-    ensures { Appended out.old at (line_text signal_text number fields.now) result out.new }
-{
-    let r = put_signal(out, at, number, fields);
-    let Place::At(a) = r else {
-        return r;
-    };
-    put_byte(out, a, b'\n')
-}
-
-fn put_expression_line(out: &mut [u8], at: usize, number: u64, fields: &[u32]) -> Place
-    ensures { Appended out.old at (line_text expr_text number fields.now) result out.new }
-{
-    let r = put_expression(out, at, number, fields);
-    let Place::At(a) = r else {
-        return r;
-    };
-    put_byte(out, a, b'\n')
-}
-
-fn put_statement_line(out: &mut [u8], at: usize, number: u64, fields: &[u32]) -> Place
-    ensures { Appended out.old at (line_text stmt_text number fields.now) result out.new }
-{
-    let r = put_statement(out, at, number, fields);
-    let Place::At(a) = r else {
-        return r;
-    };
-    put_byte(out, a, b'\n')
+    &list[..tape.used.min(list.len())]
 }
 
 // The counts of signals, expressions and statements, with the line's end.
-pub fn put_first_line(out: &mut [u8], at: usize, signals: u32, exprs: u32, stmts: u32) -> Place
-    ensures { Appended out.old at (counts_text signals exprs stmts ++ (newline ∷ [])) result out.new }
+pub fn put_first_line(text: &mut Text<'_>, signals: u32, exprs: u32, stmts: u32) -> Result<(), Full>
+    ensures { Appended text.old (counts_text signals exprs stmts ++ (newline ∷ [])) result text.new }
 {
-    let r = put_counts(out, at, signals, exprs, stmts);
-    let Place::At(a) = r else {
-        return r;
-    };
-    put_byte(out, a, b'\n')
+    put_counts(text, signals, exprs, stmts)?;
+    text.put_byte(b'\n')
 }
 
-pub fn put_signals(out: &mut [u8], at: usize, list: &[u32]) -> Place
-    ensures { Appended out.old at (lines_of signal_text list.now) result out.new }
+fn put_line<R: Record>(text: &mut Text<'_>, number: u64, fields: &[u32]) -> Result<(), Full>
+    ensures { Appended text.old (line_text (record_text R.letter R.names R.rest) number fields.now) result text.new }
 {
-    if out.len() < at {
-        return Place::Full;
-    }
-    let mut a = at;
-    let mut from = 0;
-    let mut number = 0;
-    loop {
-        let n = size(list, from);
-        if n == 0 {
-            return Place::At(a);
-        }
-        let r = put_signal_line(out, a, number, &list[from + 1..from + n]);
-        let Place::At(b) = r else {
-            return r;
-        };
-        a = b;
-        from += n;
-        number += 1;
-    }
+    put_record::<R>(text, number, fields)?;
+    text.put_byte(b'\n')
 }
 
-pub fn put_expressions(out: &mut [u8], at: usize, list: &[u32]) -> Place
-    ensures { Appended out.old at (lines_of expr_text list.now) result out.new }
+// The lines of a list's records.
+pub fn put_list<R: Record>(text: &mut Text<'_>, list: &[u32]) -> Result<(), Full>
+    ensures { Appended text.old (lines_of (record_text R.letter R.names R.rest) list.now) result text.new }
 {
-    if out.len() < at {
-        return Place::Full;
+    for (number, fields) in Records::new(list).enumerate() {
+        put_line::<R>(text, number as u64, fields)?;
     }
-    let mut a = at;
-    let mut from = 0;
-    let mut number = 0;
-    loop {
-        let n = size(list, from);
-        if n == 0 {
-            return Place::At(a);
-        }
-        let r = put_expression_line(out, a, number, &list[from + 1..from + n]);
-        let Place::At(b) = r else {
-            return r;
-        };
-        a = b;
-        from += n;
-        number += 1;
-    }
-}
-
-pub fn put_statements(out: &mut [u8], at: usize, list: &[u32]) -> Place
-    ensures { Appended out.old at (lines_of stmt_text list.now) result out.new }
-{
-    if out.len() < at {
-        return Place::Full;
-    }
-    let mut a = at;
-    let mut from = 0;
-    let mut number = 0;
-    loop {
-        let n = size(list, from);
-        if n == 0 {
-            return Place::At(a);
-        }
-        let r = put_statement_line(out, a, number, &list[from + 1..from + n]);
-        let Place::At(b) = r else {
-            return r;
-        };
-        a = b;
-        from += n;
-        number += 1;
-    }
+    Ok(())
 }

@@ -2,35 +2,26 @@
 ghost use Rattle.std.specs.Prelude.{◌≡◌, ◌&&◌, [], ◌≤◌, min, leb, ltb, length, take};
 ghost use Rattle.std.specs.Prelude.{None, Some};
 ghost use Rattle.bits.specs.Bits.{pick};
-ghost use Rattle.recorder.specs.Lists.{lists};
+ghost use Rattle.simulation.specs.Model.{lists_of};
 ghost use Rattle.recorder.specs.Read.{only};
 ghost use Rattle.simulation.specs.Wellformed.{or_else};
-ghost use Rattle.simulation.specs.Index.{fields_at};
 ghost use Rattle.simulation.specs.Run.{answer_of, fired_of, no_bit, wrong_count, wrong_fired, first_of, zeroed};
 ghost use Rattle.simulation.specs.Fault.{width_total, input_field, input_total, length_causes, tick_causes, bit_causes, call_causes, call_of, checked_by};
 
 use crate::check::malformed;
+use recorder::read::word;
 use refusal::Refusal;
-use simulation::index::{count, field, plus, size, sum_to, wide};
-use simulation::{Fault, Fired, Ran};
+use simulation::index::{count, sum_to, wide};
+use simulation::records::Records;
+use simulation::{Edge, Model};
 
-// The first of two answers.
-pub fn either(a: Ran, b: Ran) -> Ran
-    ensures { answer_of result ≡ or_else (answer_of a) (answer_of b) }
-{
-    match a {
-        Ran::Refused(x) => Ran::Refused(x),
-        Ran::Done => b,
-    }
-}
-
-fn too_short(n: usize, buffer: &[u8]) -> Ran
+fn too_short(n: usize, buffer: &[u8]) -> Result<(), Refusal>
     ensures { answer_of result ≡ only (ltb (length buffer.now) n) (Some (1, n)) }
 {
     if buffer.len() < n {
-        return Ran::Refused(Refusal::BufferTooShort(n));
+        return Err(Refusal::BufferTooShort(n));
     }
-    Ran::Done
+    Ok(())
 }
 
 // The widths of all records, as far as their sum can be named.
@@ -42,185 +33,148 @@ fn width_total(list: &[u32]) -> usize
 
 // Refusal 1: the first buffer that is too short.
 pub fn call_lengths(
-    signals: &[u32],
-    exprs: &[u32],
+    m: Model,
     bytes: &[u8],
     work_bits: &[u8],
     work_exprs: &[u8],
     work_signals: &[u8],
-) -> Ran
-    ensures { answer_of result ≡ first_of (length_causes signals.now exprs.now bytes.now work_bits.now work_exprs.now work_signals.now) }
+) -> Result<(), Refusal>
+    ensures { answer_of result ≡ first_of (length_causes m.entry.signals.now m.entry.exprs.now bytes.now work_bits.now work_exprs.now work_signals.now) }
 {
-    let a = too_short(width_total(signals), bytes);
-    let b = too_short(width_total(exprs), work_bits);
-    let e = count(exprs);
-    let c = too_short(e.count, work_exprs);
-    let s = count(signals);
-    let d = too_short(s.count, work_signals);
-    either(a, either(b, either(c, d)))
+    too_short(width_total(m.signals), bytes)?;
+    too_short(width_total(m.exprs), work_bits)?;
+    too_short(count(m.exprs), work_exprs)?;
+    too_short(count(m.signals), work_signals)
 }
 
-// The first of n bytes that is no bit.
-fn no_bit(bytes: &[u8], n: usize) -> Ran
-    requires { n ≤ length bytes.now }
-    ensures { answer_of result ≡ no_bit 0 (take n bytes.now) }
+// The first byte that is no bit.
+fn no_bit(bytes: &[u8]) -> Result<(), Refusal>
+    ensures { answer_of result ≡ no_bit 0 bytes.now }
 {
-    let mut i: usize = 0;
-    while i < n {
-        if bytes[i] > 1 {
-            return Ran::Refused(Refusal::BadTick(i));
+    for (i, b) in bytes.iter().enumerate() {
+        if *b > 1 {
+            return Err(Refusal::BadTick(i));
         }
-        i += 1;
     }
-    Ran::Done
+    Ok(())
 }
 
 // 14 for a signal byte: the first of them, as far as there are any, that is no bit.
-pub fn byte_fault(signals: &[u32], bytes: &[u8]) -> Ran
+pub fn byte_fault(signals: &[u32], bytes: &[u8]) -> Result<(), Refusal>
     ensures { answer_of result ≡ no_bit 0 (take (width_total signals.now) bytes.now) }
 {
-    let n = width_total(signals);
-    if bytes.len() < n {
-        return no_bit(bytes, bytes.len());
-    }
-    no_bit(bytes, n)
+    let n = width_total(signals).min(bytes.len());
+    no_bit(&bytes[..n])
 }
 
-fn input_width(list: &[u32], at: usize, size: usize) -> usize
-    ensures { result ≡ input_field (fields_at list.now at size) }
+fn input_width(fields: &[u32]) -> usize
+    ensures { result ≡ input_field fields.now }
 {
-    if field(list, at, size, 0) == 0 {
-        return wide(field(list, at, size, 1));
+    if word(fields, 0) == 0 {
+        wide(word(fields, 1))
+    } else {
+        0
     }
-    0
 }
 
 // The widths of all inputs, as far as their sum can be named.
 pub fn input_total(signals: &[u32]) -> usize
     ensures { result ≡ min (input_total signals.now) 18446744073709551615 }
 {
-    let mut at: usize = 0;
     let mut sum: usize = 0;
-    while at < signals.len() {
-        let size = size(signals, at);
-        if size == 0 {
-            return sum;
-        }
-        sum = plus(sum, input_width(signals, at, size));
-        at += size;
+    for fields in Records::new(signals) {
+        sum = sum.saturating_add(input_width(fields));
     }
     sum
 }
 
-fn wrong_count(n: usize, ticks: &[u8]) -> Ran
+fn wrong_count(n: usize, ticks: &[u8]) -> Result<(), Refusal>
     ensures { answer_of result ≡ wrong_count n ticks.now }
 {
     if ticks.len() == n {
-        return Ran::Done;
+        return Ok(());
     }
-    Ran::Refused(Refusal::BadTick(n))
+    Err(Refusal::BadTick(n))
 }
 
-fn wrong_edge(signals: usize, s: usize, edge: u32) -> Ran
+fn wrong_edge(signals: usize, s: usize, edge: u32) -> Result<(), Refusal>
     ensures { answer_of result ≡ pick (ltb s signals && leb edge 1) None (Some (14, 0)) }
 {
     if s >= signals {
-        return Ran::Refused(Refusal::BadTick(0));
+        return Err(Refusal::BadTick(0));
     }
     if edge > 1 {
-        return Ran::Refused(Refusal::BadTick(0));
+        return Err(Refusal::BadTick(0));
     }
-    Ran::Done
+    Ok(())
 }
 
-fn wrong_fired(signals: usize, fired: Fired) -> Ran
+fn wrong_fired(signals: usize, fired: Option<Edge>) -> Result<(), Refusal>
     ensures { answer_of result ≡ wrong_fired signals (fired_of fired) }
 {
     match fired {
-        Fired::Nothing => Ran::Done,
-        Fired::Edge(s, edge) => wrong_edge(signals, wide(s.0), edge),
+        None => Ok(()),
+        Some(e) => wrong_edge(signals, wide(e.signal.0), e.edge),
     }
 }
 
 // 14 for one tick on a model of so many signals and input bits: a wrong count of tick bits, the first that is no bit, an edge that is none.
-pub fn tick_fault(count: usize, bits: usize, ticks: &[u8], fired: Fired) -> Ran
+pub fn tick_fault(
+    count: usize,
+    bits: usize,
+    ticks: &[u8],
+    fired: Option<Edge>,
+) -> Result<(), Refusal>
     ensures { answer_of result ≡ first_of (tick_causes count bits ticks.now (fired_of fired)) }
 {
-    let a = wrong_count(bits, ticks);
-    let b = no_bit(ticks, ticks.len());
-    let c = wrong_fired(count, fired);
-    either(a, either(b, c))
+    wrong_count(bits, ticks)?;
+    no_bit(ticks)?;
+    wrong_fired(count, fired)
 }
 
 // Refusal 14, for bytes that are enough.
-fn bits(signals: &[u32], bytes: &[u8], ticks: &[u8], fired: Fired) -> Ran
+fn bits(signals: &[u32], bytes: &[u8], ticks: &[u8], fired: Option<Edge>) -> Result<(), Refusal>
     requires { width_total signals.now ≤ length bytes.now }
     ensures { answer_of result ≡ first_of (bit_causes signals.now bytes.now ticks.now (fired_of fired)) }
 {
-    let s = count(signals);
-    let a = byte_fault(signals, bytes);
-    let b = tick_fault(s.count, input_total(signals), ticks, fired);
-    either(a, b)
+    byte_fault(signals, bytes)?;
+    tick_fault(count(signals), input_total(signals), ticks, fired)
 }
 
 // Refusals 1 and 14, for a model without a fault.
 fn call_fault(
-    signals: &[u32],
-    exprs: &[u32],
+    m: Model,
     bytes: &[u8],
     ticks: &[u8],
-    fired: Fired,
+    fired: Option<Edge>,
     work_bits: &[u8],
     work_exprs: &[u8],
     work_signals: &[u8],
-) -> Ran
-    ensures { answer_of result ≡ call_causes (call_of (lists signals.now exprs.now []) bytes.now ticks.now (fired_of fired) work_bits.now work_exprs.now work_signals.now) }
+) -> Result<(), Refusal>
+    ensures { answer_of result ≡ call_causes (call_of (lists_of m.entry) bytes.now ticks.now (fired_of fired) work_bits.now work_exprs.now work_signals.now) }
 {
-    let a = call_lengths(signals, exprs, bytes, work_bits, work_exprs, work_signals);
-    let Ran::Done = a else {
-        return a;
-    };
-    bits(signals, bytes, ticks, fired)
+    call_lengths(m, bytes, work_bits, work_exprs, work_signals)?;
+    bits(m.signals, bytes, ticks, fired)
 }
 
 // Refusals 12, 1 and 14. The tables are work, for widths.
 pub fn check_call(
-    signals: &[u32],
+    m: Model,
     signal_table: &mut [u32],
-    exprs: &[u32],
     expr_table: &mut [u32],
-    stmts: &[u32],
     bytes: &[u8],
     ticks: &[u8],
-    fired: Fired,
+    fired: Option<Edge>,
     work_bits: &[u8],
     work_exprs: &[u8],
     work_signals: &mut [u8],
     widest: u32,
-) -> Ran
-    ensures answer { answer_of result ≡ checked_by widest (call_of (lists signals.now exprs.now stmts.now) bytes.now ticks.now (fired_of fired) work_bits.now work_exprs.now work_signals.old) }
+) -> Result<(), Refusal>
+    ensures answer { answer_of result ≡ checked_by widest (call_of (lists_of m.entry) bytes.now ticks.now (fired_of fired) work_bits.now work_exprs.now work_signals.old) }
     ensures zeros { (signal_table.new ≡ zeroed signal_table.old) × (expr_table.new ≡ zeroed expr_table.old) × (work_signals.new ≡ zeroed work_signals.old) }
 {
-    let f = malformed(
-        signals,
-        signal_table,
-        exprs,
-        expr_table,
-        stmts,
-        work_signals,
-        widest,
-    );
-    match f {
-        Fault::At(n) => Ran::Refused(Refusal::MalformedModel(n)),
-        Fault::Fine => call_fault(
-            signals,
-            exprs,
-            bytes,
-            ticks,
-            fired,
-            work_bits,
-            work_exprs,
-            work_signals,
-        ),
+    match malformed(m, signal_table, expr_table, work_signals, widest) {
+        Some(n) => Err(Refusal::MalformedModel(n)),
+        None => call_fault(m, bytes, ticks, fired, work_bits, work_exprs, work_signals),
     }
 }

@@ -1,60 +1,36 @@
 // The check of a model: refusal 12.
-ghost use Rattle.std.specs.Prelude.{◌≡◌, Bool, true, false, ◌&&◌, ℕ, ◌+◌, ◌≤◌, ◌<◌, ◌^◌, min, leb, ltb, eqb, length, get_or, set, drop};
+ghost use Rattle.std.specs.Prelude.{◌≡◌, ◌&&◌, ◌+◌, ◌≤◌, ◌<◌, ◌^◌, min, ltb, eqb, length, get_or, set};
 ghost use Rattle.std.specs.Prelude.{None, Some};
 ghost use Rattle.bits.specs.Bits.{pick};
-ghost use Rattle.recorder.specs.Lists.{lists};
-ghost use Rattle.recorder.specs.Read.{split, read_signal, read_expr, read_stmt};
-ghost use Rattle.simulation.specs.Wellformed.{drives, count_of, fits, signal_fits, unsplit_all, in_range, earlier, width_sum, wide as wider, broad, suits, or_else, behind, malformed as malformed_by};
-ghost use Rattle.simulation.specs.Index.{fields_at, records_in, widths_in, Listed};
+ghost use Rattle.recorder.specs.Read.{read_signal};
+ghost use Rattle.simulation.specs.Wellformed.{drives, count_of, fits, signal_fits, in_range, earlier, width_sum, wide as wider, broad, suits, malformed as malformed_by};
+ghost use Rattle.simulation.specs.Index.{records_in, widths_in, Listed};
+ghost use Rattle.simulation.specs.Model.{lists_of};
 ghost use Rattle.simulation.specs.Run.{zeroed};
-ghost use Rattle.simulation.specs.Fault.{fault_of, stands, Tallied, signal_fault_of, all_wide, const_test, read_test, concat_test, fixed_test, mux_test, eq_test, expr_test, expr_fault_of, Widths, head_test, reset_test, enable_test, reg_test, stmt_test, stmt_fault_of};
+ghost use Rattle.simulation.specs.Fault.{stands, Tallied, signal_fault_of, all_wide, const_test, read_test, concat_test, fixed_test, mux_test, eq_test, expr_test, expr_fault_of, head_test, reset_test, enable_test, reg_test, assign_test, stmt_test, stmt_fault_of};
 
-use crate::widths::{fill, width};
-use simulation::Fault;
-use simulation::index::{Counted, count, field, size, wide};
-use simulation::zero::{zero_bytes, zero_words};
+use crate::widths::{Widths, fill};
+use recorder::read::word;
+use simulation::Model;
+use simulation::index::wide;
+use simulation::records::{Records, count_whole};
 
-// The first record that does not stand whole, with the signals and the expressions counted.
-fn unsplit(signals: &[u32], s: Counted, exprs: &[u32], e: Counted, stmts: &[u32]) -> Fault
-    requires { (s.count ≡ length (records_in signals.now)) × (s.whole ≡ (split signals.now).whole) × (e.count ≡ length (records_in exprs.now)) × (e.whole ≡ (split exprs.now).whole) }
-    ensures { fault_of result ≡ unsplit_all (lists signals.now exprs.now stmts.now) }
+// The signal that a statement stands on, whatever else is wrong with it.
+fn target(fields: &[u32]) -> Option<usize>
+    ensures { result ≡ pick (stands fields.now) (Some (get_or fields.now 1 0)) None }
 {
-    if !s.whole {
-        return Fault::At(s.count);
+    match fields {
+        [0 | 1, t, ..] => Some(wide(*t)),
+        _ => None,
     }
-    if !e.whole {
-        return Fault::At(s.count + e.count);
-    }
-    let t = count(stmts);
-    if !t.whole {
-        return Fault::At(s.count + (e.count + t.count));
-    }
-    Fault::Fine
 }
 
-// The signal that the statement at an index stands on; `none` for a record that is no statement.
-fn target(list: &[u32], at: usize, size: usize, none: usize) -> usize
-    requires { at + size ≤ length list.now }
-    ensures { result ≡ pick (stands (fields_at list.now at size)) (get_or (fields_at list.now at size) 1 0) none }
-{
-    if size < 3 {
-        return none;
-    }
-    if field(list, at, size, 0) > 1 {
-        return none;
-    }
-    wide(field(list, at, size, 1))
-}
-
+// One more, if there is such a signal; 2 stands for more.
 fn bump(table: &mut [u8], i: usize)
     ensures { table.new ≡ set table.old i (min (get_or table.old i 0 + 1) 2) }
 {
     if i < table.len() {
-        if table[i] < 2 {
-            table[i] = table[i] + 1;
-        } else {
-            table[i] = 2;
-        }
+        table[i] = table[i].saturating_add(1).min(2);
     }
 }
 
@@ -62,50 +38,24 @@ fn bump(table: &mut [u8], i: usize)
 fn tally(stmts: &[u32], table: &mut [u8])
     ensures { Tallied (records_in stmts.now) table.new }
 {
-    zero_bytes(table);
-    let mut at: usize = 0;
-    while at < stmts.len() {
-        let size = size(stmts, at);
-        if size == 0 {
-            return;
+    table.fill(0);
+    for fields in Records::new(stmts) {
+        if let Some(t) = target(fields) {
+            bump(table, t);
         }
-        let t = target(stmts, at, size, table.len());
-        bump(table, t);
-        at += size;
-    }
-}
-
-// A number that is not n.
-fn other(n: usize) -> usize
-    ensures { result ≡ n → ⊥ }
-{
-    if n == 0 { 1 } else { 0 }
-}
-
-// One more, if t is n; 2 stands for more.
-fn count_if(k: u8, t: usize, n: usize) -> u8
-    ensures { result ≡ pick (eqb t n) (min (k + 1) 2) k }
-{
-    if t == n {
-        if k < 2 { k + 1 } else { 2 }
-    } else {
-        k
     }
 }
 
 fn count_drivers(stmts: &[u32], n: usize) -> u8
     ensures { result ≡ min (count_of (drives n) (records_in stmts.now)) 2 }
 {
-    let none = other(n);
     let mut k: u8 = 0;
-    let mut at: usize = 0;
-    while at < stmts.len() {
-        let size = size(stmts, at);
-        if size == 0 {
-            return k;
+    for fields in Records::new(stmts) {
+        if let Some(t) = target(fields) {
+            if t == n {
+                k = k.saturating_add(1).min(2);
+            }
         }
-        k = count_if(k, target(stmts, at, size, none), n);
-        at += size;
     }
     k
 }
@@ -122,51 +72,34 @@ fn drivers(stmts: &[u32], table: &[u8], n: usize) -> u8
     }
 }
 
-// The signal at an index, on which k statements stand.
-fn signal_fits(list: &[u32], at: usize, size: usize, k: u8, widest: u32) -> bool
-    requires { at + size ≤ length list.now }
-    ensures { result ≡ fits (signal_fits widest k) (read_signal (fields_at list.now at size)) }
+fn in_range(w: u32, widest: u32) -> bool
+    ensures { result ≡ in_range widest w }
 {
-    if size != 4 {
-        return false;
+    1 <= w && w <= widest
+}
+
+// A signal on which k statements stand: an input has none, any other one.
+fn signal_fits(fields: &[u32], k: u8, widest: u32) -> bool
+    ensures { result ≡ fits (signal_fits widest k) (read_signal fields.now) }
+{
+    match fields {
+        [0, w, _] => in_range(*w, widest) && k == 0,
+        [label, w, _] => *label <= 15 && in_range(*w, widest) && k == 1,
+        _ => false,
     }
-    let label = field(list, at, size, 0);
-    let w = field(list, at, size, 1);
-    if label > 15 {
-        return false;
-    }
-    if w < 1 {
-        return false;
-    }
-    if w > widest {
-        return false;
-    }
-    if label == 0 {
-        return k == 0;
-    }
-    k == 1
 }
 
 // The first faulty signal.
-fn signal_fault(signals: &[u32], stmts: &[u32], table: &[u8], widest: u32) -> Fault
-    requires { Tallied (records_in stmts.now) table.now }
-    ensures { fault_of result ≡ signal_fault_of widest (records_in signals.now) (records_in stmts.now) }
+fn signal_fault(m: Model, table: &[u8], widest: u32) -> Option<usize>
+    requires { Tallied (records_in m.stmts.now) table.now }
+    ensures { result ≡ signal_fault_of widest (records_in m.entry.signals.now) (records_in m.entry.stmts.now) }
 {
-    let mut at: usize = 0;
-    let mut n: usize = 0;
-    while at < signals.len() {
-        let size = size(signals, at);
-        if size == 0 {
-            return Fault::Fine;
+    for (n, fields) in Records::new(m.signals).enumerate() {
+        if !signal_fits(fields, drivers(m.stmts, table, n), widest) {
+            return Some(n);
         }
-        let k = drivers(stmts, table, n);
-        if !signal_fits(signals, at, size, k, widest) {
-            return Fault::At(n);
-        }
-        at += size;
-        n += 1;
     }
-    Fault::Fine
+    None
 }
 
 // A value fits so many bits.
@@ -179,606 +112,315 @@ fn value_fits(v: u32, w: u32) -> bool
     v >> w == 0
 }
 
-fn in_range(w: u32, widest: u32) -> bool
-    ensures { result ≡ in_range widest w }
-{
-    if w < 1 {
-        return false;
-    }
-    w <= widest
-}
-
 // An operand: it comes before expression n and is w wide.
-fn operand(exprs: &[u32], table: &[u32], n: usize, a: u32, w: u32) -> bool
-    requires { Listed (widths_in exprs.now) table.now × (n ≤ length (records_in exprs.now)) }
-    ensures { result ≡ wider (widths_in exprs.now) n a w }
+fn operand(exprs: Widths, n: usize, a: u32, w: u32) -> bool
+    requires { n ≤ exprs.count }
+    ensures { result ≡ wider (widths_in exprs.entry.list.now) n a w }
 {
-    let i = wide(a);
-    if i < n {
-        return width(exprs, table, i) == w;
-    }
-    false
+    let a = wide(a);
+    a < n && exprs.get(a) == Some(w)
 }
 
-// All operands from the second field on.
-fn each_operand(exprs: &[u32], table: &[u32], at: usize, size: usize, n: usize, w: u32) -> bool
-    requires { Listed (widths_in exprs.now) table.now × (n ≤ length (records_in exprs.now)) × (at + size ≤ length exprs.now) }
-    ensures { result ≡ all_wide (widths_in exprs.now) n w (drop 2 (fields_at exprs.now at size)) }
+fn each_operand(operands: &[u32], exprs: Widths, n: usize, w: u32) -> bool
+    requires { n ≤ exprs.count }
+    ensures { result ≡ all_wide (widths_in exprs.entry.list.now) n w operands.now }
 {
-    if size == 0 {
-        return true;
-    }
-    let end = size - 1;
-    let mut j: usize = 2;
-    while j < end {
-        if !operand(exprs, table, n, field(exprs, at, size, j), w) {
+    for a in operands {
+        if !operand(exprs, n, *a, w) {
             return false;
         }
-        j += 1;
     }
     true
 }
 
 // All parts come before expression n, and their widths have the sum w.
-fn parts_fit(exprs: &[u32], table: &[u32], at: usize, size: usize, n: usize, w: u32) -> bool
-    requires { Listed (widths_in exprs.now) table.now × (n ≤ length (records_in exprs.now)) × (at + size ≤ length exprs.now) }
-    ensures { result ≡ (earlier n (drop 2 (fields_at exprs.now at size)) && eqb (width_sum (widths_in exprs.now) (drop 2 (fields_at exprs.now at size))) w) }
+fn parts_fit(parts: &[u32], exprs: Widths, n: usize, w: u32) -> bool
+    requires { n ≤ exprs.count }
+    ensures { result ≡ (earlier n parts.now && eqb (width_sum (widths_in exprs.entry.list.now) parts.now) w) }
 {
-    let total = wide(w);
-    if size == 0 {
-        return total == 0;
-    }
-    let end = size - 1;
-    let mut sum: usize = 0;
-    let mut j: usize = 2;
-    while j < end {
-        let p = wide(field(exprs, at, size, j));
+    let mut left = w;
+    for p in parts {
+        let p = wide(*p);
         if p >= n {
             return false;
         }
-        sum += wide(width(exprs, table, p));
-        if sum > total {
+        let Some(width) = exprs.get(p) else {
+            return false;
+        };
+        if width > left {
             return false;
         }
-        j += 1;
+        left -= width;
     }
-    sum == total
+    left == 0
 }
 
-fn const_fits(exprs: &[u32], at: usize, size: usize, widest: u32) -> bool
-    requires { at + size ≤ length exprs.now }
-    ensures { result ≡ const_test widest (fields_at exprs.now at size) }
+fn const_fits(fields: &[u32], widest: u32) -> bool
+    ensures { result ≡ const_test widest fields.now }
 {
-    if size != 4 {
-        return false;
+    match fields {
+        [_, w, v] => in_range(*w, widest) && value_fits(*v, *w),
+        _ => false,
     }
-    let w = field(exprs, at, size, 1);
-    if !in_range(w, widest) {
-        return false;
-    }
-    value_fits(field(exprs, at, size, 2), w)
 }
 
-fn read_fits(
-    exprs: &[u32],
-    at: usize,
-    size: usize,
-    signals: &[u32],
-    table: &[u32],
-    count: usize,
-    widest: u32,
-) -> bool
-    requires { (at + size ≤ length exprs.now) × Listed (widths_in signals.now) table.now × (count ≡ length (records_in signals.now)) }
-    ensures { result ≡ read_test widest (widths_in signals.now) (fields_at exprs.now at size) }
+fn read_fits(fields: &[u32], signals: Widths, widest: u32) -> bool
+    ensures { result ≡ read_test widest (widths_in signals.entry.list.now) fields.now }
 {
-    if size != 5 {
+    let [_, w, s, low] = fields else {
+        return false;
+    };
+    if !in_range(*w, widest) {
         return false;
     }
-    let w = field(exprs, at, size, 1);
-    if !in_range(w, widest) {
-        return false;
+    match signals.get(wide(*s)) {
+        Some(width) => wide(*low) + wide(*w) <= wide(width),
+        None => false,
     }
-    let s = wide(field(exprs, at, size, 2));
-    if s >= count {
-        return false;
-    }
-    let low = wide(field(exprs, at, size, 3));
-    low + wide(w) <= wide(width(signals, table, s))
 }
 
-fn concat_fits(exprs: &[u32], table: &[u32], at: usize, size: usize, n: usize, widest: u32) -> bool
-    requires { Listed (widths_in exprs.now) table.now × (n ≤ length (records_in exprs.now)) × (at + size ≤ length exprs.now) }
-    ensures { result ≡ concat_test widest (widths_in exprs.now) n (fields_at exprs.now at size) }
+fn concat_fits(fields: &[u32], exprs: Widths, n: usize, widest: u32) -> bool
+    requires { n ≤ exprs.count }
+    ensures { result ≡ concat_test widest (widths_in exprs.entry.list.now) n fields.now }
 {
-    if size < 3 {
-        return false;
+    match fields {
+        [_, w, parts @ ..] => in_range(*w, widest) && parts_fit(parts, exprs, n, *w),
+        _ => false,
     }
-    let w = field(exprs, at, size, 1);
-    if !in_range(w, widest) {
-        return false;
-    }
-    parts_fit(exprs, table, at, size, n, w)
 }
 
 // So many fields, and operands as wide as the expression, which has the width w.
-fn fixed_fits(
-    exprs: &[u32],
-    table: &[u32],
-    at: usize,
-    size: usize,
-    n: usize,
-    fields: usize,
-    w: u32,
-) -> bool
-    requires { Listed (widths_in exprs.now) table.now × (n ≤ length (records_in exprs.now)) × (at + size ≤ length exprs.now) × (0 < size) }
-    ensures { result ≡ fixed_test (widths_in exprs.now) n fields w (fields_at exprs.now at size) }
+fn fixed_fits(fields: &[u32], exprs: Widths, n: usize, count: usize, w: u32) -> bool
+    requires inside { n ≤ exprs.count }
+    requires fields { 2 ≤ count }
+    ensures { result ≡ fixed_test (widths_in exprs.entry.list.now) n count w fields.now }
 {
-    if size - 1 != fields {
-        return false;
+    match fields {
+        [_, own, operands @ ..] => fields.len() == count
+            && *own == w
+            && each_operand(operands, exprs, n, w),
+        _ => false,
     }
-    if field(exprs, at, size, 1) != w {
-        return false;
-    }
-    each_operand(exprs, table, at, size, n, w)
 }
 
-fn mux_fits(exprs: &[u32], table: &[u32], at: usize, size: usize, n: usize, widest: u32) -> bool
-    requires { Listed (widths_in exprs.now) table.now × (n ≤ length (records_in exprs.now)) × (at + size ≤ length exprs.now) }
-    ensures { result ≡ mux_test widest (widths_in exprs.now) n (fields_at exprs.now at size) }
+fn mux_fits(fields: &[u32], exprs: Widths, n: usize, widest: u32) -> bool
+    requires { n ≤ exprs.count }
+    ensures { result ≡ mux_test widest (widths_in exprs.entry.list.now) n fields.now }
 {
-    if size != 6 {
-        return false;
+    match fields {
+        [_, w, s, t, f] => {
+            in_range(*w, widest)
+                && operand(exprs, n, *s, 1)
+                && operand(exprs, n, *t, *w)
+                && operand(exprs, n, *f, *w)
+        }
+        _ => false,
     }
-    let w = field(exprs, at, size, 1);
-    if !in_range(w, widest) {
-        return false;
-    }
-    if !operand(exprs, table, n, field(exprs, at, size, 2), 1) {
-        return false;
-    }
-    if !operand(exprs, table, n, field(exprs, at, size, 3), w) {
-        return false;
-    }
-    operand(exprs, table, n, field(exprs, at, size, 4), w)
 }
 
-fn eq_fits(exprs: &[u32], table: &[u32], at: usize, size: usize, n: usize) -> bool
-    requires { Listed (widths_in exprs.now) table.now × (n ≤ length (records_in exprs.now)) × (at + size ≤ length exprs.now) }
-    ensures { result ≡ eq_test (widths_in exprs.now) n (fields_at exprs.now at size) }
+fn eq_fits(fields: &[u32], exprs: Widths, n: usize) -> bool
+    requires { n ≤ exprs.count }
+    ensures { result ≡ eq_test (widths_in exprs.entry.list.now) n fields.now }
 {
-    if size != 5 {
+    let [_, 1, a, b] = fields else {
+        return false;
+    };
+    if wide(*a) >= n {
         return false;
     }
-    if field(exprs, at, size, 1) != 1 {
-        return false;
+    match exprs.get(wide(*a)) {
+        Some(w) => operand(exprs, n, *b, w),
+        None => false,
     }
-    let a = wide(field(exprs, at, size, 2));
-    if a >= n {
-        return false;
-    }
-    operand(
-        exprs,
-        table,
-        n,
-        field(exprs, at, size, 3),
-        width(exprs, table, a),
-    )
 }
 
-// The expression at an index, which is number n.
-fn expr_fits(
-    exprs: &[u32],
-    table: &[u32],
-    at: usize,
-    size: usize,
-    n: usize,
-    signals: &[u32],
-    signal_table: &[u32],
-    count: usize,
-    widest: u32,
-) -> bool
-    requires { Listed (widths_in exprs.now) table.now × (n ≤ length (records_in exprs.now)) × (at + size ≤ length exprs.now) × (0 < size) × Listed (widths_in signals.now) signal_table.now × (count ≡ length (records_in signals.now)) }
-    ensures { result ≡ expr_test widest (widths_in signals.now) (widths_in exprs.now) n (fields_at exprs.now at size) }
+// Expression n, by its kind.
+fn expr_fits(fields: &[u32], n: usize, signals: Widths, exprs: Widths, widest: u32) -> bool
+    requires { n ≤ exprs.count }
+    ensures { result ≡ expr_test widest (widths_in signals.entry.list.now) (widths_in exprs.entry.list.now) n fields.now }
 {
-    match field(exprs, at, size, 0) {
-        0 => const_fits(exprs, at, size, widest),
-        1 => read_fits(exprs, at, size, signals, signal_table, count, widest),
-        2 => concat_fits(exprs, table, at, size, n, widest),
-        3 => fixed_fits(exprs, table, at, size, n, 3, 1),
-        4 => fixed_fits(exprs, table, at, size, n, 4, 1),
-        5 => fixed_fits(exprs, table, at, size, n, 4, 1),
-        6 => fixed_fits(exprs, table, at, size, n, 4, 1),
-        7 => mux_fits(exprs, table, at, size, n, widest),
-        8 => eq_fits(exprs, table, at, size, n),
-        9 => fixed_fits(exprs, table, at, size, n, 4, 36),
+    match word(fields, 0) {
+        0 => const_fits(fields, widest),
+        1 => read_fits(fields, signals, widest),
+        2 => concat_fits(fields, exprs, n, widest),
+        3 => fixed_fits(fields, exprs, n, 3, 1),
+        4 => fixed_fits(fields, exprs, n, 4, 1),
+        5 => fixed_fits(fields, exprs, n, 4, 1),
+        6 => fixed_fits(fields, exprs, n, 4, 1),
+        7 => mux_fits(fields, exprs, n, widest),
+        8 => eq_fits(fields, exprs, n),
+        9 => fixed_fits(fields, exprs, n, 4, 36),
         _ => false,
     }
 }
 
 // The first faulty expression.
-fn expr_fault(
-    exprs: &[u32],
-    table: &[u32],
-    signals: &[u32],
-    signal_table: &[u32],
-    count: usize,
-    widest: u32,
-) -> Fault
-    requires { Listed (widths_in exprs.now) table.now × Listed (widths_in signals.now) signal_table.now × (count ≡ length (records_in signals.now)) }
-    ensures { fault_of result ≡ expr_fault_of widest (records_in signals.now) (records_in exprs.now) }
+fn expr_fault(signals: Widths, exprs: Widths, widest: u32) -> Option<usize>
+    ensures { result ≡ expr_fault_of widest (records_in signals.entry.list.now) (records_in exprs.entry.list.now) }
 {
-    let mut at: usize = 0;
-    let mut n: usize = 0;
-    while at < exprs.len() {
-        let size = size(exprs, at);
-        if size == 0 {
-            return Fault::Fine;
+    for (n, fields) in Records::new(exprs.list).enumerate() {
+        if !expr_fits(fields, n, signals, exprs, widest) {
+            return Some(n);
         }
-        if !expr_fits(
-            exprs,
-            table,
-            at,
-            size,
-            n,
-            signals,
-            signal_table,
-            count,
-            widest,
-        ) {
-            return Fault::At(n);
-        }
-        at += size;
-        n += 1;
     }
-    Fault::Fine
+    None
 }
 
 // Signal s is there and has one bit.
-fn control(signals: &[u32], table: &[u32], count: usize, s: u32) -> bool
-    requires { Listed (widths_in signals.now) table.now × (count ≡ length (records_in signals.now)) }
-    ensures { result ≡ broad (widths_in signals.now) s 1 }
+fn control(signals: Widths, s: u32) -> bool
+    ensures { result ≡ broad (widths_in signals.entry.list.now) s 1 }
 {
-    let i = wide(s);
-    if i < count {
-        return width(signals, table, i) == 1;
-    }
-    false
+    signals.get(wide(s)) == Some(1)
 }
 
 // Signal t and expression e are there, and equally wide.
-fn suited(
-    signals: &[u32],
-    signal_table: &[u32],
-    count: usize,
-    exprs: &[u32],
-    table: &[u32],
-    n: usize,
-    t: u32,
-    e: u32,
-) -> bool
-    requires { Widths signals.now signal_table.now count exprs.now table.now n }
-    ensures { result ≡ suits (widths_in signals.now) (widths_in exprs.now) t e }
+fn suited(signals: Widths, exprs: Widths, t: u32, e: u32) -> bool
+    ensures { result ≡ suits (widths_in signals.entry.list.now) (widths_in exprs.entry.list.now) t e }
 {
-    let i = wide(t);
-    if i < count {
-        return operand(exprs, table, n, e, width(signals, signal_table, i));
+    match signals.get(wide(t)) {
+        Some(w) => operand(exprs, exprs.count, e, w),
+        None => false,
     }
-    false
 }
 
-// The enable of a register, which stands from a field on.
-fn enable_fits(
-    stmts: &[u32],
-    at: usize,
-    size: usize,
-    from: usize,
-    signals: &[u32],
-    signal_table: &[u32],
-    count: usize,
-) -> bool
-    requires { (at + size ≤ length stmts.now) × (from < 100) × Listed (widths_in signals.now) signal_table.now × (count ≡ length (records_in signals.now)) }
-    ensures { result ≡ enable_test (widths_in signals.now) (drop from (fields_at stmts.now at size)) }
+// The enable of a register, its last fields.
+fn enable_fits(fields: &[u32], signals: Widths) -> bool
+    ensures { result ≡ enable_test (widths_in signals.entry.list.now) fields.now }
 {
-    if size <= from + 1 {
-        return false;
+    match fields {
+        [0] => true,
+        [1, s, active] => control(signals, *s) && *active <= 1,
+        _ => false,
     }
-    let left = size - 1 - from;
-    let given = field(stmts, at, size, from);
-    if given == 0 {
-        return left == 1;
-    }
-    if given != 1 {
-        return false;
-    }
-    if left != 3 {
-        return false;
-    }
-    if !control(
-        signals,
-        signal_table,
-        count,
-        field(stmts, at, size, from + 1),
-    ) {
-        return false;
-    }
-    field(stmts, at, size, from + 2) <= 1
 }
 
 // The target and the next value, the clock and the edge of a register.
-fn head_fits(
-    stmts: &[u32],
-    at: usize,
-    size: usize,
-    signals: &[u32],
-    signal_table: &[u32],
-    count: usize,
-    exprs: &[u32],
-    table: &[u32],
-    n: usize,
-) -> bool
-    requires { Widths signals.now signal_table.now count exprs.now table.now n }
-    ensures { result ≡ head_test (widths_in signals.now) (widths_in exprs.now) (fields_at stmts.now at size) }
+fn head_fits(fields: &[u32], signals: Widths, exprs: Widths) -> bool
+    ensures { result ≡ head_test (widths_in signals.entry.list.now) (widths_in exprs.entry.list.now) fields.now }
 {
-    if !suited(
-        signals,
-        signal_table,
-        count,
-        exprs,
-        table,
-        n,
-        field(stmts, at, size, 1),
-        field(stmts, at, size, 2),
-    ) {
-        return false;
-    }
-    if !control(signals, signal_table, count, field(stmts, at, size, 3)) {
-        return false;
-    }
-    field(stmts, at, size, 4) <= 1
+    suited(signals, exprs, word(fields, 1), word(fields, 2))
+        && control(signals, word(fields, 3))
+        && word(fields, 4) <= 1
 }
 
 // The reset of a register.
-fn reset_fits(
-    stmts: &[u32],
-    at: usize,
-    size: usize,
-    signals: &[u32],
-    signal_table: &[u32],
-    count: usize,
-    exprs: &[u32],
-    table: &[u32],
-    n: usize,
-) -> bool
-    requires { Widths signals.now signal_table.now count exprs.now table.now n }
-    ensures { result ≡ reset_test (widths_in signals.now) (widths_in exprs.now) (fields_at stmts.now at size) }
+fn reset_fits(fields: &[u32], signals: Widths, exprs: Widths) -> bool
+    ensures { result ≡ reset_test (widths_in signals.entry.list.now) (widths_in exprs.entry.list.now) fields.now }
 {
-    if !control(signals, signal_table, count, field(stmts, at, size, 6)) {
-        return false;
-    }
-    if field(stmts, at, size, 7) > 1 {
-        return false;
-    }
-    suited(
-        signals,
-        signal_table,
-        count,
-        exprs,
-        table,
-        n,
-        field(stmts, at, size, 1),
-        field(stmts, at, size, 8),
-    )
+    control(signals, word(fields, 6))
+        && word(fields, 7) <= 1
+        && suited(signals, exprs, word(fields, 1), word(fields, 8))
 }
 
-// A register, at an index.
-fn reg_fits(
-    stmts: &[u32],
-    at: usize,
-    size: usize,
-    signals: &[u32],
-    signal_table: &[u32],
-    count: usize,
-    exprs: &[u32],
-    table: &[u32],
-    n: usize,
-) -> bool
-    requires { (at + size ≤ length stmts.now) × Widths signals.now signal_table.now count exprs.now table.now n }
-    ensures { result ≡ reg_test (widths_in signals.now) (widths_in exprs.now) (fields_at stmts.now at size) }
+fn reg_fits(fields: &[u32], signals: Widths, exprs: Widths) -> bool
+    ensures { result ≡ reg_test (widths_in signals.entry.list.now) (widths_in exprs.entry.list.now) fields.now }
 {
-    if size < 8 {
+    if !head_fits(fields, signals, exprs) {
         return false;
     }
-    if !head_fits(
-        stmts,
-        at,
-        size,
-        signals,
-        signal_table,
-        count,
-        exprs,
-        table,
-        n,
-    ) {
-        return false;
+    match fields {
+        [_, _, _, _, _, 0, enable @ ..] => enable_fits(enable, signals),
+        [_, _, _, _, _, 1, _, _, _, enable @ ..] => {
+            reset_fits(fields, signals, exprs) && enable_fits(enable, signals)
+        }
+        _ => false,
     }
-    let given = field(stmts, at, size, 5);
-    if given == 0 {
-        return enable_fits(stmts, at, size, 6, signals, signal_table, count);
-    }
-    if given != 1 {
-        return false;
-    }
-    if size < 11 {
-        return false;
-    }
-    if !reset_fits(
-        stmts,
-        at,
-        size,
-        signals,
-        signal_table,
-        count,
-        exprs,
-        table,
-        n,
-    ) {
-        return false;
-    }
-    enable_fits(stmts, at, size, 9, signals, signal_table, count)
 }
 
-// The statement at an index.
-fn stmt_fits(
-    stmts: &[u32],
-    at: usize,
-    size: usize,
-    signals: &[u32],
-    signal_table: &[u32],
-    count: usize,
-    exprs: &[u32],
-    table: &[u32],
-    n: usize,
-) -> bool
-    requires { (at + size ≤ length stmts.now) × Widths signals.now signal_table.now count exprs.now table.now n × (0 < size) }
-    ensures { result ≡ stmt_test (widths_in signals.now) (widths_in exprs.now) (fields_at stmts.now at size) }
+fn assign_fits(fields: &[u32], signals: Widths, exprs: Widths) -> bool
+    ensures { result ≡ assign_test (widths_in signals.entry.list.now) (widths_in exprs.entry.list.now) fields.now }
 {
-    let kind = field(stmts, at, size, 0);
-    if kind == 1 {
-        return reg_fits(
-            stmts,
-            at,
-            size,
-            signals,
-            signal_table,
-            count,
-            exprs,
-            table,
-            n,
-        );
+    match fields {
+        [_, t, e] => suited(signals, exprs, *t, *e),
+        _ => false,
     }
-    if kind != 0 {
-        return false;
+}
+
+// A statement, by its kind.
+fn stmt_fits(fields: &[u32], signals: Widths, exprs: Widths) -> bool
+    ensures { result ≡ stmt_test (widths_in signals.entry.list.now) (widths_in exprs.entry.list.now) fields.now }
+{
+    match word(fields, 0) {
+        0 => assign_fits(fields, signals, exprs),
+        1 => reg_fits(fields, signals, exprs),
+        _ => false,
     }
-    if size != 4 {
-        return false;
-    }
-    suited(
-        signals,
-        signal_table,
-        count,
-        exprs,
-        table,
-        n,
-        field(stmts, at, size, 1),
-        field(stmts, at, size, 2),
-    )
 }
 
 // The first faulty statement.
-fn stmt_fault(
-    stmts: &[u32],
-    signals: &[u32],
-    signal_table: &[u32],
-    count: usize,
-    exprs: &[u32],
-    table: &[u32],
-    n: usize,
-) -> Fault
-    requires { Widths signals.now signal_table.now count exprs.now table.now n }
-    ensures { fault_of result ≡ stmt_fault_of (records_in signals.now) (records_in exprs.now) (records_in stmts.now) }
+fn stmt_fault(stmts: &[u32], signals: Widths, exprs: Widths) -> Option<usize>
+    ensures { result ≡ stmt_fault_of (records_in signals.entry.list.now) (records_in exprs.entry.list.now) (records_in stmts.now) }
 {
-    let mut at: usize = 0;
-    let mut k: usize = 0;
-    while at < stmts.len() {
-        let size = size(stmts, at);
-        if size == 0 {
-            return Fault::Fine;
+    for (n, fields) in Records::new(stmts).enumerate() {
+        if !stmt_fits(fields, signals, exprs) {
+            return Some(n);
         }
-        if !stmt_fits(
-            stmts,
-            at,
-            size,
-            signals,
-            signal_table,
-            count,
-            exprs,
-            table,
-            n,
-        ) {
-            return Fault::At(k);
-        }
-        at += size;
-        k += 1;
     }
-    Fault::Fine
+    None
 }
 
-// The first fault, or else the second, behind k records.
-fn first(a: Fault, k: usize, b: Fault) -> Fault
-    requires { (n : ℕ) → fault_of b ≡ Some n → k + n < 18446744073709551616 }
-    ensures { fault_of result ≡ or_else (fault_of a) (behind k (fault_of b)) }
-{
-    match a {
-        Fault::At(n) => Fault::At(n),
-        Fault::Fine => match b {
-            Fault::At(n) => Fault::At(k + n),
-            Fault::Fine => Fault::Fine,
-        },
-    }
-}
-
-// The first faulty record of three lists, with tables of the signals' and the expressions' widths and of the statements on each signal.
+// The first faulty record of a model, with tables of the signals' and the expressions' widths and of the statements on each signal.
 fn first_fault(
-    signals: &[u32],
+    m: Model,
     signal_table: &[u32],
-    exprs: &[u32],
     expr_table: &[u32],
-    stmts: &[u32],
     bytes: &[u8],
     widest: u32,
-) -> Fault
-    requires { Listed (widths_in signals.now) signal_table.now × Listed (widths_in exprs.now) expr_table.now × Tallied (records_in stmts.now) bytes.now }
-    ensures { fault_of result ≡ malformed_by widest (lists signals.now exprs.now stmts.now) }
+) -> Option<usize>
+    requires { Listed (widths_in m.signals.now) signal_table.now × Listed (widths_in m.exprs.now) expr_table.now × Tallied (records_in m.stmts.now) bytes.now }
+    ensures { result ≡ malformed_by widest (lists_of m.entry) }
 {
-    let signals_counted = count(signals);
-    let s = signals_counted.count;
-    let exprs_counted = count(exprs);
-    let e = exprs_counted.count;
-    let cut = unsplit(signals, signals_counted, exprs, exprs_counted, stmts);
-    let a = signal_fault(signals, stmts, bytes, widest);
-    let b = expr_fault(exprs, expr_table, signals, signal_table, s, widest);
-    let c = stmt_fault(stmts, signals, signal_table, s, exprs, expr_table, e);
-    first(cut, 0, first(a, s, first(b, e, c)))
+    let s = match count_whole(m.signals) {
+        Ok(n) => n,
+        Err(n) => return Some(n),
+    };
+    let e = match count_whole(m.exprs) {
+        Ok(n) => n,
+        Err(n) => return Some(s + n),
+    };
+    if let Err(n) = count_whole(m.stmts) {
+        return Some(s + (e + n));
+    }
+    if let Some(n) = signal_fault(m, bytes, widest) {
+        return Some(n);
+    }
+    let signals = Widths {
+        list: m.signals,
+        table: signal_table,
+        count: s,
+    };
+    let exprs = Widths {
+        list: m.exprs,
+        table: expr_table,
+        count: e,
+    };
+    if let Some(n) = expr_fault(signals, exprs, widest) {
+        return Some(s + n);
+    }
+    match stmt_fault(m.stmts, signals, exprs) {
+        Some(n) => Some(s + (e + n)),
+        None => None,
+    }
 }
 
 // Refusal 12: the first faulty record. The tables are work, for widths; so are the bytes, which count the statements on each signal. The
 // longer they are, the fewer lists are walked.
 pub fn malformed(
-    signals: &[u32],
+    m: Model,
     signal_table: &mut [u32],
-    exprs: &[u32],
     expr_table: &mut [u32],
-    stmts: &[u32],
     bytes: &mut [u8],
     widest: u32,
-) -> Fault
-    ensures fault { fault_of result ≡ malformed_by widest (lists signals.now exprs.now stmts.now) }
+) -> Option<usize>
+    ensures fault { result ≡ malformed_by widest (lists_of m.entry) }
     ensures zeros { (signal_table.new ≡ zeroed signal_table.old) × (expr_table.new ≡ zeroed expr_table.old) × (bytes.new ≡ zeroed bytes.old) }
 {
-    fill(signals, signal_table);
-    fill(exprs, expr_table);
-    tally(stmts, bytes);
-    let fault = first_fault(
-        signals,
-        signal_table,
-        exprs,
-        expr_table,
-        stmts,
-        bytes,
-        widest,
-    );
-    zero_words(signal_table);
-    zero_words(expr_table);
-    zero_bytes(bytes);
+    fill(m.signals, signal_table);
+    fill(m.exprs, expr_table);
+    tally(m.stmts, bytes);
+    let fault = first_fault(m, signal_table, expr_table, bytes, widest);
+    signal_table.fill(0);
+    expr_table.fill(0);
+    bytes.fill(0);
     fault
 }

@@ -6,13 +6,7 @@ use Rattle.recorder.specs.Record.{Model}
 use Rattle.settle.specs.Walk.{Way}
 use Rattle.settle.specs.Loop.{Reads}
 use Rattle.simulation.specs.Tick.{depends}
-use Rattle.ordering.specs.declared.Loop.{Loop}
-use Rattle.ordering.specs.declared.Loop.TheVariants.{Free, At}
 use Rattle.ordering.specs.Marks.{marked, touched, Backed, Full, left}
-
-abbrev pub loop_of : Loop → Option ℕ
-loop_of Free = None
-loop_of (At s) = Some s
 
 -- expression e leads to signal s, and is not marked yet
 abbrev pub finds : Model → ℕ → List ℕ → ℕ → Bool

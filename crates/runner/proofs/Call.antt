@@ -11,7 +11,7 @@ use Rattle.bits.specs.Bits.{Bits, digit}
 use Rattle.recorder.specs.Lists.{Lists, lists}
 use Rattle.recorder.specs.Read.{model_of}
 use Rattle.recorder.specs.Words.{raw_of}
-use Rattle.simulation.specs.declared.Ran.{Ran}
+use Rattle.simulation.specs.Run.{Ran}
 use Rattle.simulation.specs.Wellformed.{largest, first_fault, malformed, or_else}
 use Rattle.simulation.specs.Tick.{looped}
 use Rattle.simulation.specs.Index.{records_in, widths_in, offset}
@@ -22,12 +22,10 @@ use Rattle.simulation.proofs.Flat.{Wide}
 use Rattle.simulation.proofs.Steps.{length_widths}
 use Rattle.simulation.proofs.Found.{faultless, signals_count, exprs_count, exprs_wide}
 use Rattle.simulation.proofs.Kept.{AllNone, all_none, short_none}
-use Rattle.ordering.specs.declared.Loop.{Loop}
-use Rattle.ordering.specs.declared.Loop.TheVariants.{Free, At}
-use Rattle.ordering.specs.Loops.{loop_of}
 use Rattle.evaluation.specs.Bytes.{Holds}
 use Rattle.evaluation.specs.Ready.{Room, model_in}
-use Rattle.evaluation.specs.Ticks.{NoFault, Filled, GoodTicks, Ticks}
+use Rattle.simulation.proofs.Sound.{signals_read}
+use Rattle.evaluation.specs.Ticks.{NoFault, ReadSignals, Filled, GoodTicks, Ticks}
 use Rattle.evaluation.proofs.Calling.{bytes_hold, bytes_count}
 use Rattle.runner.specs.Calls.{Answers, Runs}
 use Rattle.runner.specs.Parts.{Unrefused, Tries}
@@ -85,8 +83,11 @@ module _ {signals exprs stmts bytes ticks : List ℕ} {fired : Option (ℕ × �
   abbrev l : Lists
   l = lists signals exprs stmts
 
-  fine : first_fault largest (raw_of (lists signals exprs stmts)) ≡ None
+  pub fine : first_fault largest (raw_of (lists signals exprs stmts)) ≡ None
   fine = faultless largest (lists signals exprs stmts) u.well_formed
+
+  pub signals_read_in : ReadSignals signals
+  signals_read_in = record { readable = signals_read largest (raw_of (lists signals exprs stmts)) fine }
 
   pub no_fault : NoFault signals exprs stmts
   no_fault = record { widest = largest; faultless = fine }
@@ -120,14 +121,14 @@ module _ {signals exprs stmts bytes ticks : List ℕ} {fired : Option (ℕ × �
   ticks_good = good_ticks signals ticks fired (length (model_of (raw_of l)).signals) (tick_bits (model_of (raw_of l))) refl u.no_cause
 
   -- with a loop
-  pub tried_looped : (x : ℕ) {found : Loop} → found ≡ At x → loop_of found ≡ looped (model_in signals exprs stmts) → (r : Ran) → answer_of r ≡ Some (13, x) → Tries (lists signals exprs stmts) bytes ticks fired r bytes
+  pub tried_looped : (x : ℕ) {found : Option ℕ} → found ≡ Some x → found ≡ looped (model_in signals exprs stmts) → (r : Ran) → answer_of r ≡ Some (13, x) → Tries (lists signals exprs stmts) bytes ticks fired r bytes
   tried_looped x {found} e f r a = record { answered = a ∙ ap on_loop so; left = sym (ap (bytes_after (call_of (lists signals exprs stmts) bytes ticks fired [] [] [])) (sym (ap on_loop so))) }
     where
       so : Some x ≡ looped (model_in signals exprs stmts)
-      so = ap loop_of (sym e) ∙ f
+      so = sym e ∙ f
 
-  pub unlooped : {found : Loop} → found ≡ Free → loop_of found ≡ looped (model_in signals exprs stmts) → looped (model_in signals exprs stmts) ≡ None
-  unlooped e f = sym f ∙ ap loop_of e
+  pub unlooped : {found : Option ℕ} → found ≡ None → found ≡ looped (model_in signals exprs stmts) → looped (model_in signals exprs stmts) ≡ None
+  unlooped e f = sym f ∙ e
 
   -- without
   pub tried_made : looped (model_in signals exprs stmts) ≡ None → {bytes' : List ℕ} → Ticks signals exprs stmts ticks (firing fired) bytes bytes' → (r : Ran) → answer_of r ≡ None → Tries (lists signals exprs stmts) bytes ticks fired r bytes'

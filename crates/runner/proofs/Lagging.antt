@@ -3,7 +3,7 @@ use Prim.Native.Nat.{ℕ, suc, ◌+◌, ◌-◌, ◌*◌, ◌/◌, ◌≤◌, �
 use mathlib.Core.Path.{◌≡◌, refl, sym, ◌∙◌, ap, ap₂, subst}
 use mathlib.Core.Bool.{Bool, true, false, not, ◌||◌, false≢true}
 use mathlib.Core.List.{List, [], ◌∷◌, ◌++◌, map, append_assoc}
-use Rattle.std.specs.Prelude.{Option, None, Some}
+use Rattle.std.specs.Prelude.{Option, None, Some, IfSome}
 use native.Mathlib.Omega.{arith}
 use lib.Dec.{eqb}
 use borrow.Author.Tests.{eqb-true}
@@ -36,7 +36,7 @@ use Rattle.evaluation.proofs.Late.{settle_free, settled_so, loaded_late, shown_l
 use Rattle.coding.specs.Coded.{SettlesCode}
 use Rattle.runner.specs.declared.code.Code.{Code}
 use Rattle.runner.specs.Calls.{fired_by, handed, output_width, answer_words}
-use Rattle.runner.specs.Plan.{controls_at, outputs_at, first_at, second_at, Planned, Planning}
+use Rattle.runner.specs.Plan.{controls_at, outputs_at, first_at, second_at, Planned}
 use Rattle.runner.specs.Parts.{tick_causes, RunsTick, LoadsAfter, ShowsAfter, RunsLate, is_made, finished, Finishes, RunsTicks}
 use Rattle.runner.proofs.Ticking.{good_ticks, handed_made}
 use Rattle.runner.proofs.Running.{Running, running_start, running_end, running_step}
@@ -69,8 +69,9 @@ planned_kept p l = record {
   outputs_coded = p.outputs_coded;
 }
 
-pub planning_kept : {signals exprs stmts : List ℕ} {n s : ℕ} {c : Code} {order values values' : List ℕ} → Planning signals exprs stmts n s c order values → length values' ≡ length values → Planning signals exprs stmts n s c order values'
-planning_kept p l = record { ports = p.ports; planned = λ u. planned_kept (p.planned u) l }
+pub plan_kept : (signals exprs stmts order values values' : List ℕ) (n s : ℕ) (o : Option Code) → IfSome o (λ c. Planned signals exprs stmts n s c order values) → length values' ≡ length values → IfSome o (λ c. Planned signals exprs stmts n s c order values')
+plan_kept signals exprs stmts order values values' n s None p l = tt
+plan_kept signals exprs stmts order values values' n s (Some c) p l = planned_kept p l
 
 -- THE PARTS OF A TICK
 

@@ -1,4 +1,6 @@
 -- The laws of runner.
+pub mod Models
+pub mod Copies
 pub mod Tick
 pub mod Showing
 pub mod Ticking

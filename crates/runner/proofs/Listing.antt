@@ -71,14 +71,11 @@ module _ {stmts order₀ : List ℕ} {from room : ℕ} {order : List ℕ} {k at 
   all_registers : g.number ≡ length (records_in stmts) → Registers stmts order from k
   all_registers e = record { each = g.each; all = λ i q h. g.all i (omega arith) h }
 
-  pub registers_out : {size : ℕ} → size ≡ size_at stmts at → size ≡ 0 → (take from order ≡ take from order₀) × (k ≤ room → Registers stmts order from k)
-  registers_out {size} e z = (g.kept, λ q. all_registers (walked_out g.walked size e z))
+  pub registers_out : {size : ℕ} → size ≡ size_at stmts at → size ≡ 0 → (take from order ≡ take from order₀) × Registers stmts order from k
+  registers_out {size} e z = (g.kept, all_registers (walked_out g.walked size e z))
 
-  pub registers_end : length stmts ≤ at → (take from order ≡ take from order₀) × (k ≤ room → Registers stmts order from k)
-  registers_end h = (g.kept, λ q. all_registers (walked_end g.walked h).0)
-
-  pub registers_full : (take from order ≡ take from order₀) × (room + 1 ≤ room → Registers stmts order from (room + 1))
-  registers_full = (g.kept, λ q. absurd (omega arith))
+  pub registers_end : length stmts ≤ at → (take from order ≡ take from order₀) × Registers stmts order from k
+  registers_end h = (g.kept, all_registers (walked_end g.walked h).0)
 
   module _ {signals : List ℕ} (s : Stated signals stmts) {size : ℕ} (e : size ≡ size_at stmts at) (d : size ≡ 0 → ⊥) where
     register_there : g.number < length (records_in stmts)
@@ -151,14 +148,11 @@ module _ {signals order₀ : List ℕ} {from room : ℕ} {order : List ℕ} {k s
   all_outputs_in : s ≡ length (records_in signals) → Outputs signals order from k
   all_outputs_in e = record { all_outputs = λ x o. g.all x (omega (arith, o.there, signals_long f, e)) o.labelled }
 
-  pub outputs_out : {size : ℕ} → size ≡ size_at signals at → size ≡ 0 → (take from order ≡ take from order₀) × (k ≤ room → Outputs signals order from k)
-  outputs_out {size} e z = (g.kept, λ q. all_outputs_in (walked_out g.walked size e z))
+  pub outputs_out : {size : ℕ} → size ≡ size_at signals at → size ≡ 0 → (take from order ≡ take from order₀) × Outputs signals order from k
+  outputs_out {size} e z = (g.kept, all_outputs_in (walked_out g.walked size e z))
 
-  pub outputs_end : length signals ≤ at → (take from order ≡ take from order₀) × (k ≤ room → Outputs signals order from k)
-  outputs_end h = (g.kept, λ q. all_outputs_in (walked_end g.walked h).0)
-
-  pub outputs_full : (take from order ≡ take from order₀) × (room + 1 ≤ room → Outputs signals order from (room + 1))
-  outputs_full = (g.kept, λ q. absurd (omega arith))
+  pub outputs_end : length signals ≤ at → (take from order ≡ take from order₀) × Outputs signals order from k
+  outputs_end h = (g.kept, all_outputs_in (walked_end g.walked h).0)
 
   module _ {size : ℕ} (e : size ≡ size_at signals at) (d : size ≡ 0 → ⊥) where
     outputs_skip : (get_or signals (at + 1) 0 ≡ 1 → ⊥) → ListsOutputs signals order₀ from room order k (s + 1) (at + size)
@@ -194,17 +188,14 @@ module _ {signals order₀ : List ℕ} {from room : ℕ} {order : List ℕ} {k s
 
 -- A SIGNAL ONCE
 
-module _ {order : List ℕ} {from k x : ℕ} {marks : List ℕ} (room : ℕ) (l : Listing order from k marks) {i : ℕ} (e : i ≡ x) where
-  pub once_marked : (get_or marks i 0 ≡ 0 → ⊥) → (take from order ≡ take from order) × (k ≤ room → Listing order from k marks × Among order from k x × ((y : ℕ) → Among order from k y → Among order from k y))
+module _ {order : List ℕ} {from k x : ℕ} {marks : List ℕ} (l : Listing order from k marks) {i : ℕ} (e : i ≡ x) where
+  pub once_marked : (get_or marks i 0 ≡ 0 → ⊥) → (take from order ≡ take from order) × (Listing order from k marks × Among order from k x × ((y : ℕ) → Among order from k y → Among order from k y))
   once_marked n =
       let z : get_or marks x 0 ≡ 0 → ⊥ = λ h. n (ap (λ (j : ℕ). get_or marks j 0) e ∙ h) in
-      (refl, λ q. (l, l.listed x (le-leb 1 (get_or marks x 0) (omega (arith, z))), λ y a. a))
+      (refl, (l, l.listed x (le-leb 1 (get_or marks x 0) (omega (arith, z))), λ y a. a))
 
-  pub once_full : (take from order ≡ take from order) × (room + 1 ≤ room → Listing order from (room + 1) marks × Among order from (room + 1) x × ((y : ℕ) → Among order from k y → Among order from (room + 1) y))
-  once_full = (refl, λ q. absurd (omega arith))
-
-  pub once_put : from + k < length order → (take from (set order (from + k) x) ≡ take from order) × (k + 1 ≤ room → Listing (set order (from + k) x) from (k + 1) (set marks i 1) × Among (set order (from + k) x) from (k + 1) x × ((y : ℕ) → Among order from k y → Among (set order (from + k) x) from (k + 1) y))
-  once_put h = (put_take order from k x, λ q. (record { listed = λ y m. by y (ℕ_discrete y i) m }, put_own order from k x h, λ y a. put_kept order from k x a))
+  pub once_put : from + k < length order → (take from (set order (from + k) x) ≡ take from order) × (Listing (set order (from + k) x) from (k + 1) (set marks i 1) × Among (set order (from + k) x) from (k + 1) x × ((y : ℕ) → Among order from k y → Among (set order (from + k) x) from (k + 1) y))
+  once_put h = (put_take order from k x, (record { listed = λ y m. by y (ℕ_discrete y i) m }, put_own order from k x h, λ y a. put_kept order from k x a))
     where
       by : (y : ℕ) → Dec (y ≡ i) → is_marked (set marks i 1) y ≡ true → Among (set order (from + k) x) from (k + 1) y
       by y (yes z) m = subst (Among (set order (from + k) x) from (k + 1)) (sym (z ∙ e)) (put_own order from k x h)
@@ -213,35 +204,32 @@ module _ {order : List ℕ} {from k x : ℕ} {marks : List ℕ} (room : ℕ) (l 
 -- WHAT A STATEMENT ASKS FOR
 
 -- the control at a word is listed
-abbrev pub ListsControl : List ℕ → ℕ → List ℕ → List ℕ → ℕ → ℕ → ℕ → ℕ → List ℕ → Type 0
-ListsControl stmts word order order' from room k r marks' = (take from order' ≡ take from order) × (r ≤ room → Listing order' from r marks' × ((get_or stmts word 0 ≡ 0 → ⊥) → Among order' from r (get_or stmts (word + 1) 0)) × ((y : ℕ) → Among order from k y → Among order' from r y))
+abbrev pub ListsControl : List ℕ → ℕ → List ℕ → List ℕ → ℕ → ℕ → ℕ → List ℕ → Type 0
+ListsControl stmts word order order' from k r marks' = (take from order' ≡ take from order) × (Listing order' from r marks' × ((get_or stmts word 0 ≡ 0 → ⊥) → Among order' from r (get_or stmts (word + 1) 0)) × ((y : ℕ) → Among order from k y → Among order' from r y))
 
 -- all that the statement at a word asks for
-abbrev pub ListsAsked : List ℕ → ℕ → List ℕ → List ℕ → ℕ → ℕ → ℕ → ℕ → List ℕ → Type 0
-ListsAsked stmts at order order' from room k r marks' = (take from order' ≡ take from order) × (r ≤ room → Listing order' from r marks' × ((number x : ℕ) → number < length (records_in stmts) → at ≡ start_of stmts number → Asks (stmt_in stmts number) x → Among order' from r x) × ((y : ℕ) → Among order from k y → Among order' from r y))
+abbrev pub ListsAsked : List ℕ → ℕ → List ℕ → List ℕ → ℕ → ℕ → ℕ → List ℕ → Type 0
+ListsAsked stmts at order order' from k r marks' = (take from order' ≡ take from order) × (Listing order' from r marks' × ((number x : ℕ) → number < length (records_in stmts) → at ≡ start_of stmts number → Asks (stmt_in stmts number) x → Among order' from r x) × ((y : ℕ) → Among order from k y → Among order' from r y))
 
-pub control_absent : {order marks : List ℕ} {from k : ℕ} (stmts : List ℕ) (word room : ℕ) → Listing order from k marks → get_or stmts word 0 ≡ 0 → ListsControl stmts word order order from room k k marks
-control_absent stmts word room l z = (refl, λ q. (l, (λ n. absurd (n z)), λ y a. a))
+pub control_absent : {order marks : List ℕ} {from k : ℕ} (stmts : List ℕ) (word : ℕ) → Listing order from k marks → get_or stmts word 0 ≡ 0 → ListsControl stmts word order order from k k marks
+control_absent stmts word l z = (refl, (l, (λ n. absurd (n z)), λ y a. a))
 
-pub control_given : {order order' marks' : List ℕ} {from room k r : ℕ} (stmts : List ℕ) (word : ℕ) → (take from order' ≡ take from order) → (r ≤ room → Listing order' from r marks' × Among order' from r (get_or stmts (word + 1) 0) × ((y : ℕ) → Among order from k y → Among order' from r y)) → ListsControl stmts word order order' from room k r marks'
-control_given stmts word t f = (t, λ q. ((f q).0, (λ n. (f q).1), (f q).2))
+pub control_given : {order order' marks' : List ℕ} {from k r : ℕ} (stmts : List ℕ) (word : ℕ) → (take from order' ≡ take from order) → Listing order' from r marks' × Among order' from r (get_or stmts (word + 1) 0) × ((y : ℕ) → Among order from k y → Among order' from r y) → ListsControl stmts word order order' from k r marks'
+control_given stmts word t f = (t, (f.0, (λ n. f.1), f.2))
 
 pub control_asks : {signals stmts : List ℕ} {word : ℕ} (marks : List ℕ) → Control signals stmts word → length (records_in signals) ≤ length marks → (word < length stmts) × ((get_or stmts word 0 ≡ 0 → ⊥) → (word + 2 < length stmts) × (get_or stmts (word + 1) 0 < length marks))
 control_asks marks h r = (h.inside, λ n. ((h.one_bit n).0, omega (arith, (h.one_bit n).1, r)))
 
-module _ {signals stmts : List ℕ} (s : Stated signals stmts) {at from room k : ℕ} {order : List ℕ} where
-  pub asked_none : {marks : List ℕ} → Listing order from k marks → (get_or stmts (at + 1) 0 ≡ 1 → ⊥) → ListsAsked stmts at order order from room k k marks
-  asked_none l n = (refl, λ q. (l, (λ number x h b a. absurd (n (asks_word s h b x a).0)), λ y a. a))
+module _ {signals stmts : List ℕ} (s : Stated signals stmts) {at from k : ℕ} {order : List ℕ} where
+  pub asked_none : {marks : List ℕ} → Listing order from k marks → (get_or stmts (at + 1) 0 ≡ 1 → ⊥) → ListsAsked stmts at order order from k k marks
+  asked_none l n = (refl, (l, (λ number x h b a. absurd (n (asks_word s h b x a).0)), λ y a. a))
 
-  pub asked_full : {r : ℕ} {order' marks' : List ℕ} → take from order' ≡ take from order → room < r → ListsAsked stmts at order order' from room k r marks'
-  asked_full t h = (t, λ q. absurd (omega arith))
-
-  pub asked_both : {a r i : ℕ} {order₁ marks₁ order₂ marks₂ : List ℕ} → ListsControl stmts (at + 6) order order₁ from room k a marks₁ → a ≤ room → i ≡ enable_at stmts at → ListsControl stmts i order₁ order₂ from room a r marks₂ → ListsAsked stmts at order order₂ from room k r marks₂
-  asked_both {a} {r} {i} {order₁} {marks₁} {order₂} {marks₂} f h e g = (g.0 ∙ f.0, λ q. ((g.1 q).0, (λ number x w b y. by q x (asks_word s w b x y).1), λ y z. (g.1 q).2 y ((f.1 h).2 y z)))
+  pub asked_both : {a r i : ℕ} {order₁ marks₁ order₂ marks₂ : List ℕ} → ListsControl stmts (at + 6) order order₁ from k a marks₁ → i ≡ enable_at stmts at → ListsControl stmts i order₁ order₂ from a r marks₂ → ListsAsked stmts at order order₂ from k r marks₂
+  asked_both {a} {r} {i} {order₁} {marks₁} {order₂} {marks₂} f e g = (g.0 ∙ f.0, (g.1.0, (λ number x w b y. by x (asks_word s w b x y).1), λ y z. g.1.2 y (f.1.2 y z)))
     where
-      by : r ≤ room → (x : ℕ) → ((get_or stmts (at + 6) 0 ≡ 0 → ⊥) × (get_or stmts (at + 6 + 1) 0 ≡ x)) ⊎ ((get_or stmts (enable_at stmts at) 0 ≡ 0 → ⊥) × (get_or stmts (enable_at stmts at + 1) 0 ≡ x)) → Among order₂ from r x
-      by q x (inl z) = subst (Among order₂ from r) z.1 ((g.1 q).2 (get_or stmts (at + 6 + 1) 0) ((f.1 h).1 z.0))
-      by q x (inr z) = subst (Among order₂ from r) (ap (λ (j : ℕ). get_or stmts (j + 1) 0) e ∙ z.1) ((g.1 q).1 (λ n. z.0 (ap (λ (j : ℕ). get_or stmts j 0) (sym e) ∙ n)))
+      by : (x : ℕ) → ((get_or stmts (at + 6) 0 ≡ 0 → ⊥) × (get_or stmts (at + 6 + 1) 0 ≡ x)) ⊎ ((get_or stmts (enable_at stmts at) 0 ≡ 0 → ⊥) × (get_or stmts (enable_at stmts at + 1) 0 ≡ x)) → Among order₂ from r x
+      by x (inl z) = subst (Among order₂ from r) z.1 (g.1.2 (get_or stmts (at + 6 + 1) 0) (f.1.1 z.0))
+      by x (inr z) = subst (Among order₂ from r) (ap (λ (j : ℕ). get_or stmts (j + 1) 0) e ∙ z.1) (g.1.1 (λ n. z.0 (ap (λ (j : ℕ). get_or stmts j 0) (sym e) ∙ n)))
 
 -- CONTROLS: what the first j of a list of registers ask for is listed
 
@@ -265,31 +253,28 @@ module _ {stmts order₀ : List ℕ} {loads from room : ℕ} {marks₀ order mar
       pub controls_begins : {at : ℕ} → at ≡ get_or order (loads + j) 0 → Begins stmts at
       controls_begins e = subst (Begins stmts) (sym (e ∙ controls_word)) (r.each j q)
 
-      pub controls_next : {at r' : ℕ} {order' marks' : List ℕ} → at ≡ get_or order (loads + j) 0 → length order' ≡ length order → length marks' ≡ length marks → r' ≤ room → ListsAsked stmts at order order' from room k r' marks' → ListsControls stmts order₀ loads from room marks₀ order' marks' r' (j + 1)
+      pub controls_next : {at r' : ℕ} {order' marks' : List ℕ} → at ≡ get_or order (loads + j) 0 → length order' ≡ length order → length marks' ≡ length marks → r' ≤ room → ListsAsked stmts at order order' from k r' marks' → ListsControls stmts order₀ loads from room marks₀ order' marks' r' (j + 1)
       controls_next {at} {r'} {order'} e lo lm h f = record {
         as_long = lo ∙ g.as_long;
         marks_long = lm ∙ g.marks_long;
         few = h;
         kept = f.0 ∙ g.kept;
-        listing = (f.1 h).0;
+        listing = f.1.0;
         asked = λ i z. more i (dec_lt i j) z;
       }
         where
           more : (i : ℕ) → Dec (i < j) → i < j + 1 → (number x : ℕ) → number < length (records_in stmts) → get_or order₀ (loads + i) 0 ≡ start_of stmts number → Asks (stmt_in stmts number) x → Among order' from r' x
-          more i (yes y) z number x t w a = (f.1 h).2 x (g.asked i y number x t w a)
+          more i (yes y) z number x t w a = f.1.2 x (g.asked i y number x t w a)
           more i (no n) z number x t w a =
               let same : j ≡ i = omega arith in
-              (f.1 h).1 number x t (e ∙ controls_word ∙ ap (λ (m : ℕ). get_or order₀ (loads + m) 0) same ∙ w) a
+              f.1.1 number x t (e ∙ controls_word ∙ ap (λ (m : ℕ). get_or order₀ (loads + m) 0) same ∙ w) a
 
-    pub controls_end : count ≤ j → (take from order ≡ take from order₀) × (k ≤ room → Controls stmts order from k)
-    controls_end h = (g.kept, λ q. record { all_asked = λ number x t a. let p = r.all number t (asks_register x (stmt_in stmts number) a) in g.asked p.place (omega (arith, p.before)) number x t p.stands a })
+    pub controls_end : count ≤ j → (take from order ≡ take from order₀) × Controls stmts order from k
+    controls_end h = (g.kept, record { all_asked = λ number x t a. let p = r.all number t (asks_register x (stmt_in stmts number) a) in g.asked p.place (omega (arith, p.before)) number x t p.stands a })
       where
         asks_register : (x : ℕ) (y : Stmt) → Asks y x → is_register y ≡ true
         asks_register x (assign t n) a = absurd a
         asks_register x (reg t n c d r e) a = refl
-
-  pub controls_full : {at r' : ℕ} {order' marks' : List ℕ} → room < r' → ListsAsked stmts at order order' from room k r' marks' → (take from order' ≡ take from order₀) × (r' ≤ room → Controls stmts order' from r')
-  controls_full h f = (f.0 ∙ g.kept, λ q. absurd (omega arith))
 
 -- NO TWO STATEMENTS ON ONE SIGNAL
 

@@ -1,10 +1,10 @@
 -- A plan is made in steps, each of which writes behind what stands already. Assumes nothing.
 use Prim.Native.Nat.{ℕ, ◌+◌, ◌*◌, ◌≤◌, ◌<◌}
 use mathlib.Core.Path.{◌≡◌, refl, sym, ◌∙◌, ap, subst}
-use mathlib.Core.Bool.{true, false, false≢true}
+use mathlib.Core.Bool.{true}
 use mathlib.Core.Logic.{◌⊎◌, inl, inr}
 use mathlib.Core.List.{List}
-use Rattle.std.specs.Prelude.{Some}
+use Rattle.std.specs.Prelude.{Option, None, Some, IfSome}
 use Rattle.bits.proofs.Options.{some_ne_none}
 use native.Mathlib.Omega.{arith}
 use native.Mathlib.Decide.{ℕ_discrete}
@@ -16,13 +16,13 @@ use Rattle.simulation.specs.Index.{records_in, start_of, stmts_in}
 use Rattle.ordering.specs.Marks.{marked}
 use Rattle.ordering.specs.Words.{driver_marked, mark_of}
 use Rattle.evaluation.specs.Loads.{stmt_in, Names, marked as loaded_by}
-use Rattle.evaluation.specs.Late.{Among, PortsBefore, Loaded, Registers, is_register}
+use Rattle.evaluation.specs.Late.{Among, Loaded, Registers, is_register}
 use Rattle.fusing.specs.Form.{Formed}
 use Rattle.coding.specs.Coded.{bits_in, Coded}
 use Rattle.coding.specs.Emitting.{MarksLoaded, MarksDrivers}
 use Rattle.coding.proofs.Frame.{take_less, among_kept, registers_kept, formed_kept, coded_kept}
 use Rattle.runner.specs.declared.code.Code.{Code}
-use Rattle.runner.specs.Plan.{controls_at, outputs_at, first_at, second_at, Controls, Outputs, Planning}
+use Rattle.runner.specs.Plan.{controls_at, outputs_at, first_at, second_at, Controls, Outputs, Planned}
 
 -- WHAT IS MARKED
 
@@ -79,13 +79,10 @@ module _ {stmts order : List ℕ} {from : ℕ} {marks : List ℕ} {j : ℕ} (g :
 
 -- THE PLAN
 
--- none is made
-pub unplanned : {signals exprs stmts order values : List ℕ} {n s : ℕ} {c : Code} → c.usable ≡ false → {word : ℕ} → c.ports ≡ word → PortsBefore signals word → Planning signals exprs stmts n s c order values
-unplanned {signals} z e b = record { ports = subst (PortsBefore signals) (sym e) b; planned = λ h. absurd (false≢true (sym z ∙ h)) }
-
 -- a table that is lent whole
-pub planning_whole : {signals exprs stmts : List ℕ} (order : List ℕ) {values : List ℕ} {n s used : ℕ} {c : Code} → used ≡ length order → Planning signals exprs stmts n s c order values → Planning signals exprs stmts n s c (take used order) values
-planning_whole {signals} {exprs} {stmts} order {values} {n} {s} {used} {c} z p = subst (λ (o : List ℕ). Planning signals exprs stmts n s c o values) (sym (ap (λ (i : ℕ). take i order) z ∙ take-length order)) p
+pub planned_whole : (signals exprs stmts order values : List ℕ) (n s : ℕ) {used : ℕ} (o : Option Code) → used ≡ length order → IfSome o (λ c. Planned signals exprs stmts n s c order values) → IfSome o (λ c. Planned signals exprs stmts n s c (take used order) values)
+planned_whole signals exprs stmts order values n s {used} None z p = tt
+planned_whole signals exprs stmts order values n s {used} (Some c) z p = subst (λ (l : List ℕ). Planned signals exprs stmts n s c l values) (sym (ap (λ (i : ℕ). take i order) z ∙ take-length order)) p
 
 -- the table behind the forms, the registers, the controls, the outputs
 module _ (n s : ℕ) (o₁ o₂ o₃ o₄ : List ℕ) (k₂ : take (7 * n) o₂ ≡ take (7 * n) o₁) (k₃ : take (7 * n + s) o₃ ≡ take (7 * n + s) o₂) (k₄ : take (7 * n + s + s) o₄ ≡ take (7 * n + s + s) o₃) where
@@ -135,32 +132,29 @@ module _ (n s : ℕ) (o₁ o₂ o₃ o₄ : List ℕ) (k₂ : take (7 * n) o₂ 
       controls_back : (k x : ℕ) → k ≤ s → Among o₆ (controls_at n s) k x → Among o₅ (7 * n + s) k x
       controls_back k x h a = among_kept (7 * n + s + s + s + n) o₆ o₅ (sym k₆) (omega (arith, h)) a
 
-      pub planned_all : {signals exprs stmts values : List ℕ} {ports base state registers controls outputs first second used : ℕ}
-          → PortsBefore signals ports → n ≡ length (records_in exprs) → registers ≤ s → controls ≤ s → outputs ≤ s → first ≤ n
+      pub planned_all : {signals exprs stmts values : List ℕ} {base state registers controls outputs first second : ℕ}
+          → n ≡ length (records_in exprs) → registers ≤ s → controls ≤ s → outputs ≤ s → first ≤ n
           → 9 * n + 3 * s ≤ length o₆ → length o₆ ≡ length o₅ → base ≡ bits_in exprs → state ≡ bits_in signals → base + state ≤ length values
           → Registers stmts o₂ (7 * n) registers → Controls stmts o₃ (7 * n + s) controls → Outputs signals o₄ (7 * n + s + s) outputs
           → Coded signals exprs stmts n (7 * n + s + s + s) first o₅ → ((e : ℕ) → Loaded stmts e → Among o₅ (7 * n + s + s + s) first e) → ((x d : ℕ) → Among o₅ (7 * n + s) controls x → given assigns (stmts_in stmts) x ≡ Some d → Among o₅ (7 * n + s + s + s) first d)
           → Coded signals exprs stmts n (7 * n + s + s + s + n) second o₆ → ((x d : ℕ) → Among o₆ (7 * n + s + s) outputs x → given assigns (stmts_in stmts) x ≡ Some d → Among o₆ (7 * n + s + s + s + n) second d)
-          → Planning signals exprs stmts n s (record { usable = true; ports = ports; base = base; state = state; registers = registers; controls = controls; outputs = outputs; first = first; second = second; used = used }) o₆ values
-      planned_all {signals} {exprs} {stmts} {values} {ports} {base} {state} {registers} {controls} {outputs} {first} {second} {used} hp hn hr hc ho hf room same hb hs hv rs cs os coded loaded driven coded₂ shown = record {
-        ports = hp;
-        planned = λ u. record {
-          room = room;
-          base_is = hb;
-          state_is = hs;
-          values_room = omega (arith, hb, hs, hv);
-          registers = registers_kept (7 * n + s) o₂ o₆ registers_still (omega (arith, hr)) rs;
-          controls = record { all_asked = λ number x q a. among_kept (7 * n + s + s) o₃ o₆ controls_still (omega (arith, hc)) (cs.all_asked number x q a) };
-          outputs = record { all_outputs = λ x h. subst (λ (p : ℕ). Among o₆ p outputs x) outputs_place (among_kept (7 * n + s + s + s) o₄ o₆ outputs_still (omega (arith, ho)) (os.all_outputs x h)) };
-          registers_few = hr;
-          controls_few = hc;
-          outputs_few = ho;
-          first = subst (λ (p : ℕ). Coded signals exprs stmts n p first o₆) first_place (coded_kept (7 * n + s + s + s + n) o₅ o₆ k₆ hn (omega (arith, hf)) same coded);
-          second = subst (λ (p : ℕ). Coded signals exprs stmts n p second o₆) second_place coded₂;
-          loaded_coded = λ e l. first_kept first e hf (loaded e l);
-          controls_coded = λ x d a q. first_kept first d hf (driven x d (controls_back controls x hc a) q);
-          outputs_coded = λ x d a q. subst (λ (p : ℕ). Among o₆ p second d) second_place (shown x d (subst (λ (p : ℕ). Among o₆ p outputs x) (sym outputs_place) a) q);
-        };
+          → Planned signals exprs stmts n s (record { base = base; state = state; registers = registers; controls = controls; outputs = outputs; first = first; second = second }) o₆ values
+      planned_all {signals} {exprs} {stmts} {values} {base} {state} {registers} {controls} {outputs} {first} {second} hn hr hc ho hf room same hb hs hv rs cs os coded loaded driven coded₂ shown = record {
+        room = room;
+        base_is = hb;
+        state_is = hs;
+        values_room = omega (arith, hb, hs, hv);
+        registers = registers_kept (7 * n + s) o₂ o₆ registers_still (omega (arith, hr)) rs;
+        controls = record { all_asked = λ number x q a. among_kept (7 * n + s + s) o₃ o₆ controls_still (omega (arith, hc)) (cs.all_asked number x q a) };
+        outputs = record { all_outputs = λ x h. subst (λ (p : ℕ). Among o₆ p outputs x) outputs_place (among_kept (7 * n + s + s + s) o₄ o₆ outputs_still (omega (arith, ho)) (os.all_outputs x h)) };
+        registers_few = hr;
+        controls_few = hc;
+        outputs_few = ho;
+        first = subst (λ (p : ℕ). Coded signals exprs stmts n p first o₆) first_place (coded_kept (7 * n + s + s + s + n) o₅ o₆ k₆ hn (omega (arith, hf)) same coded);
+        second = subst (λ (p : ℕ). Coded signals exprs stmts n p second o₆) second_place coded₂;
+        loaded_coded = λ e l. first_kept first e hf (loaded e l);
+        controls_coded = λ x d a q. first_kept first d hf (driven x d (controls_back controls x hc a) q);
+        outputs_coded = λ x d a q. subst (λ (p : ℕ). Among o₆ p second d) second_place (shown x d (subst (λ (p : ℕ). Among o₆ p outputs x) (sym outputs_place) a) q);
       }
 
 -- THE ORDER is kept by every step

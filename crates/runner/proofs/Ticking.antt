@@ -2,7 +2,7 @@
 use Prim.Native.Nat.{ℕ, suc, ◌≤◌, ◌<◌, min}
 use mathlib.Core.Path.{◌≡◌, refl, sym, ◌∙◌, ap, ap₂, subst}
 use mathlib.Core.List.{List, [], ◌∷◌, ◌++◌, map}
-use Rattle.std.specs.Prelude.{Option, None, Some}
+use Rattle.std.specs.Prelude.{Option, None, Some, Ok, Err, is_ok}
 use Rattle.bits.proofs.Options.{some_ne_none}
 use native.Mathlib.Omega.{arith}
 use mathlib.Core.Bool.{Bool, true, false, false≢true}
@@ -16,7 +16,7 @@ use Rattle.recorder.specs.Read.{model_of}
 use Rattle.recorder.specs.Words.{raw_of}
 use Rattle.simulation.specs.Wellformed.{largest, first_fault, malformed, or_else}
 use Rattle.simulation.specs.Tick.{looped, tick}
-use Rattle.simulation.specs.Run.{Call, firing, input_width, total, signal_bytes, tick_bits, short, no_bit, wrong_count, wrong_fired, on_loop, first_of, refusal, verdict, answer, flat, is_one, ticked, bytes_after, run}
+use Rattle.simulation.specs.Run.{Ran, Call, answer_of, firing, input_width, total, signal_bytes, tick_bits, short, no_bit, wrong_count, wrong_fired, on_loop, first_of, refusal, verdict, answer, flat, is_one, ticked, bytes_after, run}
 use Rattle.simulation.specs.Shown.{Entry, entry_call}
 use Rattle.simulation.specs.Index.{records_in, widths_in}
 use Rattle.simulation.proofs.Found.{faultless, signals_count}
@@ -139,3 +139,8 @@ module _ (l : Lists) (h : malformed largest l ≡ None) (u : looped (model_of (r
       -- and leaves the same
       pub same_bytes : {bytes' : List ℕ} → RunsTick l.signals l.exprs l.stmts e.ticks e.fired a bytes bytes' → bytes' ≡ (run largest (entry_call l bytes e)).bytes
       same_bytes {bytes'} r = holds_same (subst (λ (o : Option (ℕ × ℕ)). Holds (widths_in l.signals) (after_tick m e.ticks e.fired o old) behind bytes') same_answer (r.runs old behind ho)) entry_holds
+
+-- a tick that is not refused is made
+pub ok_made : (r : Ran) → is_ok r ≡ is_made (answer_of r)
+ok_made (Ok u) = refl
+ok_made (Err x) = refl

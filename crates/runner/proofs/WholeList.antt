@@ -14,7 +14,7 @@ use Rattle.recorder.specs.Lists.{Lists, lists}
 use Rattle.recorder.specs.Record.{Model}
 use Rattle.recorder.specs.Read.{only, model_of}
 use Rattle.recorder.specs.Words.{raw_of}
-use Rattle.simulation.specs.declared.Ran.{Ran}
+use Rattle.simulation.specs.Run.{Ran}
 use Rattle.simulation.specs.Wellformed.{largest, malformed, or_else}
 use Rattle.simulation.specs.Tick.{looped}
 use Rattle.simulation.specs.Index.{records_in, widths_in, offset}
@@ -25,9 +25,6 @@ use Rattle.simulation.proofs.Steps.{length_widths}
 use Rattle.simulation.proofs.Found.{faultless, signals_count, exprs_count}
 use Rattle.simulation.proofs.Kept.{AllNone, all_none, short_none}
 use Rattle.simulation.proofs.Calls.{firsts_append, or_else_none, only_true, count_right, short_min, long_enough, bytes_same, bits_same, ticks_same, input_fits}
-use Rattle.ordering.specs.declared.Loop.{Loop}
-use Rattle.ordering.specs.declared.Loop.TheVariants.{At}
-use Rattle.ordering.specs.Loops.{loop_of}
 use Rattle.evaluation.specs.Ready.{model_in}
 use Rattle.evaluation.specs.Ticks.{signals_in, ReadSignals}
 use Rattle.runner.specs.Calls.{ListCall, list_model, entries, entries_of, output_width, output_bytes, list_causes, list_verdict, list_answer, list_outcome, ListOutcome, run_list, RunsList}
@@ -228,9 +225,9 @@ module _ {signals exprs stmts heads bytes wb we ws answers shown : List ℕ} (u 
   }
 
   -- a loop refuses every tick
-  pub stopped_loop : (x : ℕ) {found : Loop} → found ≡ At x → loop_of found ≡ looped (model_in signals exprs stmts) → (ahead behind : Ran) → answer_of ahead ≡ None → answer_of behind ≡ Some (13, x) → Stopped (lists signals exprs stmts) bytes (answer_of ahead) (answer_of behind)
+  pub stopped_loop : (x : ℕ) {found : Option ℕ} → found ≡ Some x → found ≡ looped (model_in signals exprs stmts) → (ahead behind : Ran) → answer_of ahead ≡ None → answer_of behind ≡ Some (13, x) → Stopped (lists signals exprs stmts) bytes (answer_of ahead) (answer_of behind)
   stopped_loop x {found} e f ahead behind n b =
-      let z : on_loop (looped (model_of (raw_of l₁))) ≡ Some (13, x) = ap on_loop (sym f ∙ ap loop_of e) in
+      let z : on_loop (looped (model_of (raw_of l₁))) ≡ Some (13, x) = ap on_loop (sym f ∙ e) in
       record {
         stops = λ own. ap₂ (λ (o p : Option (ℕ × ℕ)). among o own p) (n ∙ sym u.bits) (b ∙ sym z);
         refuses = λ own. ap₂ (λ (o p : Option (ℕ × ℕ)). is_made (among o own p)) n b ∙ never own;

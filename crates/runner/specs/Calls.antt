@@ -6,7 +6,7 @@ use Rattle.recorder.specs.Record.{Signal, Model}
 use Rattle.recorder.specs.Lists.{Lists, over}
 use Rattle.recorder.specs.Read.{model_of}
 use Rattle.recorder.specs.Words.{raw_of}
-use Rattle.simulation.specs.declared.Ran.{Ran}
+use Rattle.simulation.specs.Run.{Ran}
 use Rattle.simulation.specs.Wellformed.{largest, malformed}
 use Rattle.simulation.specs.Run.{Call, answer_of, run, answer, bytes_after, zeroed, flat, total, signal_bytes, expr_bits, tick_bits, short, first_of}
 use Rattle.simulation.specs.Shown.{Entry, ByModel, shown_by_model, bytes_after_all}

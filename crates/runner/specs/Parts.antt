@@ -11,7 +11,7 @@ use Rattle.simulation.specs.Index.{widths_in}
 use Rattle.simulation.specs.Tick.{Firing, settle, commit, tick, looped}
 use Rattle.simulation.specs.Run.{answer_of, is_one, firing, signal_bytes, expr_bits, tick_bits, no_bit, on_loop, first_of, bytes_after}
 use Rattle.simulation.specs.Fault.{tick_causes as causes_of_tick, call_of}
-use Rattle.simulation.specs.declared.Ran.{Ran}
+use Rattle.simulation.specs.Run.{Ran}
 use Rattle.simulation.specs.Shown.{Entry, ByModel, shown_by_model, bytes_after_all}
 use Rattle.evaluation.specs.Bytes.{Holds}
 use Rattle.evaluation.specs.Ready.{model_in}

@@ -6,7 +6,7 @@ use Rattle.simulation.specs.Index.{records_in, stmts_in}
 use Rattle.ordering.specs.Marks.{marked}
 use Rattle.evaluation.specs.Loads.{stmt_in}
 use Rattle.evaluation.specs.Ticks.{signals_in}
-use Rattle.evaluation.specs.Late.{Among, Output, PortsBefore, Asks, Loaded, Registers}
+use Rattle.evaluation.specs.Late.{Among, Output, Asks, Loaded, Registers}
 use Rattle.coding.specs.Coded.{bits_in, Coded}
 use Rattle.runner.specs.declared.code.Code.{Code}
 
@@ -59,8 +59,3 @@ module _ (signals exprs stmts : List ℕ) where
     pub loaded_coded : (e : ℕ) → Loaded stmts e → Among order (first_at n s) c.first e
     pub controls_coded : (x d : ℕ) → Among order (controls_at n s) c.controls x → given assigns (stmts_in stmts) x ≡ Some d → Among order (first_at n s) c.first d
     pub outputs_coded : (x d : ℕ) → Among order (outputs_at n s) c.outputs x → given assigns (stmts_in stmts) x ≡ Some d → Among order (second_at n s) c.second d
-
-  -- if there is one; where the ports end is known always
-  pub record Planning (n s : ℕ) (c : Code) (order values : List ℕ) : Type 0 where
-    pub ports : PortsBefore signals c.ports
-    pub planned : c.usable ≡ true → Planned n s c order values

@@ -4,7 +4,7 @@ use Rattle.std.specs.Prelude.{Option, None, Some}
 use Rattle.recorder.specs.Lists.{Lists, over}
 use Rattle.recorder.specs.Read.{model_of}
 use Rattle.recorder.specs.Words.{raw_of}
-use Rattle.simulation.specs.declared.Ran.{Ran}
+use Rattle.simulation.specs.Run.{Ran}
 use Rattle.simulation.specs.Wellformed.{largest, malformed, or_else}
 use Rattle.simulation.specs.Tick.{looped}
 use Rattle.simulation.specs.Run.{answer_of, total, signal_bytes, short, no_bit, on_loop, first_of}

@@ -6,17 +6,6 @@ ghost use Rattle.recorder.specs.Lists.{over};
 ghost use Rattle.simulation.specs.Run.{is_one};
 ghost use Rattle.evaluation.specs.Bytes.{part, same_bytes, gate_of};
 
-fn copy_more(to: &mut [u8], at: usize, from: &[u8], start: usize, n: usize)
-    requires { (at + n ≤ length to.old) × (start + n ≤ length from.now) }
-    ensures { to.new ≡ over to.old at (part from.now start n) }
-{
-    let mut i = 0;
-    while i < n {
-        to[at + i] = from[start + i];
-        i += 1;
-    }
-}
-
 // Copies n bytes from one slice to another. Most are one bit, for which a loop is slow.
 pub fn copy(to: &mut [u8], at: usize, from: &[u8], start: usize, n: usize)
     requires { (at + n ≤ length to.old) × (start + n ≤ length from.now) }
@@ -26,30 +15,19 @@ pub fn copy(to: &mut [u8], at: usize, from: &[u8], start: usize, n: usize)
         to[at] = from[start];
         return;
     }
-    copy_more(to, at, from, start, n);
+    to[at..at + n].copy_from_slice(&from[start..start + n]);
 }
 
-fn move_more(bytes: &mut [u8], at: usize, start: usize, n: usize)
-    requires { (at + n ≤ length bytes.old) × (start + n ≤ length bytes.old) × ((start + n ≤ at) ⊎ (at ≤ start)) }
-    ensures { bytes.new ≡ over bytes.old at (part bytes.old start n) }
-{
-    let mut i = 0;
-    while i < n {
-        bytes[at + i] = bytes[start + i];
-        i += 1;
-    }
-}
-
-// Copies n bytes within a slice, to a place behind them or not behind their first.
+// Copies n bytes within a slice.
 pub fn copy_within(bytes: &mut [u8], at: usize, start: usize, n: usize)
-    requires { (at + n ≤ length bytes.old) × (start + n ≤ length bytes.old) × ((start + n ≤ at) ⊎ (at ≤ start)) }
+    requires { (at + n ≤ length bytes.old) × (start + n ≤ length bytes.old) }
     ensures { bytes.new ≡ over bytes.old at (part bytes.old start n) }
 {
     if n == 1 {
         bytes[at] = bytes[start];
         return;
     }
-    move_more(bytes, at, start, n);
+    bytes.copy_within(start..start + n, at);
 }
 
 // The lowest n bits of a number.
@@ -58,11 +36,9 @@ pub fn put_number(bytes: &mut [u8], at: usize, n: usize, v: u64)
     ensures { bytes.new ≡ over bytes.old at (map digit (binary n v)) }
 {
     let mut x = v;
-    let mut i = 0;
-    while i < n {
+    for i in 0..n {
         bytes[at + i] = (x % 2) as u8;
         x = x / 2;
-        i += 1;
     }
 }
 
@@ -71,14 +47,7 @@ pub fn equal(bytes: &[u8], a: usize, b: usize, n: usize) -> bool
     requires { (a + n ≤ length bytes.now) × (b + n ≤ length bytes.now) }
     ensures { result ≡ same_bytes (part bytes.now a n) (part bytes.now b n) }
 {
-    let mut i = 0;
-    while i < n {
-        if bytes[a + i] != bytes[b + i] {
-            return false;
-        }
-        i += 1;
-    }
-    true
+    bytes[a..a + n] == bytes[b..b + n]
 }
 
 fn bit(b: u8) -> u64

@@ -2,7 +2,7 @@
 // fusing); one piece for what registers load and ask for, one for the outputs. What is wanted is only guessed; what is used is checked, and
 // where a check fails there is no code.
 ghost use Rattle.std.specs.Prelude.{◌≡◌, Bool, true, false, List, ℕ, ◌+◌, ◌*◌, ◌≤◌, ◌<◌, length, get_or, take, drop, set};
-ghost use Rattle.std.specs.Prelude.{Some};
+ghost use Rattle.std.specs.Prelude.{Some, IfSome};
 ghost use Rattle.simulation.specs.Tick.{given, assigns};
 ghost use Rattle.simulation.specs.Index.{records_in, widths_in, start_of, stmts_in, Starts, Driven};
 ghost use Rattle.ordering.specs.Words.{Tabled};
@@ -10,27 +10,23 @@ ghost use Rattle.ordering.specs.Marks.{marked};
 ghost use Rattle.evaluation.specs.Ready.{Prepared, model_in};
 ghost use Rattle.evaluation.specs.Ticks.{Ordered};
 ghost use Rattle.evaluation.specs.Loads.{stmt_in, Stated, Begins, Names};
-ghost use Rattle.evaluation.specs.Late.{Among, PortsBefore, Loaded, Registers};
+ghost use Rattle.evaluation.specs.Late.{Among, Loaded, Registers};
 ghost use Rattle.fusing.specs.Form.{Formed};
 ghost use Rattle.coding.specs.Coded.{bits_in, Computable, Coded};
 ghost use Rattle.coding.specs.Emitting.{Unplaced, Placed, Places, MarksLoaded, MarksDrivers, Emitting, Emits, EmitsAll};
-ghost use Rattle.runner.specs.Plan.{Planning};
+ghost use Rattle.runner.specs.Plan.{Planned};
 
 use crate::lists::{list_controls, list_outputs, list_registers};
 use crate::marks::{driver_marked, is_marked, ready};
-use crate::show::ports_end;
-use crate::tables::offset;
+use crate::tables::Model;
 use fusing::fill_forms;
+use simulation::index;
 use simulation::index::{field, plus, size, wide};
-use simulation::zero::zero_bytes;
-use simulation::{Driver, index};
 
-// Whether there is code; a word before which all ports begin; the bits of all expressions, and of all signals; how many registers, signals that they ask for and outputs are
-// listed; how many words the two pieces of code have; how much of the order is lent.
+// The bits of all expressions, and of all signals; how many registers, signals that they ask for and outputs are listed; how many words the two
+// pieces have.
 #[derive(Clone, Copy)]
 pub struct Code {
-    pub usable: bool,
-    pub ports: usize,
     pub base: usize,
     pub state: usize,
     pub registers: usize,
@@ -38,6 +34,12 @@ pub struct Code {
     pub outputs: usize,
     pub first: usize,
     pub second: usize,
+}
+
+// Code, if there is any, and how much of the order is lent.
+#[derive(Clone, Copy)]
+pub struct Plan {
+    pub code: Option<Code>,
     pub used: usize,
 }
 
@@ -52,17 +54,17 @@ fn want(values: &mut [u8], p: usize)
     }
 }
 
-fn want_expr(exprs: &[u32], expr_table: &[u32], e: u32, values: &mut [u8])
+fn want_expr(m: &Model, e: u32, values: &mut [u8])
     requires { Unplaced values.old }
     ensures { Unplaced values.new }
 {
-    want(values, index::offset(exprs, expr_table, wide(e)));
+    want(values, index::offset(m.exprs, m.expr_table, wide(e)));
 }
 
 // Some position of expression e is wanted.
-fn wanted(exprs: &[u32], expr_table: &[u32], values: &[u8], e: usize) -> bool {
-    let end = index::offset(exprs, expr_table, plus(e, 1));
-    let mut p = index::offset(exprs, expr_table, e);
+fn wanted(m: &Model, values: &[u8], e: usize) -> bool {
+    let end = index::offset(m.exprs, m.expr_table, plus(e, 1));
+    let mut p = index::offset(m.exprs, m.expr_table, e);
     while p < end {
         if p >= values.len() {
             return false;
@@ -76,116 +78,73 @@ fn wanted(exprs: &[u32], expr_table: &[u32], values: &[u8], e: usize) -> bool {
 }
 
 // What a statement names.
-fn want_stmt(
-    exprs: &[u32],
-    expr_table: &[u32],
-    stmts: &[u32],
-    at: usize,
-    size: usize,
-    values: &mut [u8],
-)
+fn want_stmt(m: &Model, at: usize, size: usize, values: &mut [u8])
     requires { Unplaced values.old }
     ensures { Unplaced values.new }
 {
-    want_expr(exprs, expr_table, field(stmts, at, size, 2), values);
-    if field(stmts, at, size, 0) != 1 {
+    want_expr(m, field(m.stmts, at, size, 2), values);
+    if field(m.stmts, at, size, 0) != 1 {
         return;
     }
-    if field(stmts, at, size, 5) == 0 {
+    if field(m.stmts, at, size, 5) == 0 {
         return;
     }
-    want_expr(exprs, expr_table, field(stmts, at, size, 8), values);
+    want_expr(m, field(m.stmts, at, size, 8), values);
 }
 
 // What the statements name that begin at k words of a list.
-fn want_loads(
-    exprs: &[u32],
-    expr_table: &[u32],
-    stmts: &[u32],
-    order: &[u32],
-    from: usize,
-    k: usize,
-    values: &mut [u8],
-)
+fn want_loads(m: &Model, order: &[u32], from: usize, k: usize, values: &mut [u8])
     requires { (from + k ≤ length order.now) × Unplaced values.old }
     ensures { Unplaced values.new }
 {
-    let mut j: usize = 0;
-    while j < k {
+    for j in 0..k {
         let at = wide(order[from + j]);
-        let size = size(stmts, at);
-        want_stmt(exprs, expr_table, stmts, at, size, values);
-        j += 1;
+        let size = size(m.stmts, at);
+        want_stmt(m, at, size, values);
     }
 }
 
 // What is assigned to signal s.
-fn want_driver(
-    exprs: &[u32],
-    expr_table: &[u32],
-    stmts: &[u32],
-    driver_table: &[u32],
-    s: usize,
-    values: &mut [u8],
-)
+fn want_driver(m: &Model, s: usize, values: &mut [u8])
     requires { Unplaced values.old }
     ensures { Unplaced values.new }
 {
-    match index::driver(stmts, driver_table, s) {
-        Driver::By(d) => want_expr(exprs, expr_table, d, values),
-        Driver::None => {}
+    match m.driver(s) {
+        Some(d) => want_expr(m, d, values),
+        None => {}
     }
 }
 
 // What is assigned to k signals of a list.
-fn want_drivers(
-    exprs: &[u32],
-    expr_table: &[u32],
-    stmts: &[u32],
-    driver_table: &[u32],
-    order: &[u32],
-    from: usize,
-    k: usize,
-    values: &mut [u8],
-)
+fn want_drivers(m: &Model, order: &[u32], from: usize, k: usize, values: &mut [u8])
     requires { (from + k ≤ length order.now) × Unplaced values.old }
     ensures { Unplaced values.new }
 {
-    let mut j: usize = 0;
-    while j < k {
+    for j in 0..k {
         let s = wide(order[from + j]);
-        want_driver(exprs, expr_table, stmts, driver_table, s, values);
-        j += 1;
+        want_driver(m, s, values);
     }
 }
 
 // The operands of expression e; of a read what is assigned to its signal.
-fn want_operands(
-    exprs: &[u32],
-    stmts: &[u32],
-    starts: &[u32],
-    expr_table: &[u32],
-    driver_table: &[u32],
-    e: usize,
-    values: &mut [u8],
-)
+fn want_operands(m: &Model, e: usize, values: &mut [u8])
     requires { Unplaced values.old }
     ensures { Unplaced values.new }
 {
-    let at = index::start(exprs, starts, e);
-    let size = size(exprs, at);
-    let kind = field(exprs, at, size, 0);
+    let at = index::start(m.exprs, m.starts, e);
+    let size = size(m.exprs, at);
+    let kind = field(m.exprs, at, size, 0);
     if kind == 0 {
         return;
     }
     if kind == 1 {
-        let s = wide(field(exprs, at, size, 2));
-        want_driver(exprs, expr_table, stmts, driver_table, s, values);
+        let s = wide(field(m.exprs, at, size, 2));
+        want_driver(m, s, values);
         return;
     }
     let mut i: usize = 3;
     while i < size {
-        want_expr(exprs, expr_table, field(exprs, at, size, i - 1), values);
+        want_expr(m, field(m.exprs, at, size, i - 1), values);
         i += 1;
     }
 }
@@ -202,62 +161,33 @@ fn want_form(order: &[u32], at: usize, values: &mut [u8])
 }
 
 // What expression e is computed from, if it is wanted.
-fn want_inputs(
-    exprs: &[u32],
-    stmts: &[u32],
-    starts: &[u32],
-    expr_table: &[u32],
-    driver_table: &[u32],
-    order: &[u32],
-    n: usize,
-    e: usize,
-    values: &mut [u8],
-)
-    requires { (7 * n ≤ length order.now) × Unplaced values.old }
+fn want_inputs(m: &Model, order: &[u32], e: usize, values: &mut [u8])
+    requires { (7 * m.now.expr_count ≤ length order.now) × Unplaced values.old }
     ensures { Unplaced values.new }
 {
-    if e >= n {
+    if e >= m.expr_count {
         return;
     }
-    if !wanted(exprs, expr_table, values, e) {
+    if !wanted(m, values, e) {
         return;
     }
-    let at = n + 6 * e;
+    let at = m.expr_count + 6 * e;
     if order[at] < 65536 {
         want_form(order, at, values);
         return;
     }
-    want_operands(exprs, stmts, starts, expr_table, driver_table, e, values);
+    want_operands(m, e, values);
 }
 
 // Against the order: what wants others is met before them.
-fn want_needed(
-    exprs: &[u32],
-    stmts: &[u32],
-    starts: &[u32],
-    expr_table: &[u32],
-    driver_table: &[u32],
-    order: &[u32],
-    n: usize,
-    values: &mut [u8],
-)
-    requires { (7 * n ≤ length order.now) × Unplaced values.old }
+fn want_needed(m: &Model, order: &[u32], values: &mut [u8])
+    requires { (7 * m.now.expr_count ≤ length order.now) × Unplaced values.old }
     ensures { Unplaced values.new }
 {
-    let mut i = n;
+    let mut i = m.expr_count;
     while i > 0 {
         i -= 1;
-        want_inputs(
-            exprs,
-            stmts,
-            starts,
-            expr_table,
-            driver_table,
-            order,
-            n,
-            wide(order[i]),
-            values,
-        );
+        want_inputs(m, order, wide(order[i]), values);
     }
 }
 
@@ -277,24 +207,20 @@ fn placed(values: &[u8], p: usize, base: usize, top: usize) -> bool
 
 // What expression e is computed from is known.
 fn computable(
-    exprs: &[u32],
-    stmts: &[u32],
-    starts: &[u32],
-    driver_table: &[u32],
+    m: &Model,
     order: &[u32],
-    n: usize,
     base: usize,
     top: usize,
     values: &[u8],
     marks: &[u8],
     e: usize,
 ) -> bool
-    requires { Tabled exprs.now starts.now stmts.now driver_table.now × (e < length (records_in exprs.now)) × (n ≡ length (records_in exprs.now)) × (7 * n ≤ length order.now) × (base ≡ bits_in exprs.now) }
-    ensures { (signals : List ℕ) (from k : ℕ) → top ≡ bits_in exprs.now + bits_in signals → Emitting signals exprs.now stmts.now n from k order.now values.now marks.now → result ≡ true → Computable signals exprs.now stmts.now (Among order.now from k) (drop n order.now) e }
+    requires { (e < length (records_in m.now.exprs.now)) × (7 * m.now.expr_count ≤ length order.now) × (base ≡ bits_in m.now.exprs.now) }
+    ensures { (signals : List ℕ) (from k : ℕ) → top ≡ bits_in m.now.exprs.now + bits_in signals → Emitting signals m.now.exprs.now m.now.stmts.now m.now.expr_count from k order.now values.now marks.now → result ≡ true → Computable signals m.now.exprs.now m.now.stmts.now (Among order.now from k) (drop m.now.expr_count order.now) e }
 {
-    let at = n + 6 * e;
+    let at = m.expr_count + 6 * e;
     if order[at] >= 65536 {
-        return ready(exprs, starts, stmts, driver_table, marks, e);
+        return ready(m, marks, e);
     }
     if !placed(values, wide(order[at + 2]), base, top) {
         return false;
@@ -323,12 +249,7 @@ fn place(values: &mut [u8], from: usize, end: usize)
 
 // Expression e becomes code word k.
 fn put(
-    signals: &[u32],
-    exprs: &[u32],
-    stmts: &[u32],
-    expr_table: &[u32],
-    signal_table: &[u32],
-    n: usize,
+    m: &Model,
     from: usize,
     k: usize,
     e: u32,
@@ -336,28 +257,21 @@ fn put(
     values: &mut [u8],
     marks: &mut [u8],
 )
-    requires { Prepared signals.now exprs.now stmts.now expr_table.now signal_table.now × (n ≡ length (records_in exprs.now)) × (n ≤ length marks.old) × (bits_in exprs.now ≤ length values.old) × Emitting signals.now exprs.now stmts.now n from k order.old values.old marks.old × (k < n) × Computable signals.now exprs.now stmts.now (Among order.old from k) (drop n order.old) e }
-    ensures emitted { Emitting signals.now exprs.now stmts.now n from (k + 1) order.new values.new marks.new }
+    requires { (m.now.expr_count ≤ length marks.old) × (bits_in m.now.exprs.now ≤ length values.old) × Emitting m.now.signals.now m.now.exprs.now m.now.stmts.now m.now.expr_count from k order.old values.old marks.old × (k < m.now.expr_count) × Computable m.now.signals.now m.now.exprs.now m.now.stmts.now (Among order.old from k) (drop m.now.expr_count order.old) e }
+    ensures emitted { Emitting m.now.signals.now m.now.exprs.now m.now.stmts.now m.now.expr_count from (k + 1) order.new values.new marks.new }
     ensures kept { take from order.new ≡ take from order.old }
 {
     order[from + k] = e;
     let x = wide(e);
-    let begin = offset(exprs, expr_table, x);
-    let end = offset(exprs, expr_table, x + 1);
+    let begin = m.expr_offset(x);
+    let end = m.expr_offset(x + 1);
     place(values, begin, end);
     marks[x] = 1;
 }
 
 // Number i of the order becomes code word k, if it is wanted. How many code words there are then, or one past n.
 fn emit(
-    signals: &[u32],
-    exprs: &[u32],
-    stmts: &[u32],
-    starts: &[u32],
-    expr_table: &[u32],
-    signal_table: &[u32],
-    driver_table: &[u32],
-    n: usize,
+    m: &Model,
     from: usize,
     base: usize,
     top: usize,
@@ -367,59 +281,27 @@ fn emit(
     values: &mut [u8],
     marks: &mut [u8],
 ) -> usize
-    requires { Prepared signals.now exprs.now stmts.now expr_table.now signal_table.now × Tabled exprs.now starts.now stmts.now driver_table.now × (n ≡ length (records_in exprs.now)) × (n ≤ length marks.old) × (base ≡ bits_in exprs.now) × (top ≡ bits_in exprs.now + bits_in signals.now) × (base ≤ length values.old) × Emitting signals.now exprs.now stmts.now n from k order.old values.old marks.old × (k ≤ i) × (i < n) }
-    ensures { Emits signals.now exprs.now stmts.now n from k result order.old order.new values.new marks.new }
+    requires { (m.now.expr_count ≤ length marks.old) × (base ≡ bits_in m.now.exprs.now) × (top ≡ bits_in m.now.exprs.now + bits_in m.now.signals.now) × (base ≤ length values.old) × Emitting m.now.signals.now m.now.exprs.now m.now.stmts.now m.now.expr_count from k order.old values.old marks.old × (k ≤ i) × (i < m.now.expr_count) }
+    ensures { Emits m.now.signals.now m.now.exprs.now m.now.stmts.now m.now.expr_count from k result order.old order.new values.new marks.new }
 {
     let word = order[i];
     let e = wide(word);
-    if e >= n {
+    if e >= m.expr_count {
         return k;
     }
-    if !wanted(exprs, expr_table, values, e) {
+    if !wanted(m, values, e) {
         return k;
     }
-    if !computable(
-        exprs,
-        stmts,
-        starts,
-        driver_table,
-        order,
-        n,
-        base,
-        top,
-        values,
-        marks,
-        e,
-    ) {
-        return n + 1;
+    if !computable(m, order, base, top, values, marks, e) {
+        return m.expr_count + 1;
     }
-    put(
-        signals,
-        exprs,
-        stmts,
-        expr_table,
-        signal_table,
-        n,
-        from,
-        k,
-        word,
-        order,
-        values,
-        marks,
-    );
+    put(m, from, k, word, order, values, marks);
     k + 1
 }
 
 // All that are wanted: how many code words, or one past n.
 fn emit_all(
-    signals: &[u32],
-    exprs: &[u32],
-    stmts: &[u32],
-    starts: &[u32],
-    expr_table: &[u32],
-    signal_table: &[u32],
-    driver_table: &[u32],
-    n: usize,
+    m: &Model,
     from: usize,
     base: usize,
     top: usize,
@@ -427,111 +309,67 @@ fn emit_all(
     values: &mut [u8],
     marks: &mut [u8],
 ) -> usize
-    requires { Prepared signals.now exprs.now stmts.now expr_table.now signal_table.now × Tabled exprs.now starts.now stmts.now driver_table.now × (n ≡ length (records_in exprs.now)) × (n ≤ length marks.old) × (base ≡ bits_in exprs.now) × (top ≡ bits_in exprs.now + bits_in signals.now) × (base ≤ length values.old) × Emitting signals.now exprs.now stmts.now n from 0 order.old values.old marks.old }
-    ensures { EmitsAll signals.now exprs.now stmts.now n from result order.old order.new values.new marks.new }
+    requires { (m.now.expr_count ≤ length marks.old) × (base ≡ bits_in m.now.exprs.now) × (top ≡ bits_in m.now.exprs.now + bits_in m.now.signals.now) × (base ≤ length values.old) × Emitting m.now.signals.now m.now.exprs.now m.now.stmts.now m.now.expr_count from 0 order.old values.old marks.old }
+    ensures { EmitsAll m.now.signals.now m.now.exprs.now m.now.stmts.now m.now.expr_count from result order.old order.new values.new marks.new }
 {
     let mut k: usize = 0;
-    let mut i: usize = 0;
-    while i < n {
-        k = emit(
-            signals,
-            exprs,
-            stmts,
-            starts,
-            expr_table,
-            signal_table,
-            driver_table,
-            n,
-            from,
-            base,
-            top,
-            i,
-            k,
-            order,
-            values,
-            marks,
-        );
-        if k > n {
+    for i in 0..m.expr_count {
+        k = emit(m, from, base, top, i, k, order, values, marks);
+        if k > m.expr_count {
             return k;
         }
-        i += 1;
     }
     k
 }
 
 // What the statement at a word names is marked.
-fn named(signals: &[u32], stmts: &[u32], at: usize, marks: &[u8]) -> bool
-    requires { Stated signals.now stmts.now × Begins stmts.now at }
-    ensures { result ≡ true → (k : ℕ) → k < length (records_in stmts.now) → at ≡ start_of stmts.now k → (x : ℕ) → Names (stmt_in stmts.now k) x → marked marks.now x ≡ true }
+fn named(m: &Model, at: usize, marks: &[u8]) -> bool
+    requires { Begins m.now.stmts.now at }
+    ensures { result ≡ true → (k : ℕ) → k < length (records_in m.now.stmts.now) → at ≡ start_of m.now.stmts.now k → (x : ℕ) → Names (stmt_in m.now.stmts.now k) x → marked marks.now x ≡ true }
 {
-    if !is_marked(marks, wide(stmts[at + 3])) {
+    if !is_marked(marks, wide(m.stmts[at + 3])) {
         return false;
     }
-    if stmts[at + 1] != 1 {
+    if m.stmts[at + 1] != 1 {
         return true;
     }
-    if stmts[at + 6] == 0 {
+    if m.stmts[at + 6] == 0 {
         return true;
     }
-    is_marked(marks, wide(stmts[at + 9]))
+    is_marked(marks, wide(m.stmts[at + 9]))
 }
 
 // What the registers that begin at k words of a list load is marked.
-fn loads_marked(
-    signals: &[u32],
-    stmts: &[u32],
-    order: &[u32],
-    from: usize,
-    k: usize,
-    marks: &[u8],
-) -> bool
-    requires { Stated signals.now stmts.now × (from + k ≤ length order.now) × Registers stmts.now order.now from k }
-    ensures { result ≡ true → MarksLoaded stmts.now marks.now }
+fn loads_marked(m: &Model, order: &[u32], from: usize, k: usize, marks: &[u8]) -> bool
+    requires { (from + k ≤ length order.now) × Registers m.now.stmts.now order.now from k }
+    ensures { result ≡ true → MarksLoaded m.now.stmts.now marks.now }
 {
-    let mut j: usize = 0;
-    while j < k {
-        if !named(signals, stmts, wide(order[from + j]), marks) {
+    for j in 0..k {
+        if !named(m, wide(order[from + j]), marks) {
             return false;
         }
-        j += 1;
     }
     true
 }
 
 // What is assigned to k signals of a list is marked.
-fn drivers_marked(
-    stmts: &[u32],
-    driver_table: &[u32],
-    order: &[u32],
-    from: usize,
-    k: usize,
-    marks: &[u8],
-) -> bool
-    requires { Driven stmts.now driver_table.now × (from + k ≤ length order.now) }
-    ensures { result ≡ true → MarksDrivers stmts.now order.now from k marks.now }
+fn drivers_marked(m: &Model, order: &[u32], from: usize, k: usize, marks: &[u8]) -> bool
+    requires { from + k ≤ length order.now }
+    ensures { result ≡ true → MarksDrivers m.now.stmts.now order.now from k marks.now }
 {
-    let mut j: usize = 0;
-    while j < k {
-        if !driver_marked(stmts, driver_table, marks, wide(order[from + j]), true) {
+    for j in 0..k {
+        if !driver_marked(m, marks, wide(order[from + j]), true) {
             return false;
         }
-        j += 1;
     }
     true
 }
 
 // THE TWO PIECES
 
-// Code for what the listed registers load and what is assigned to the listed signals, from a word on behind the lists: how many words, or one past n. Values and marks are work.
+// Code for what the listed registers load and what is assigned to the listed signals, from a word on behind the lists: how many words. Values and marks are work.
 fn first_code(
-    signals: &[u32],
-    exprs: &[u32],
-    stmts: &[u32],
-    starts: &[u32],
-    expr_table: &[u32],
-    signal_table: &[u32],
-    driver_table: &[u32],
-    n: usize,
+    m: &Model,
     from: usize,
     base: usize,
     top: usize,
@@ -542,74 +380,35 @@ fn first_code(
     order: &mut [u32],
     values: &mut [u8],
     marks: &mut [u8],
-) -> usize
-    requires { Prepared signals.now exprs.now stmts.now expr_table.now signal_table.now × Starts exprs.now starts.now × Driven stmts.now driver_table.now × (n ≡ length (records_in exprs.now)) × (n ≤ length marks.old) × (base ≡ bits_in exprs.now) × (top ≡ bits_in exprs.now + bits_in signals.now) × (base ≤ length values.old) × (7 * n ≤ from) × (from + n ≤ length order.old) × Formed signals.now exprs.now stmts.now (drop n order.old) n × (loads + registers ≤ from) × Registers stmts.now order.old loads registers × (asked + controls ≤ from) }
+) -> Option<usize>
+    requires { (m.now.expr_count ≤ length marks.old) × (base ≡ bits_in m.now.exprs.now) × (top ≡ bits_in m.now.exprs.now + bits_in m.now.signals.now) × (base ≤ length values.old) × (7 * m.now.expr_count ≤ from) × (from + m.now.expr_count ≤ length order.old) × Formed m.now.signals.now m.now.exprs.now m.now.stmts.now (drop m.now.expr_count order.old) m.now.expr_count × (loads + registers ≤ from) × Registers m.now.stmts.now order.old loads registers × (asked + controls ≤ from) }
     ensures kept { take from order.new ≡ take from order.old }
-    ensures coded { result ≤ n → Coded signals.now exprs.now stmts.now n from result order.new }
-    ensures loaded { result ≤ n → (e : ℕ) → Loaded stmts.now e → Among order.new from result e }
-    ensures driven { result ≤ n → (x d : ℕ) → Among order.new asked controls x → given assigns (stmts_in stmts.now) x ≡ Some d → Among order.new from result d }
+    ensures few { IfSome result (λ k. k ≤ m.now.expr_count) }
+    ensures coded { IfSome result (λ k. Coded m.now.signals.now m.now.exprs.now m.now.stmts.now m.now.expr_count from k order.new) }
+    ensures loaded { IfSome result (λ k. (e : ℕ) → Loaded m.now.stmts.now e → Among order.new from k e) }
+    ensures driven { IfSome result (λ k. (x d : ℕ) → Among order.new asked controls x → given assigns (stmts_in m.now.stmts.now) x ≡ Some d → Among order.new from k d) }
 {
-    zero_bytes(values);
-    want_loads(exprs, expr_table, stmts, order, loads, registers, values);
-    want_drivers(
-        exprs,
-        expr_table,
-        stmts,
-        driver_table,
-        order,
-        asked,
-        controls,
-        values,
-    );
-    want_needed(
-        exprs,
-        stmts,
-        starts,
-        expr_table,
-        driver_table,
-        order,
-        n,
-        values,
-    );
-    zero_bytes(marks);
-    let k = emit_all(
-        signals,
-        exprs,
-        stmts,
-        starts,
-        expr_table,
-        signal_table,
-        driver_table,
-        n,
-        from,
-        base,
-        top,
-        order,
-        values,
-        marks,
-    );
-    if k > n {
-        return k;
+    values.fill(0);
+    want_loads(m, order, loads, registers, values);
+    want_drivers(m, order, asked, controls, values);
+    want_needed(m, order, values);
+    marks.fill(0);
+    let k = emit_all(m, from, base, top, order, values, marks);
+    if k > m.expr_count {
+        return None;
     }
-    if !loads_marked(signals, stmts, order, loads, registers, marks) {
-        return n + 1;
+    if !loads_marked(m, order, loads, registers, marks) {
+        return None;
     }
-    if !drivers_marked(stmts, driver_table, order, asked, controls, marks) {
-        return n + 1;
+    if !drivers_marked(m, order, asked, controls, marks) {
+        return None;
     }
-    k
+    Some(k)
 }
 
 // Code for what is assigned to the listed signals alone.
 fn second_code(
-    signals: &[u32],
-    exprs: &[u32],
-    stmts: &[u32],
-    starts: &[u32],
-    expr_table: &[u32],
-    signal_table: &[u32],
-    driver_table: &[u32],
-    n: usize,
+    m: &Model,
     from: usize,
     base: usize,
     top: usize,
@@ -618,149 +417,71 @@ fn second_code(
     order: &mut [u32],
     values: &mut [u8],
     marks: &mut [u8],
-) -> usize
-    requires { Prepared signals.now exprs.now stmts.now expr_table.now signal_table.now × Starts exprs.now starts.now × Driven stmts.now driver_table.now × (n ≡ length (records_in exprs.now)) × (n ≤ length marks.old) × (base ≡ bits_in exprs.now) × (top ≡ bits_in exprs.now + bits_in signals.now) × (base ≤ length values.old) × (7 * n ≤ from) × (from + n ≤ length order.old) × Formed signals.now exprs.now stmts.now (drop n order.old) n × (shown + outputs ≤ from) }
+) -> Option<usize>
+    requires { (m.now.expr_count ≤ length marks.old) × (base ≡ bits_in m.now.exprs.now) × (top ≡ bits_in m.now.exprs.now + bits_in m.now.signals.now) × (base ≤ length values.old) × (7 * m.now.expr_count ≤ from) × (from + m.now.expr_count ≤ length order.old) × Formed m.now.signals.now m.now.exprs.now m.now.stmts.now (drop m.now.expr_count order.old) m.now.expr_count × (shown + outputs ≤ from) }
     ensures kept { take from order.new ≡ take from order.old }
-    ensures coded { result ≤ n → Coded signals.now exprs.now stmts.now n from result order.new }
-    ensures driven { result ≤ n → (x d : ℕ) → Among order.new shown outputs x → given assigns (stmts_in stmts.now) x ≡ Some d → Among order.new from result d }
+    ensures few { IfSome result (λ k. k ≤ m.now.expr_count) }
+    ensures coded { IfSome result (λ k. Coded m.now.signals.now m.now.exprs.now m.now.stmts.now m.now.expr_count from k order.new) }
+    ensures driven { IfSome result (λ k. (x d : ℕ) → Among order.new shown outputs x → given assigns (stmts_in m.now.stmts.now) x ≡ Some d → Among order.new from k d) }
 {
-    zero_bytes(values);
-    want_drivers(
-        exprs,
-        expr_table,
-        stmts,
-        driver_table,
-        order,
-        shown,
-        outputs,
-        values,
-    );
-    want_needed(
-        exprs,
-        stmts,
-        starts,
-        expr_table,
-        driver_table,
-        order,
-        n,
-        values,
-    );
-    zero_bytes(marks);
-    let k = emit_all(
-        signals,
-        exprs,
-        stmts,
-        starts,
-        expr_table,
-        signal_table,
-        driver_table,
-        n,
-        from,
-        base,
-        top,
-        order,
-        values,
-        marks,
-    );
-    if k > n {
-        return k;
+    values.fill(0);
+    want_drivers(m, order, shown, outputs, values);
+    want_needed(m, order, values);
+    marks.fill(0);
+    let k = emit_all(m, from, base, top, order, values, marks);
+    if k > m.expr_count {
+        return None;
     }
-    if !drivers_marked(stmts, driver_table, order, shown, outputs, marks) {
-        return n + 1;
+    if !drivers_marked(m, order, shown, outputs, marks) {
+        return None;
     }
-    k
-}
-
-// No code; so much of the order is lent.
-fn none(used: usize, ports: usize) -> Code
-    ensures { (result.usable ≡ false) × (result.used ≡ used) × (result.ports ≡ ports) }
-{
-    Code {
-        usable: false,
-        ports: ports,
-        base: 0,
-        state: 0,
-        registers: 0,
-        controls: 0,
-        outputs: 0,
-        first: 0,
-        second: 0,
-        used: used,
-    }
+    Some(k)
 }
 
 // Forms, lists and code in a table with room for them. Values and both marks are work.
 fn encode_in(
-    signals: &[u32],
-    exprs: &[u32],
-    stmts: &[u32],
-    starts: &[u32],
-    expr_table: &[u32],
-    signal_table: &[u32],
-    driver_table: &[u32],
-    n: usize,
-    count: usize,
+    m: &Model,
     base: usize,
     state: usize,
     order: &mut [u32],
     values: &mut [u8],
     marks: &mut [u8],
     asked: &mut [u8],
-    ports: usize,
-) -> Code
-    requires { Prepared signals.now exprs.now stmts.now expr_table.now signal_table.now × Starts exprs.now starts.now × Driven stmts.now driver_table.now × (n ≡ length (records_in exprs.now)) × (count ≡ length (records_in signals.now)) × (n ≤ length marks.old) × (count ≤ length asked.old) × (base ≡ bits_in exprs.now) × (state ≡ bits_in signals.now) × (base + state ≤ length values.old) × (9 * n + 3 * count ≤ length order.old) × PortsBefore signals.now ports }
-    ensures planned { Planning signals.now exprs.now stmts.now n count result order.new values.new }
-    ensures kept { take n order.new ≡ take n order.old }
-    ensures used { result.used ≡ length order.old }
+) -> Option<Code>
+    requires { (m.now.expr_count ≤ length marks.old) × (m.now.signal_count ≤ length asked.old) × (base ≡ bits_in m.now.exprs.now) × (state ≡ bits_in m.now.signals.now) × (base + state ≤ length values.old) × (9 * m.now.expr_count + 3 * m.now.signal_count ≤ length order.old) }
+    ensures planned { IfSome result (λ c. Planned m.now.signals.now m.now.exprs.now m.now.stmts.now m.now.expr_count m.now.signal_count c order.new values.new) }
+    ensures kept { take m.now.expr_count order.new ≡ take m.now.expr_count order.old }
 {
-    let all = order.len();
     fill_forms(
-        signals,
-        exprs,
-        stmts,
-        starts,
-        expr_table,
-        signal_table,
-        driver_table,
-        n,
-        n,
+        m.signals,
+        m.exprs,
+        m.stmts,
+        m.starts,
+        m.expr_table,
+        m.signal_table,
+        m.driver_table,
+        m.expr_count,
+        m.expr_count,
         order,
     );
-    let loads = 7 * n;
-    let registers = list_registers(signals, stmts, order, loads, count);
-    if registers > count {
-        return none(all, ports);
-    }
-    let controls_at = loads + count;
+    let loads = 7 * m.expr_count;
+    let registers = list_registers(m, order, loads, m.signal_count)?;
+    let controls_at = loads + m.signal_count;
     let controls = list_controls(
-        signals,
-        stmts,
+        m,
         order,
         loads,
         registers,
         controls_at,
-        count,
+        m.signal_count,
         asked,
-    );
-    if controls > count {
-        return none(all, ports);
-    }
-    let outputs_at = controls_at + count;
-    let outputs = list_outputs(signals, order, outputs_at, count);
-    if outputs > count {
-        return none(all, ports);
-    }
-    let first_at = outputs_at + count;
+    )?;
+    let outputs_at = controls_at + m.signal_count;
+    let outputs = list_outputs(m, order, outputs_at, m.signal_count)?;
+    let first_at = outputs_at + m.signal_count;
     let top = base + state;
     let first = first_code(
-        signals,
-        exprs,
-        stmts,
-        starts,
-        expr_table,
-        signal_table,
-        driver_table,
-        n,
+        m,
         first_at,
         base,
         top,
@@ -771,20 +492,10 @@ fn encode_in(
         order,
         values,
         marks,
-    );
-    if first > n {
-        return none(all, ports);
-    }
+    )?;
     let second = second_code(
-        signals,
-        exprs,
-        stmts,
-        starts,
-        expr_table,
-        signal_table,
-        driver_table,
-        n,
-        first_at + n,
+        m,
+        first_at + m.expr_count,
         base,
         top,
         outputs_at,
@@ -792,13 +503,8 @@ fn encode_in(
         order,
         values,
         marks,
-    );
-    if second > n {
-        return none(all, ports);
-    }
-    Code {
-        usable: true,
-        ports: ports,
+    )?;
+    Some(Code {
         base: base,
         state: state,
         registers: registers,
@@ -806,63 +512,43 @@ fn encode_in(
         outputs: outputs,
         first: first,
         second: second,
-        used: all,
-    }
+    })
 }
 
-// The code of a prepared model of n expressions and `count` signals, of which `ordered` stand in the order.
+// The code of a model of which `ordered` expressions stand in the order.
 pub fn encode(
-    signals: &[u32],
-    exprs: &[u32],
-    stmts: &[u32],
-    starts: &[u32],
-    expr_table: &[u32],
-    signal_table: &[u32],
-    driver_table: &[u32],
-    n: usize,
-    count: usize,
+    m: &Model,
     ordered: usize,
     order: &mut [u32],
     values: &mut [u8],
     marks: &mut [u8],
     asked: &mut [u8],
-) -> Code
-    requires { Prepared signals.now exprs.now stmts.now expr_table.now signal_table.now × Starts exprs.now starts.now × Driven stmts.now driver_table.now × (n ≡ length (records_in exprs.now)) × (count ≡ length (records_in signals.now)) × (n ≤ length marks.old) × (count ≤ length asked.old) × (bits_in exprs.now ≤ length values.old) × (bits_in signals.now ≤ 18446744073709551615) × (ordered ≤ length order.old) × Ordered (model_in signals.now exprs.now stmts.now) n (take ordered order.old) }
-    ensures planned { Planning signals.now exprs.now stmts.now n count result (take result.used order.new) values.new }
-    ensures ordered { Ordered (model_in signals.now exprs.now stmts.now) n (take result.used order.new) }
+) -> Plan
+    requires { (m.now.expr_count ≤ length marks.old) × (m.now.signal_count ≤ length asked.old) × (bits_in m.now.exprs.now ≤ length values.old) × (bits_in m.now.signals.now ≤ 18446744073709551615) × (ordered ≤ length order.old) × Ordered (model_in m.now.signals.now m.now.exprs.now m.now.stmts.now) m.now.expr_count (take ordered order.old) }
+    ensures planned { IfSome result.code (λ c. Planned m.now.signals.now m.now.exprs.now m.now.stmts.now m.now.expr_count m.now.signal_count c (take result.used order.new) values.new) }
+    ensures ordered { Ordered (model_in m.now.signals.now m.now.exprs.now m.now.stmts.now) m.now.expr_count (take result.used order.new) }
     ensures inside { result.used ≤ length order.new }
 {
-    let ports = ports_end(signals);
-    if ordered != n {
-        return none(ordered, ports);
+    let plain = Plan {
+        code: None,
+        used: ordered,
+    };
+    if ordered != m.expr_count {
+        return plain;
     }
-    if order.len() / 9 < n {
-        return none(ordered, ports);
+    if order.len() / 9 < m.expr_count {
+        return plain;
     }
-    if (order.len() - 9 * n) / 3 < count {
-        return none(ordered, ports);
+    if (order.len() - 9 * m.expr_count) / 3 < m.signal_count {
+        return plain;
     }
-    let base = offset(exprs, expr_table, n);
-    let state = offset(signals, signal_table, count);
+    let base = m.expr_offset(m.expr_count);
+    let state = m.signal_offset(m.signal_count);
     if values.len() - base < state {
-        return none(ordered, ports);
+        return plain;
     }
-    encode_in(
-        signals,
-        exprs,
-        stmts,
-        starts,
-        expr_table,
-        signal_table,
-        driver_table,
-        n,
-        count,
-        base,
-        state,
-        order,
-        values,
-        marks,
-        asked,
-        ports,
-    )
+    Plan {
+        code: encode_in(m, base, state, order, values, marks, asked),
+        used: order.len(),
+    }
 }

@@ -9,6 +9,7 @@ ghost use Rattle.coding.specs.Coded.{bits_in, Coded, SettlesCode, looked as look
 
 use crate::bytes::copy;
 use crate::expression::eval_expr;
+use crate::tables::Model;
 use simulation::index::wide;
 
 fn digit(x: u8) -> u32
@@ -39,15 +40,8 @@ fn look_up(order: &[u32], at: usize, values: &mut [u8])
 
 // Along k code words, from a word on, over the signals' bytes; `base` and `state` are the bits of all expressions and signals.
 pub fn settle_coded(
-    signals: &[u32],
-    exprs: &[u32],
-    stmts: &[u32],
-    starts: &[u32],
-    expr_table: &[u32],
-    signal_table: &[u32],
-    driver_table: &[u32],
+    m: &Model,
     order: &[u32],
-    n: usize,
     from: usize,
     k: usize,
     base: usize,
@@ -55,30 +49,17 @@ pub fn settle_coded(
     bytes: &[u8],
     values: &mut [u8],
 )
-    requires { Prepared signals.now exprs.now stmts.now expr_table.now signal_table.now × Starts exprs.now starts.now × Driven stmts.now driver_table.now × Room signals.now exprs.now bytes.now values.old × (n ≡ length (records_in exprs.now)) × Coded signals.now exprs.now stmts.now n from k order.now × (base ≡ bits_in exprs.now) × (state ≡ bits_in signals.now) × (bits_in exprs.now + bits_in signals.now ≤ length values.old) × (looped (model_in signals.now exprs.now stmts.now) ≡ None) × Filled (widths_in exprs.now) values.old }
-    ensures { SettlesCode signals.now exprs.now stmts.now order.now from k bytes.now values.new }
+    requires { Room m.now.signals.now m.now.exprs.now bytes.now values.old × Coded m.now.signals.now m.now.exprs.now m.now.stmts.now m.now.expr_count from k order.now × (base ≡ bits_in m.now.exprs.now) × (state ≡ bits_in m.now.signals.now) × (bits_in m.now.exprs.now + bits_in m.now.signals.now ≤ length values.old) × (looped (model_in m.now.signals.now m.now.exprs.now m.now.stmts.now) ≡ None) × Filled (widths_in m.now.exprs.now) values.old }
+    ensures { SettlesCode m.now.signals.now m.now.exprs.now m.now.stmts.now order.now from k bytes.now values.new }
 {
     copy(values, base, bytes, 0, state);
-    let mut j: usize = 0;
-    while j < k {
+    for j in 0..k {
         let e = wide(order[from + j]);
-        let at = n + 6 * e;
+        let at = m.expr_count + 6 * e;
         if order[at] < 65536 {
             look_up(order, at, values);
         } else {
-            eval_expr(
-                signals,
-                exprs,
-                stmts,
-                starts,
-                expr_table,
-                signal_table,
-                driver_table,
-                bytes,
-                e,
-                values,
-            );
+            eval_expr(m, bytes, e, values);
         }
-        j += 1;
     }
 }

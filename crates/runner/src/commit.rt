@@ -3,7 +3,7 @@
 ghost use Rattle.std.specs.Prelude.{◌≡◌, Bool, List, [], ℕ, ◌+◌, ◌≤◌, ◌<◌, length, get_or};
 ghost use Rattle.bits.specs.Bits.{Bits};
 ghost use Rattle.settle.specs.Table.{at as signals_at};
-ghost use Rattle.simulation.specs.Index.{records_in, widths_in, offset as sum_to, start_of, Indexed, driver_of};
+ghost use Rattle.simulation.specs.Index.{records_in, widths_in, offset as sum_to, start_of, Indexed};
 ghost use Rattle.simulation.specs.Run.{fired_of, firing};
 ghost use Rattle.simulation.specs.Tick.{asserted as asserted_in};
 ghost use Rattle.evaluation.specs.Bytes.{Holds};
@@ -13,56 +13,43 @@ ghost use Rattle.evaluation.specs.Late.{Registers, LoadsMarked, LoadsListed};
 ghost use Rattle.evaluation.specs.Loads.{stmt_in, Stated, Begins, Control, control_at, enable_at, by_marks, Markable, MarkOf, NotesOne, Noted, StoresMarked, StoresLoad};
 
 use crate::store::store;
-use crate::tables::offset;
+use crate::tables::Model;
+use simulation::Edge;
 use simulation::index::{size, wide};
-use simulation::{Driver, Fired};
 
 // An edge (0 rises, 1 falls) of signal c fires.
-fn fires(fired: Fired, c: u32, edge: u32) -> bool
+fn fires(fired: Option<Edge>, c: u32, edge: u32) -> bool
     ensures { result ≡ firing (fired_of fired) c edge }
 {
     match fired {
-        Fired::Nothing => false,
-        Fired::Edge(s, d) => {
-            if s.0 != c {
+        None => false,
+        Some(e) => {
+            if e.signal.0 != c {
                 return false;
             }
-            d == edge
+            e.edge == edge
         }
     }
 }
 
 // Signal s, of one bit, has the level that a control asks for.
-fn asserted(signals: &[u32], signal_table: &[u32], bytes: &[u8], s: usize, active: u32) -> bool
-    requires { Indexed (widths_in signals.now) signal_table.now × (sum_to (widths_in signals.now) (length (records_in signals.now)) ≤ length bytes.now) × (s < length (records_in signals.now)) × (get_or (widths_in signals.now) s 0 ≡ 1) }
-    ensures { (t : List Bits) (behind : List ℕ) → Holds (widths_in signals.now) t behind bytes.now → result ≡ asserted_in (signals_at [] t) s active }
+fn asserted(m: &Model, bytes: &[u8], s: usize, active: u32) -> bool
+    requires { (sum_to (widths_in m.now.signals.now) (length (records_in m.now.signals.now)) ≤ length bytes.now) × (s < length (records_in m.now.signals.now)) × (get_or (widths_in m.now.signals.now) s 0 ≡ 1) }
+    ensures { (t : List Bits) (behind : List ℕ) → Holds (widths_in m.now.signals.now) t behind bytes.now → result ≡ asserted_in (signals_at [] t) s active }
 {
-    let level = bytes[offset(signals, signal_table, s)];
+    let level = bytes[m.signal_offset(s)];
     (level as u32) == active
 }
 
 // The control at a word is asserted; `absent` where none is given.
-fn control(
-    signals: &[u32],
-    stmts: &[u32],
-    signal_table: &[u32],
-    at: usize,
-    absent: bool,
-    bytes: &[u8],
-) -> bool
-    requires { Indexed (widths_in signals.now) signal_table.now × (sum_to (widths_in signals.now) (length (records_in signals.now)) ≤ length bytes.now) × Control signals.now stmts.now at }
-    ensures { (t : List Bits) (behind : List ℕ) → Holds (widths_in signals.now) t behind bytes.now → result ≡ control_at (signals_at [] t) stmts.now at absent }
+fn control(m: &Model, at: usize, absent: bool, bytes: &[u8]) -> bool
+    requires { (sum_to (widths_in m.now.signals.now) (length (records_in m.now.signals.now)) ≤ length bytes.now) × Control m.now.signals.now m.now.stmts.now at }
+    ensures { (t : List Bits) (behind : List ℕ) → Holds (widths_in m.now.signals.now) t behind bytes.now → result ≡ control_at (signals_at [] t) m.now.stmts.now at absent }
 {
-    if stmts[at] == 0 {
+    if m.stmts[at] == 0 {
         return absent;
     }
-    asserted(
-        signals,
-        signal_table,
-        bytes,
-        wide(stmts[at + 1]),
-        stmts[at + 2],
-    )
+    asserted(m, bytes, wide(m.stmts[at + 1]), m.stmts[at + 2])
 }
 
 // The word of the enable of the register at a word.
@@ -77,161 +64,94 @@ pub fn enable_at(stmts: &[u32], at: usize) -> usize
 }
 
 // What the register at a word loads: nothing (0), its next value (1), its reset's value (2).
-fn load_of(
-    signals: &[u32],
-    stmts: &[u32],
-    signal_table: &[u32],
-    at: usize,
-    fired: Fired,
-    bytes: &[u8],
-) -> u8
-    requires { Indexed (widths_in signals.now) signal_table.now × (sum_to (widths_in signals.now) (length (records_in signals.now)) ≤ length bytes.now) × Stated signals.now stmts.now × Begins stmts.now at × (get_or stmts.now (at + 1) 0 ≡ 1) }
-    ensures { (k : ℕ) → k < length (records_in stmts.now) → at ≡ start_of stmts.now k → MarkOf signals.now stmts.now (firing (fired_of fired)) bytes.now k result }
+fn load_of(m: &Model, at: usize, fired: Option<Edge>, bytes: &[u8]) -> u8
+    requires { (sum_to (widths_in m.now.signals.now) (length (records_in m.now.signals.now)) ≤ length bytes.now) × Begins m.now.stmts.now at × (get_or m.now.stmts.now (at + 1) 0 ≡ 1) }
+    ensures { (k : ℕ) → k < length (records_in m.now.stmts.now) → at ≡ start_of m.now.stmts.now k → MarkOf m.now.signals.now m.now.stmts.now (firing (fired_of fired)) bytes.now k result }
 {
-    if control(signals, stmts, signal_table, at + 6, false, bytes) {
+    if control(m, at + 6, false, bytes) {
         return 2;
     }
-    if !fires(fired, stmts[at + 4], stmts[at + 5]) {
+    if !fires(fired, m.stmts[at + 4], m.stmts[at + 5]) {
         return 0;
     }
-    if control(
-        signals,
-        stmts,
-        signal_table,
-        enable_at(stmts, at),
-        true,
-        bytes,
-    ) {
+    if control(m, enable_at(m.stmts, at), true, bytes) {
         return 1;
     }
     0
 }
 
 // Notes for its signal what the statement at a word loads.
-fn note_load(
-    signals: &[u32],
-    stmts: &[u32],
-    signal_table: &[u32],
-    at: usize,
-    fired: Fired,
-    bytes: &[u8],
-    marks: &mut [u8],
-)
-    requires { Indexed (widths_in signals.now) signal_table.now × (sum_to (widths_in signals.now) (length (records_in signals.now)) ≤ length bytes.now) × Stated signals.now stmts.now × Begins stmts.now at × (length (records_in signals.now) ≤ length marks.old) }
-    ensures { (k : ℕ) → k < length (records_in stmts.now) → at ≡ start_of stmts.now k → NotesOne signals.now stmts.now (firing (fired_of fired)) bytes.now k marks.old marks.new }
+fn note_load(m: &Model, at: usize, fired: Option<Edge>, bytes: &[u8], marks: &mut [u8])
+    requires { (sum_to (widths_in m.now.signals.now) (length (records_in m.now.signals.now)) ≤ length bytes.now) × Begins m.now.stmts.now at × (length (records_in m.now.signals.now) ≤ length marks.old) }
+    ensures { (k : ℕ) → k < length (records_in m.now.stmts.now) → at ≡ start_of m.now.stmts.now k → NotesOne m.now.signals.now m.now.stmts.now (firing (fired_of fired)) bytes.now k marks.old marks.new }
 {
-    if stmts[at + 1] != 1 {
+    if m.stmts[at + 1] != 1 {
         return;
     }
-    let t = wide(stmts[at + 2]);
-    marks[t] = load_of(signals, stmts, signal_table, at, fired, bytes);
+    let t = wide(m.stmts[at + 2]);
+    marks[t] = load_of(m, at, fired, bytes);
 }
 
 // Notes what every statement loads.
-fn note_loads(
-    signals: &[u32],
-    stmts: &[u32],
-    signal_table: &[u32],
-    fired: Fired,
-    bytes: &[u8],
-    marks: &mut [u8],
-)
-    requires { Indexed (widths_in signals.now) signal_table.now × (sum_to (widths_in signals.now) (length (records_in signals.now)) ≤ length bytes.now) × Stated signals.now stmts.now × (length (records_in signals.now) ≤ length marks.old) }
-    ensures { Noted signals.now stmts.now (firing (fired_of fired)) bytes.now (length (records_in stmts.now)) marks.new }
+fn note_loads(m: &Model, fired: Option<Edge>, bytes: &[u8], marks: &mut [u8])
+    requires { (sum_to (widths_in m.now.signals.now) (length (records_in m.now.signals.now)) ≤ length bytes.now) × (length (records_in m.now.signals.now) ≤ length marks.old) }
+    ensures { Noted m.now.signals.now m.now.stmts.now (firing (fired_of fired)) bytes.now (length (records_in m.now.stmts.now)) marks.new }
 {
     let mut at: usize = 0;
-    while at < stmts.len() {
-        let size = size(stmts, at);
+    while at < m.stmts.len() {
+        let size = size(m.stmts, at);
         if size == 0 {
             return;
         }
-        note_load(signals, stmts, signal_table, at, fired, bytes, marks);
+        note_load(m, at, fired, bytes, marks);
         at += size;
     }
 }
 
 // The expression that the statement at a word loads, by the marks.
-fn loaded(stmts: &[u32], at: usize, marks: &[u8]) -> Driver
+fn loaded(stmts: &[u32], at: usize, marks: &[u8]) -> Option<u32>
     requires { Begins stmts.now at × Markable stmts.now marks.now }
-    ensures { (k : ℕ) → k < length (records_in stmts.now) → at ≡ start_of stmts.now k → driver_of result ≡ by_marks marks.now (stmt_in stmts.now k) }
+    ensures { (k : ℕ) → k < length (records_in stmts.now) → at ≡ start_of stmts.now k → result ≡ by_marks marks.now (stmt_in stmts.now k) }
 {
     if stmts[at + 1] != 1 {
-        return Driver::None;
+        return None;
     }
     let mark = marks[wide(stmts[at + 2])];
     if mark == 1 {
-        return Driver::By(stmts[at + 3]);
+        return Some(stmts[at + 3]);
     }
     if mark != 2 {
-        return Driver::None;
+        return None;
     }
     if stmts[at + 6] == 0 {
-        return Driver::None;
+        return None;
     }
-    Driver::By(stmts[at + 9])
+    Some(stmts[at + 9])
 }
 
 // The statement at a word stores what it loads.
-fn store_load(
-    signals: &[u32],
-    exprs: &[u32],
-    stmts: &[u32],
-    expr_table: &[u32],
-    signal_table: &[u32],
-    values: &[u8],
-    marks: &[u8],
-    at: usize,
-    bytes: &mut [u8],
-)
-    requires { Prepared signals.now exprs.now stmts.now expr_table.now signal_table.now × Room signals.now exprs.now bytes.old values.now × (length (records_in signals.now) ≤ length marks.now) × Begins stmts.now at }
-    ensures { (k : ℕ) → k < length (records_in stmts.now) → at ≡ start_of stmts.now k → StoresLoad signals.now exprs.now stmts.now values.now marks.now k bytes.old bytes.new }
+fn store_load(m: &Model, values: &[u8], marks: &[u8], at: usize, bytes: &mut [u8])
+    requires { Room m.now.signals.now m.now.exprs.now bytes.old values.now × (length (records_in m.now.signals.now) ≤ length marks.now) × Begins m.now.stmts.now at }
+    ensures { (k : ℕ) → k < length (records_in m.now.stmts.now) → at ≡ start_of m.now.stmts.now k → StoresLoad m.now.signals.now m.now.exprs.now m.now.stmts.now values.now marks.now k bytes.old bytes.new }
 {
-    match loaded(stmts, at, marks) {
-        Driver::By(d) => store(
-            signals,
-            exprs,
-            expr_table,
-            signal_table,
-            values,
-            wide(stmts[at + 2]),
-            wide(d),
-            bytes,
-        ),
-        Driver::None => {}
+    match loaded(m.stmts, at, marks) {
+        Some(d) => store(m, values, wide(m.stmts[at + 2]), wide(d), bytes),
+        None => {}
     }
 }
 
 // Every statement stores what it loads.
-fn store_loads(
-    signals: &[u32],
-    exprs: &[u32],
-    stmts: &[u32],
-    expr_table: &[u32],
-    signal_table: &[u32],
-    values: &[u8],
-    marks: &[u8],
-    bytes: &mut [u8],
-)
-    requires { Prepared signals.now exprs.now stmts.now expr_table.now signal_table.now × Room signals.now exprs.now bytes.old values.now × (length (records_in signals.now) ≤ length marks.now) }
-    ensures { StoresMarked signals.now exprs.now stmts.now values.now marks.now bytes.old bytes.new }
+fn store_loads(m: &Model, values: &[u8], marks: &[u8], bytes: &mut [u8])
+    requires { Room m.now.signals.now m.now.exprs.now bytes.old values.now × (length (records_in m.now.signals.now) ≤ length marks.now) }
+    ensures { StoresMarked m.now.signals.now m.now.exprs.now m.now.stmts.now values.now marks.now bytes.old bytes.new }
 {
     let mut at: usize = 0;
-    while at < stmts.len() {
-        let size = size(stmts, at);
+    while at < m.stmts.len() {
+        let size = size(m.stmts, at);
         if size == 0 {
             return;
         }
-        store_load(
-            signals,
-            exprs,
-            stmts,
-            expr_table,
-            signal_table,
-            values,
-            marks,
-            at,
-            bytes,
-        );
+        store_load(m, values, marks, at, bytes);
         at += size;
     }
 }
@@ -239,33 +159,25 @@ fn store_loads(
 // BY A LIST of the words at which registers begin: the others load nothing
 
 fn note_listed(
-    signals: &[u32],
-    stmts: &[u32],
-    signal_table: &[u32],
-    fired: Fired,
+    m: &Model,
+    fired: Option<Edge>,
     order: &[u32],
     from: usize,
     k: usize,
     bytes: &[u8],
     marks: &mut [u8],
 )
-    requires { Indexed (widths_in signals.now) signal_table.now × (sum_to (widths_in signals.now) (length (records_in signals.now)) ≤ length bytes.now) × Stated signals.now stmts.now × (length (records_in signals.now) ≤ length marks.old) × (from + k ≤ length order.now) × Registers stmts.now order.now from k }
-    ensures { Noted signals.now stmts.now (firing (fired_of fired)) bytes.now (length (records_in stmts.now)) marks.new }
+    requires { (sum_to (widths_in m.now.signals.now) (length (records_in m.now.signals.now)) ≤ length bytes.now) × (length (records_in m.now.signals.now) ≤ length marks.old) × (from + k ≤ length order.now) × Registers m.now.stmts.now order.now from k }
+    ensures { Noted m.now.signals.now m.now.stmts.now (firing (fired_of fired)) bytes.now (length (records_in m.now.stmts.now)) marks.new }
 {
-    let mut j: usize = 0;
-    while j < k {
+    for j in 0..k {
         let at = wide(order[from + j]);
-        note_load(signals, stmts, signal_table, at, fired, bytes, marks);
-        j += 1;
+        note_load(m, at, fired, bytes, marks);
     }
 }
 
 fn load_listed(
-    signals: &[u32],
-    exprs: &[u32],
-    stmts: &[u32],
-    expr_table: &[u32],
-    signal_table: &[u32],
+    m: &Model,
     order: &[u32],
     from: usize,
     k: usize,
@@ -273,35 +185,19 @@ fn load_listed(
     marks: &[u8],
     bytes: &mut [u8],
 )
-    requires { Prepared signals.now exprs.now stmts.now expr_table.now signal_table.now × Room signals.now exprs.now bytes.old values.now × (length (records_in signals.now) ≤ length marks.now) × (from + k ≤ length order.now) × Registers stmts.now order.now from k }
-    ensures { LoadsMarked signals.now exprs.now stmts.now values.now marks.now bytes.old bytes.new }
+    requires { Room m.now.signals.now m.now.exprs.now bytes.old values.now × (length (records_in m.now.signals.now) ≤ length marks.now) × (from + k ≤ length order.now) × Registers m.now.stmts.now order.now from k }
+    ensures { LoadsMarked m.now.signals.now m.now.exprs.now m.now.stmts.now values.now marks.now bytes.old bytes.new }
 {
-    let mut j: usize = 0;
-    while j < k {
+    for j in 0..k {
         let at = wide(order[from + j]);
-        store_load(
-            signals,
-            exprs,
-            stmts,
-            expr_table,
-            signal_table,
-            values,
-            marks,
-            at,
-            bytes,
-        );
-        j += 1;
+        store_load(m, values, marks, at, bytes);
     }
 }
 
 // The registers that begin at k words of a list load. The marks are work.
 pub fn commit_listed(
-    signals: &[u32],
-    exprs: &[u32],
-    stmts: &[u32],
-    expr_table: &[u32],
-    signal_table: &[u32],
-    fired: Fired,
+    m: &Model,
+    fired: Option<Edge>,
     order: &[u32],
     from: usize,
     k: usize,
@@ -309,59 +205,18 @@ pub fn commit_listed(
     marks: &mut [u8],
     bytes: &mut [u8],
 )
-    requires { Prepared signals.now exprs.now stmts.now expr_table.now signal_table.now × Room signals.now exprs.now bytes.old values.now × (length (records_in signals.now) ≤ length marks.old) × (from + k ≤ length order.now) × Registers stmts.now order.now from k }
-    ensures { LoadsListed signals.now exprs.now stmts.now (firing (fired_of fired)) values.now bytes.old bytes.new }
+    requires { Room m.now.signals.now m.now.exprs.now bytes.old values.now × (length (records_in m.now.signals.now) ≤ length marks.old) × (from + k ≤ length order.now) × Registers m.now.stmts.now order.now from k }
+    ensures { LoadsListed m.now.signals.now m.now.exprs.now m.now.stmts.now (firing (fired_of fired)) values.now bytes.old bytes.new }
 {
-    note_listed(
-        signals,
-        stmts,
-        signal_table,
-        fired,
-        order,
-        from,
-        k,
-        bytes,
-        marks,
-    );
-    load_listed(
-        signals,
-        exprs,
-        stmts,
-        expr_table,
-        signal_table,
-        order,
-        from,
-        k,
-        values,
-        marks,
-        bytes,
-    );
+    note_listed(m, fired, order, from, k, bytes, marks);
+    load_listed(m, order, from, k, values, marks, bytes);
 }
 
 // The registers load, with the values of all expressions. The marks are work.
-pub fn commit(
-    signals: &[u32],
-    exprs: &[u32],
-    stmts: &[u32],
-    expr_table: &[u32],
-    signal_table: &[u32],
-    fired: Fired,
-    values: &[u8],
-    marks: &mut [u8],
-    bytes: &mut [u8],
-)
-    requires { Prepared signals.now exprs.now stmts.now expr_table.now signal_table.now × Room signals.now exprs.now bytes.old values.now × (length (records_in signals.now) ≤ length marks.old) }
-    ensures { Commits signals.now exprs.now stmts.now (firing (fired_of fired)) values.now bytes.old bytes.new }
+pub fn commit(m: &Model, fired: Option<Edge>, values: &[u8], marks: &mut [u8], bytes: &mut [u8])
+    requires { Room m.now.signals.now m.now.exprs.now bytes.old values.now × (length (records_in m.now.signals.now) ≤ length marks.old) }
+    ensures { Commits m.now.signals.now m.now.exprs.now m.now.stmts.now (firing (fired_of fired)) values.now bytes.old bytes.new }
 {
-    note_loads(signals, stmts, signal_table, fired, bytes, marks);
-    store_loads(
-        signals,
-        exprs,
-        stmts,
-        expr_table,
-        signal_table,
-        values,
-        marks,
-        bytes,
-    );
+    note_loads(m, fired, bytes, marks);
+    store_loads(m, values, marks, bytes);
 }

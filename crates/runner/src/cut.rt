@@ -2,11 +2,12 @@
 ghost use Rattle.std.specs.Prelude.{◌≡◌, min};
 ghost use Rattle.recorder.specs.Lists.{lists};
 ghost use Rattle.simulation.specs.Wellformed.{malformed as malformed_by};
-ghost use Rattle.simulation.specs.Fault.{fault_of, call_of, checked_by};
+ghost use Rattle.simulation.specs.Fault.{call_of, checked_by};
 ghost use Rattle.simulation.specs.Run.{answer_of, fired_of, zeroed};
 
 use model_check::{call, check};
-use simulation::{Fault, Fired, Ran};
+use refusal::Refusal;
+use simulation::{Edge, Model};
 
 fn least(a: usize, b: usize) -> usize
     ensures { result ≡ min a b }
@@ -23,18 +24,21 @@ pub fn malformed(
     stmts: &[u32],
     bytes: &mut [u8],
     widest: u32,
-) -> Fault
-    ensures fault { fault_of result ≡ malformed_by widest (lists signals.now exprs.now stmts.now) }
+) -> Option<usize>
+    ensures fault { result ≡ malformed_by widest (lists signals.now exprs.now stmts.now) }
     ensures zeros { bytes.new ≡ zeroed bytes.old }
 {
     let s = least(signals.len(), signal_table.len());
     let e = least(exprs.len(), expr_table.len());
-    check::malformed(
+    let m = Model {
         signals,
-        &mut signal_table[..s],
         exprs,
-        &mut expr_table[..e],
         stmts,
+    };
+    check::malformed(
+        m,
+        &mut signal_table[..s],
+        &mut expr_table[..e],
         bytes,
         widest,
     )
@@ -49,23 +53,26 @@ pub fn check_call(
     stmts: &[u32],
     bytes: &[u8],
     ticks: &[u8],
-    fired: Fired,
+    fired: Option<Edge>,
     work_bits: &[u8],
     work_exprs: &[u8],
     work_signals: &mut [u8],
     widest: u32,
-) -> Ran
+) -> Result<(), Refusal>
     ensures answer { answer_of result ≡ checked_by widest (call_of (lists signals.now exprs.now stmts.now) bytes.now ticks.now (fired_of fired) work_bits.now work_exprs.now work_signals.old) }
     ensures zeros { work_signals.new ≡ zeroed work_signals.old }
 {
     let s = least(signals.len(), signal_table.len());
     let e = least(exprs.len(), expr_table.len());
-    call::check_call(
+    let m = Model {
         signals,
-        &mut signal_table[..s],
         exprs,
-        &mut expr_table[..e],
         stmts,
+    };
+    call::check_call(
+        m,
+        &mut signal_table[..s],
+        &mut expr_table[..e],
         bytes,
         ticks,
         fired,

@@ -19,7 +19,7 @@ mod settling; // settling.rt: the values of all expressions
 mod show; // show.rt: what a list of ticks reads and shows
 mod sort; // sort.rt: an order of all expressions
 mod store; // store.rt: inputs and values in the signals' bytes
-mod tables; // tables.rt: where records and values stand, by tables
+mod tables; // tables.rt: a model and where its records and values stand
 mod ticks; // ticks.rt: one tick
 mod whole; // whole.rt: a whole list's run
 
@@ -32,12 +32,12 @@ ghost use Rattle.runner.specs.Parts.{Unrefused, Tries};
 ghost use Rattle.runner.specs.Whole.{list_call};
 
 use cut::check_call;
-use ordering::Loop;
-use prepare::prepare;
+use prepare::{fill_tables, prepare};
 use refusal::Refusal;
+use show::ports_end;
+use simulation::Edge;
 use simulation::index::count;
-use simulation::zero::{zero_bytes, zero_longs};
-use simulation::{Fired, Ran};
+use tables::Model;
 use ticks::tick;
 use whole::{run_list_with, zero_tables, zero_works};
 
@@ -51,7 +51,7 @@ fn run_checked(
     stmts: &[u32],
     bytes: &mut [u8],
     ticks: &[u8],
-    fired: Fired,
+    fired: Option<Edge>,
     work_bits: &mut [u8],
     work_exprs: &mut [u8],
     work_signals: &mut [u8],
@@ -60,15 +60,11 @@ fn run_checked(
     signal_table: &mut [u32],
     driver_table: &mut [u32],
     order: &mut [u32],
-) -> Ran
+) -> Result<(), Refusal>
     requires { Unrefused (lists signals.now exprs.now stmts.now) bytes.old ticks.now (fired_of fired) work_bits.old work_exprs.old work_signals.old }
     ensures { Tries (lists signals.now exprs.now stmts.now) bytes.old ticks.now (fired_of fired) result bytes.new }
 {
-    let counted_exprs = count(exprs);
-    let n = counted_exprs.count;
-    let counted_signals = count(signals);
-    let s = counted_signals.count;
-    let ready = prepare(
+    fill_tables(
         signals,
         exprs,
         stmts,
@@ -76,28 +72,26 @@ fn run_checked(
         expr_table,
         signal_table,
         driver_table,
-        order,
-        n,
-        s,
-        work_exprs,
     );
-    let found = ready.found;
-    match found {
-        Loop::At(x) => Ran::Refused(Refusal::CombinationalLoop(x)),
-        Loop::Free => {
-            let ordered = ready.ordered;
-            zero_bytes(work_bits);
+    let m = Model {
+        signals: signals,
+        exprs: exprs,
+        stmts: stmts,
+        starts: &*starts,
+        expr_table: &*expr_table,
+        signal_table: &*signal_table,
+        driver_table: &*driver_table,
+        expr_count: count(exprs),
+        signal_count: count(signals),
+        ports: ports_end(signals),
+    };
+    match prepare(&m, order, work_exprs) {
+        Err(s) => Err(Refusal::CombinationalLoop(s)),
+        Ok(ordered) => {
+            work_bits.fill(0);
             tick(
-                signals,
-                exprs,
-                stmts,
-                starts,
-                expr_table,
-                signal_table,
-                driver_table,
+                &m,
                 &order[..ordered],
-                n,
-                s,
                 ticks,
                 fired,
                 bytes,
@@ -105,7 +99,7 @@ fn run_checked(
                 work_exprs,
                 work_signals,
             );
-            Ran::Done
+            Ok(())
         }
     }
 }
@@ -117,7 +111,7 @@ fn run_with(
     stmts: &[u32],
     bytes: &mut [u8],
     ticks: &[u8],
-    fired: Fired,
+    fired: Option<Edge>,
     work_bits: &mut [u8],
     work_exprs: &mut [u8],
     work_signals: &mut [u8],
@@ -126,10 +120,10 @@ fn run_with(
     signal_table: &mut [u32],
     driver_table: &mut [u32],
     order: &mut [u32],
-) -> Ran
+) -> Result<(), Refusal>
     ensures { Answers (call_of (lists signals.now exprs.now stmts.now) bytes.old ticks.now (fired_of fired) work_bits.old work_exprs.old work_signals.old) result bytes.new }
 {
-    let checked = check_call(
+    check_call(
         signals,
         signal_table,
         exprs,
@@ -142,26 +136,23 @@ fn run_with(
         work_exprs,
         work_signals,
         WIDEST,
-    );
-    match checked {
-        Ran::Refused(x) => Ran::Refused(x),
-        Ran::Done => run_checked(
-            signals,
-            exprs,
-            stmts,
-            bytes,
-            ticks,
-            fired,
-            work_bits,
-            work_exprs,
-            work_signals,
-            starts,
-            expr_table,
-            signal_table,
-            driver_table,
-            order,
-        ),
-    }
+    )?;
+    run_checked(
+        signals,
+        exprs,
+        stmts,
+        bytes,
+        ticks,
+        fired,
+        work_bits,
+        work_exprs,
+        work_signals,
+        starts,
+        expr_table,
+        signal_table,
+        driver_table,
+        order,
+    )
 }
 
 // One tick. Tables of 65,536 records and signals are this call's own; what lies behind them is found by walking the lists.
@@ -171,11 +162,11 @@ pub fn run(
     stmts: &[u32],
     bytes: &mut [u8],
     ticks: &[u8],
-    fired: Fired,
+    fired: Option<Edge>,
     work_bits: &mut [u8],
     work_exprs: &mut [u8],
     work_signals: &mut [u8],
-) -> Ran
+) -> Result<(), Refusal>
     ensures { Runs (call_of (lists signals.now exprs.now stmts.now) bytes.old ticks.now (fired_of fired) work_bits.old work_exprs.old work_signals.old) result bytes.new work_bits.new work_exprs.new work_signals.new }
 {
     let mut starts = [0u32; 65536];
@@ -199,9 +190,9 @@ pub fn run(
         &mut driver_table,
         &mut order,
     );
-    zero_bytes(work_bits);
-    zero_bytes(work_exprs);
-    zero_bytes(work_signals);
+    work_bits.fill(0);
+    work_exprs.fill(0);
+    work_signals.fill(0);
     r
 }
 
@@ -224,13 +215,13 @@ pub fn run_list(
     order: &mut [u32],
     answers: &mut [u64],
     shown: &mut [u8],
-) -> Ran
+) -> Result<(), Refusal>
     ensures runs { RunsList (list_call (lists signals.now exprs.now stmts.now) heads.now bits.now bytes.old work_bits.old work_exprs.old work_signals.old answers.old shown.old) result bytes.new answers.new shown.new }
     ensures works { (work_bits.new ≡ zeroed work_bits.old) × (work_exprs.new ≡ zeroed work_exprs.old) × (work_signals.new ≡ zeroed work_signals.old) }
     ensures tables { (starts.new ≡ zeroed starts.old) × (expr_table.new ≡ zeroed expr_table.old) × (signal_table.new ≡ zeroed signal_table.old) × (driver_table.new ≡ zeroed driver_table.old) × (order.new ≡ zeroed order.old) }
 {
-    zero_longs(answers);
-    zero_bytes(shown);
+    answers.fill(0);
+    shown.fill(0);
     let r = run_list_with(
         signals,
         exprs,

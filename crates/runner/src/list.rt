@@ -1,6 +1,6 @@
 // A list of ticks on a model that was checked and prepared once.
 ghost use Rattle.std.specs.Prelude.{◌≡◌, ◌*◌, ◌/◌, ◌≤◌, length};
-ghost use Rattle.std.specs.Prelude.{None};
+ghost use Rattle.std.specs.Prelude.{None, IfSome};
 ghost use Rattle.recorder.specs.Lists.{lists};
 ghost use Rattle.simulation.specs.Wellformed.{largest, malformed};
 ghost use Rattle.simulation.specs.Index.{records_in, widths_in, Starts, Driven};
@@ -11,210 +11,123 @@ ghost use Rattle.evaluation.specs.Late.{TicksLate};
 ghost use Rattle.evaluation.specs.Ticks.{Filled, Ordered, GoodTicks, signals_in};
 ghost use Rattle.runner.specs.Calls.{output_width, handed};
 ghost use Rattle.runner.specs.Parts.{tick_causes, is_made, RunsLate, RunsTicks, Finishes};
-ghost use Rattle.runner.specs.Plan.{Planning};
+ghost use Rattle.runner.specs.Plan.{Planned};
 
 use crate::code::Code;
 use crate::late::tick_late;
-use crate::loops::either;
 use crate::settling::settle;
 use crate::show::{end_of, fired_by, put_answer, show};
+use crate::tables::Model;
 use crate::ticks::tick;
 use model_check::call::tick_fault;
 use refusal::Refusal;
+use simulation::Edge;
 use simulation::index::wide;
-use simulation::{Fired, Ran};
 
 // One tick, by the plan if there is one.
 fn tick_either(
-    signals: &[u32],
-    exprs: &[u32],
-    stmts: &[u32],
-    starts: &[u32],
-    expr_table: &[u32],
-    signal_table: &[u32],
-    driver_table: &[u32],
+    m: &Model,
     order: &[u32],
-    n: usize,
-    code: Code,
-    count: usize,
+    code: Option<Code>,
     ticks: &[u8],
-    fired: Fired,
+    fired: Option<Edge>,
     bytes: &mut [u8],
     values: &mut [u8],
     work_exprs: &mut [u8],
     work_signals: &mut [u8],
 )
-    requires { Prepared signals.now exprs.now stmts.now expr_table.now signal_table.now × Starts exprs.now starts.now × Driven stmts.now driver_table.now × Room signals.now exprs.now bytes.old values.old × (n ≡ length (records_in exprs.now)) × (count ≡ length (records_in signals.now)) × (n ≤ length work_exprs.old) × (count ≤ length work_signals.old) × Ordered (model_in signals.now exprs.now stmts.now) n order.now × (looped (model_in signals.now exprs.now stmts.now) ≡ None) × Filled (widths_in exprs.now) values.old × Filled (widths_in signals.now) bytes.old × GoodTicks signals.now ticks.now × Planning signals.now exprs.now stmts.now n count code order.now values.old }
-    ensures ticked { TicksLate signals.now exprs.now stmts.now ticks.now (firing (fired_of fired)) bytes.old bytes.new }
-    ensures filled { Filled (widths_in exprs.now) values.new }
+    requires { Room m.now.signals.now m.now.exprs.now bytes.old values.old × (m.now.expr_count ≤ length work_exprs.old) × (m.now.signal_count ≤ length work_signals.old) × Ordered (model_in m.now.signals.now m.now.exprs.now m.now.stmts.now) m.now.expr_count order.now × (looped (model_in m.now.signals.now m.now.exprs.now m.now.stmts.now) ≡ None) × Filled (widths_in m.now.exprs.now) values.old × Filled (widths_in m.now.signals.now) bytes.old × GoodTicks m.now.signals.now ticks.now × IfSome code (λ c. Planned m.now.signals.now m.now.exprs.now m.now.stmts.now m.now.expr_count m.now.signal_count c order.now values.old) }
+    ensures ticked { TicksLate m.now.signals.now m.now.exprs.now m.now.stmts.now ticks.now (firing (fired_of fired)) bytes.old bytes.new }
+    ensures filled { Filled (widths_in m.now.exprs.now) values.new }
 {
-    if code.usable {
-        tick_late(
-            signals,
-            exprs,
-            stmts,
-            starts,
-            expr_table,
-            signal_table,
-            driver_table,
+    match code {
+        Some(code) => tick_late(m, order, code, ticks, fired, bytes, values, work_signals),
+        None => tick(
+            m,
             order,
-            n,
-            code,
-            count,
-            ticks,
-            fired,
-            bytes,
-            values,
-            work_signals,
-        );
-    } else {
-        tick(
-            signals,
-            exprs,
-            stmts,
-            starts,
-            expr_table,
-            signal_table,
-            driver_table,
-            order,
-            n,
-            count,
             ticks,
             fired,
             bytes,
             values,
             work_exprs,
             work_signals,
-        );
+        ),
     }
 }
 
 // 14 for one tick of which `asked` bits are asked for and `ticks` are there.
-pub fn head_fault(count: usize, inputs: usize, asked: usize, ticks: &[u8], fired: Fired) -> Ran
+pub fn head_fault(
+    count: usize,
+    inputs: usize,
+    asked: usize,
+    ticks: &[u8],
+    fired: Option<Edge>,
+) -> Result<(), Refusal>
     ensures { answer_of result ≡ tick_causes count inputs (handed inputs asked ticks.now) (fired_of fired) }
 {
     if ticks.len() < asked {
-        return Ran::Refused(Refusal::BadTick(inputs));
+        return Err(Refusal::BadTick(inputs));
     }
     tick_fault(count, inputs, ticks, fired)
 }
 
 // One tick of a model of n expressions, `count` signals and `inputs` input bits, unless it is refused.
 fn run_tick(
-    signals: &[u32],
-    exprs: &[u32],
-    stmts: &[u32],
-    starts: &[u32],
-    expr_table: &[u32],
-    signal_table: &[u32],
-    driver_table: &[u32],
+    m: &Model,
     order: &[u32],
-    n: usize,
-    code: Code,
-    count: usize,
+    code: Option<Code>,
     inputs: usize,
     asked: usize,
     ticks: &[u8],
-    fired: Fired,
+    fired: Option<Edge>,
     bytes: &mut [u8],
     values: &mut [u8],
     work_exprs: &mut [u8],
     work_signals: &mut [u8],
-) -> Ran
-    requires { Prepared signals.now exprs.now stmts.now expr_table.now signal_table.now × Starts exprs.now starts.now × Driven stmts.now driver_table.now × Room signals.now exprs.now bytes.old values.old × (n ≡ length (records_in exprs.now)) × (count ≡ length (records_in signals.now)) × (n ≤ length work_exprs.old) × (count ≤ length work_signals.old) × Ordered (model_in signals.now exprs.now stmts.now) n order.now × (looped (model_in signals.now exprs.now stmts.now) ≡ None) × Filled (widths_in exprs.now) values.old × Filled (widths_in signals.now) bytes.old × (inputs ≡ total input_width (signals_in signals.now)) × Planning signals.now exprs.now stmts.now n count code order.now values.old }
-    ensures answered { answer_of result ≡ tick_causes count inputs (handed inputs asked ticks.now) (fired_of fired) }
-    ensures runs { RunsLate signals.now exprs.now stmts.now (handed inputs asked ticks.now) (fired_of fired) (answer_of result) bytes.old bytes.new }
-    ensures filled { Filled (widths_in exprs.now) values.new }
+) -> Result<(), Refusal>
+    requires { Room m.now.signals.now m.now.exprs.now bytes.old values.old × (m.now.expr_count ≤ length work_exprs.old) × (m.now.signal_count ≤ length work_signals.old) × Ordered (model_in m.now.signals.now m.now.exprs.now m.now.stmts.now) m.now.expr_count order.now × (looped (model_in m.now.signals.now m.now.exprs.now m.now.stmts.now) ≡ None) × Filled (widths_in m.now.exprs.now) values.old × Filled (widths_in m.now.signals.now) bytes.old × (inputs ≡ total input_width (signals_in m.now.signals.now)) × IfSome code (λ c. Planned m.now.signals.now m.now.exprs.now m.now.stmts.now m.now.expr_count m.now.signal_count c order.now values.old) }
+    ensures answered { answer_of result ≡ tick_causes m.now.signal_count inputs (handed inputs asked ticks.now) (fired_of fired) }
+    ensures runs { RunsLate m.now.signals.now m.now.exprs.now m.now.stmts.now (handed inputs asked ticks.now) (fired_of fired) (answer_of result) bytes.old bytes.new }
+    ensures filled { Filled (widths_in m.now.exprs.now) values.new }
 {
-    match head_fault(count, inputs, asked, ticks, fired) {
-        Ran::Refused(x) => Ran::Refused(x),
-        Ran::Done => {
-            tick_either(
-                signals,
-                exprs,
-                stmts,
-                starts,
-                expr_table,
-                signal_table,
-                driver_table,
-                order,
-                n,
-                code,
-                count,
-                ticks,
-                fired,
-                bytes,
-                values,
-                work_exprs,
-                work_signals,
-            );
-            Ran::Done
-        }
-    }
-}
-
-fn is_made(r: Ran) -> bool
-    ensures { result ≡ is_made (answer_of r) }
-{
-    match r {
-        Ran::Done => true,
-        Ran::Refused(_x) => false,
-    }
+    head_fault(m.signal_count, inputs, asked, ticks, fired)?;
+    tick_either(
+        m,
+        order,
+        code,
+        ticks,
+        fired,
+        bytes,
+        values,
+        work_exprs,
+        work_signals,
+    );
+    Ok(())
 }
 
 // Behind the last tick every assigned signal takes its value, if a tick was made.
 fn finish(
-    signals: &[u32],
-    exprs: &[u32],
-    stmts: &[u32],
-    starts: &[u32],
-    expr_table: &[u32],
-    signal_table: &[u32],
-    driver_table: &[u32],
+    m: &Model,
     order: &[u32],
-    n: usize,
-    count: usize,
     late: bool,
     bytes: &mut [u8],
     values: &mut [u8],
     work_exprs: &mut [u8],
 )
-    requires { Prepared signals.now exprs.now stmts.now expr_table.now signal_table.now × Starts exprs.now starts.now × Driven stmts.now driver_table.now × Room signals.now exprs.now bytes.old values.old × (n ≡ length (records_in exprs.now)) × (count ≡ length (records_in signals.now)) × (n ≤ length work_exprs.old) × Ordered (model_in signals.now exprs.now stmts.now) n order.now × (looped (model_in signals.now exprs.now stmts.now) ≡ None) × Filled (widths_in exprs.now) values.old }
-    ensures { Finishes signals.now exprs.now stmts.now late bytes.old bytes.new }
+    requires { Room m.now.signals.now m.now.exprs.now bytes.old values.old × (m.now.expr_count ≤ length work_exprs.old) × Ordered (model_in m.now.signals.now m.now.exprs.now m.now.stmts.now) m.now.expr_count order.now × (looped (model_in m.now.signals.now m.now.exprs.now m.now.stmts.now) ≡ None) × Filled (widths_in m.now.exprs.now) values.old }
+    ensures { Finishes m.now.signals.now m.now.exprs.now m.now.stmts.now late bytes.old bytes.new }
 {
     if !late {
         return;
     }
-    settle(
-        signals,
-        exprs,
-        stmts,
-        starts,
-        expr_table,
-        signal_table,
-        driver_table,
-        order,
-        n,
-        count,
-        bytes,
-        values,
-        work_exprs,
-    );
+    settle(m, order, bytes, values, work_exprs);
 }
 
 // All ticks: three words each in `heads`, their bits one after the other.
 pub fn run_ticks(
-    signals: &[u32],
-    exprs: &[u32],
-    stmts: &[u32],
-    starts: &[u32],
-    expr_table: &[u32],
-    signal_table: &[u32],
-    driver_table: &[u32],
+    m: &Model,
     order: &[u32],
-    n: usize,
-    code: Code,
-    count: usize,
+    code: Option<Code>,
     inputs: usize,
     heads: &[u32],
     bits: &[u8],
@@ -225,31 +138,22 @@ pub fn run_ticks(
     answers: &mut [u64],
     shown: &mut [u8],
 )
-    requires { Prepared signals.now exprs.now stmts.now expr_table.now signal_table.now × Starts exprs.now starts.now × Driven stmts.now driver_table.now × Room signals.now exprs.now bytes.old values.old × (n ≡ length (records_in exprs.now)) × (count ≡ length (records_in signals.now)) × (n ≤ length work_exprs.old) × (count ≤ length work_signals.old) × Ordered (model_in signals.now exprs.now stmts.now) n order.now × (looped (model_in signals.now exprs.now stmts.now) ≡ None) × Filled (widths_in exprs.now) values.old × Filled (widths_in signals.now) bytes.old × (inputs ≡ total input_width (signals_in signals.now)) × (2 * (length heads.now / 3) ≤ length answers.old) × (total output_width (signals_in signals.now) * (length heads.now / 3) ≤ length shown.old) × (malformed largest (lists signals.now exprs.now stmts.now) ≡ None) × Planning signals.now exprs.now stmts.now n count code order.now values.old }
-    ensures { RunsTicks (lists signals.now exprs.now stmts.now) heads.now bits.now bytes.old bytes.new answers.old answers.new shown.old shown.new }
+    requires { Room m.now.signals.now m.now.exprs.now bytes.old values.old × (m.now.expr_count ≤ length work_exprs.old) × (m.now.signal_count ≤ length work_signals.old) × Ordered (model_in m.now.signals.now m.now.exprs.now m.now.stmts.now) m.now.expr_count order.now × (looped (model_in m.now.signals.now m.now.exprs.now m.now.stmts.now) ≡ None) × Filled (widths_in m.now.exprs.now) values.old × Filled (widths_in m.now.signals.now) bytes.old × (inputs ≡ total input_width (signals_in m.now.signals.now)) × (2 * (length heads.now / 3) ≤ length answers.old) × (total output_width (signals_in m.now.signals.now) * (length heads.now / 3) ≤ length shown.old) × (malformed largest (lists m.now.signals.now m.now.exprs.now m.now.stmts.now) ≡ None) × IfSome code (λ c. Planned m.now.signals.now m.now.exprs.now m.now.stmts.now m.now.expr_count m.now.signal_count c order.now values.old) }
+    ensures { RunsTicks (lists m.now.signals.now m.now.exprs.now m.now.stmts.now) heads.now bits.now bytes.old bytes.new answers.old answers.new shown.old shown.new }
 {
     let mut at: usize = 0;
     let mut pos: usize = 0;
     let mut to: usize = 0;
-    let mut i: usize = 0;
     let mut late = false;
     let k = heads.len() / 3;
-    while i < k {
+    for i in 0..k {
         let asked = wide(heads[at]);
         let end = end_of(bits, pos, asked);
         let fired = fired_by(heads[at + 1], heads[at + 2]);
         let r = run_tick(
-            signals,
-            exprs,
-            stmts,
-            starts,
-            expr_table,
-            signal_table,
-            driver_table,
+            m,
             order,
-            n,
             code,
-            count,
             inputs,
             asked,
             &bits[pos..end],
@@ -259,27 +163,11 @@ pub fn run_ticks(
             work_exprs,
             work_signals,
         );
-        late = either(late, is_made(r));
+        late = late | r.is_ok();
         put_answer(answers, 2 * i, r);
-        to = show(signals, bytes, shown, to, code.ports);
+        to = show(m.signals, bytes, shown, to, m.ports);
         at += 3;
         pos = end;
-        i += 1;
     }
-    finish(
-        signals,
-        exprs,
-        stmts,
-        starts,
-        expr_table,
-        signal_table,
-        driver_table,
-        order,
-        n,
-        count,
-        late,
-        bytes,
-        values,
-        work_exprs,
-    );
+    finish(m, order, late, bytes, values, work_exprs);
 }

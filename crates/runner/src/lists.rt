@@ -1,5 +1,5 @@
-// What a plan lists: where registers begin, the signals that they ask for, the outputs. A count past the room says that it is too short.
-ghost use Rattle.std.specs.Prelude.{◌≡◌, true, ℕ, ◌+◌, ◌≤◌, ◌<◌, length, get_or, take};
+// What a plan lists: where registers begin, the signals that they ask for, the outputs. None where the room is too short.
+ghost use Rattle.std.specs.Prelude.{IfSome, ◌≡◌, true, ℕ, ◌+◌, ◌≤◌, ◌<◌, length, get_or, take};
 ghost use Rattle.simulation.specs.Index.{records_in, start_of};
 ghost use Rattle.ordering.specs.Marks.{marked};
 ghost use Rattle.evaluation.specs.Ticks.{ReadSignals};
@@ -8,41 +8,36 @@ ghost use Rattle.evaluation.specs.Late.{Among, Asks, Registers};
 ghost use Rattle.runner.specs.Plan.{Listing, Controls, Outputs};
 
 use crate::commit::enable_at;
+use crate::tables::Model;
 use simulation::index::{size, wide};
-use simulation::zero::zero_bytes;
 
 // The words at which registers begin.
-pub fn list_registers(
-    signals: &[u32],
-    stmts: &[u32],
-    order: &mut [u32],
-    from: usize,
-    room: usize,
-) -> usize
-    requires { Stated signals.now stmts.now × (from + room ≤ length order.old) }
+pub fn list_registers(m: &Model, order: &mut [u32], from: usize, room: usize) -> Option<usize>
+    requires { from + room ≤ length order.old }
     ensures kept { take from order.new ≡ take from order.old }
-    ensures listed { result ≤ room → Registers stmts.now order.new from result }
+    ensures few { IfSome result (λ r. r ≤ room) }
+    ensures listed { IfSome result (λ r. Registers m.now.stmts.now order.new from r) }
 {
     let mut k: usize = 0;
     let mut at: usize = 0;
-    while at < stmts.len() {
-        let size = size(stmts, at);
+    while at < m.stmts.len() {
+        let size = size(m.stmts, at);
         if size == 0 {
-            return k;
+            return Some(k);
         }
-        if stmts[at + 1] == 1 {
+        if m.stmts[at + 1] == 1 {
             if k >= room {
-                return room + 1;
+                return None;
             }
             if at >= 4294967296 {
-                return room + 1;
+                return None;
             }
             order[from + k] = at as u32;
             k += 1;
         }
         at += size;
     }
-    k
+    Some(k)
 }
 
 // Signal x is listed as number k, unless it is marked; how many are listed then.
@@ -53,21 +48,22 @@ fn list_once(
     k: usize,
     x: u32,
     marks: &mut [u8],
-) -> usize
+) -> Option<usize>
     requires { (from + room ≤ length order.old) × (k ≤ room) × (x < length marks.old) × Listing order.old from k marks.old }
     ensures kept { take from order.new ≡ take from order.old }
-    ensures listed { result ≤ room → Listing order.new from result marks.new × Among order.new from result x × ((y : ℕ) → Among order.old from k y → Among order.new from result y) }
+    ensures few { IfSome result (λ r. r ≤ room) }
+    ensures listed { IfSome result (λ r. Listing order.new from r marks.new × Among order.new from r x × ((y : ℕ) → Among order.old from k y → Among order.new from r y)) }
 {
     let i = wide(x);
     if marks[i] != 0 {
-        return k;
+        return Some(k);
     }
     if k >= room {
-        return room + 1;
+        return None;
     }
     order[from + k] = x;
     marks[i] = 1;
-    k + 1
+    Some(k + 1)
 }
 
 // The signal of the control at a word, if one is given.
@@ -79,91 +75,86 @@ fn list_control(
     room: usize,
     k: usize,
     marks: &mut [u8],
-) -> usize
+) -> Option<usize>
     requires { (from + room ≤ length order.old) × (k ≤ room) × Listing order.old from k marks.old × (word < length stmts.now) × ((get_or stmts.now word 0 ≡ 0 → ⊥) → (word + 2 < length stmts.now) × (get_or stmts.now (word + 1) 0 < length marks.old)) }
     ensures kept { take from order.new ≡ take from order.old }
-    ensures listed { result ≤ room → Listing order.new from result marks.new × ((get_or stmts.now word 0 ≡ 0 → ⊥) → Among order.new from result (get_or stmts.now (word + 1) 0)) × ((y : ℕ) → Among order.old from k y → Among order.new from result y) }
+    ensures few { IfSome result (λ r. r ≤ room) }
+    ensures listed { IfSome result (λ r. Listing order.new from r marks.new × ((get_or stmts.now word 0 ≡ 0 → ⊥) → Among order.new from r (get_or stmts.now (word + 1) 0)) × ((y : ℕ) → Among order.old from k y → Among order.new from r y)) }
 {
     if stmts[word] == 0 {
-        return k;
+        return Some(k);
     }
     list_once(order, from, room, k, stmts[word + 1], marks)
 }
 
 // The signals that the statement at a word asks for.
 fn list_asked(
-    signals: &[u32],
-    stmts: &[u32],
+    m: &Model,
     at: usize,
     order: &mut [u32],
     from: usize,
     room: usize,
     k: usize,
     marks: &mut [u8],
-) -> usize
-    requires { Stated signals.now stmts.now × Begins stmts.now at × (from + room ≤ length order.old) × (k ≤ room) × (length (records_in signals.now) ≤ length marks.old) × Listing order.old from k marks.old }
+) -> Option<usize>
+    requires { Begins m.now.stmts.now at × (from + room ≤ length order.old) × (k ≤ room) × (length (records_in m.now.signals.now) ≤ length marks.old) × Listing order.old from k marks.old }
     ensures kept { take from order.new ≡ take from order.old }
-    ensures listed { result ≤ room → Listing order.new from result marks.new × ((number x : ℕ) → number < length (records_in stmts.now) → at ≡ start_of stmts.now number → Asks (stmt_in stmts.now number) x → Among order.new from result x) × ((y : ℕ) → Among order.old from k y → Among order.new from result y) }
+    ensures few { IfSome result (λ r. r ≤ room) }
+    ensures listed { IfSome result (λ r. Listing order.new from r marks.new × ((number x : ℕ) → number < length (records_in m.now.stmts.now) → at ≡ start_of m.now.stmts.now number → Asks (stmt_in m.now.stmts.now number) x → Among order.new from r x) × ((y : ℕ) → Among order.old from k y → Among order.new from r y)) }
 {
-    if stmts[at + 1] != 1 {
-        return k;
+    if m.stmts[at + 1] != 1 {
+        return Some(k);
     }
-    let a = list_control(stmts, at + 6, order, from, room, k, marks);
-    if a > room {
-        return a;
-    }
-    list_control(stmts, enable_at(stmts, at), order, from, room, a, marks)
+    let a = list_control(m.stmts, at + 6, order, from, room, k, marks)?;
+    let b = list_control(m.stmts, enable_at(m.stmts, at), order, from, room, a, marks)?;
+    Some(b)
 }
 
 // The signals whose levels the registers ask for that begin at `count` words from `loads` on. Marks are work.
 pub fn list_controls(
-    signals: &[u32],
-    stmts: &[u32],
+    m: &Model,
     order: &mut [u32],
     loads: usize,
     count: usize,
     from: usize,
     room: usize,
     marks: &mut [u8],
-) -> usize
-    requires { Stated signals.now stmts.now × Registers stmts.now order.old loads count × (loads + count ≤ from) × (from + room ≤ length order.old) × (length (records_in signals.now) ≤ length marks.old) }
+) -> Option<usize>
+    requires { Registers m.now.stmts.now order.old loads count × (loads + count ≤ from) × (from + room ≤ length order.old) × (length (records_in m.now.signals.now) ≤ length marks.old) }
     ensures kept { take from order.new ≡ take from order.old }
-    ensures listed { result ≤ room → Controls stmts.now order.new from result }
+    ensures few { IfSome result (λ r. r ≤ room) }
+    ensures listed { IfSome result (λ r. Controls m.now.stmts.now order.new from r) }
 {
-    zero_bytes(marks);
+    marks.fill(0);
     let mut k: usize = 0;
-    let mut j: usize = 0;
-    while j < count {
+    for j in 0..count {
         let at = wide(order[loads + j]);
-        k = list_asked(signals, stmts, at, order, from, room, k, marks);
-        if k > room {
-            return k;
-        }
-        j += 1;
+        k = list_asked(m, at, order, from, room, k, marks)?;
     }
-    k
+    Some(k)
 }
 
 // The numbers of the outputs.
-pub fn list_outputs(signals: &[u32], order: &mut [u32], from: usize, room: usize) -> usize
-    requires { ReadSignals signals.now × (from + room ≤ length order.old) }
+pub fn list_outputs(m: &Model, order: &mut [u32], from: usize, room: usize) -> Option<usize>
+    requires { from + room ≤ length order.old }
     ensures kept { take from order.new ≡ take from order.old }
-    ensures listed { result ≤ room → Outputs signals.now order.new from result }
+    ensures few { IfSome result (λ r. r ≤ room) }
+    ensures listed { IfSome result (λ r. Outputs m.now.signals.now order.new from r) }
 {
     let mut k: usize = 0;
     let mut s: usize = 0;
     let mut at: usize = 0;
-    while at < signals.len() {
-        let size = size(signals, at);
+    while at < m.signals.len() {
+        let size = size(m.signals, at);
         if size == 0 {
-            return k;
+            return Some(k);
         }
-        if signals[at + 1] == 1 {
+        if m.signals[at + 1] == 1 {
             if k >= room {
-                return room + 1;
+                return None;
             }
             if s >= 4294967296 {
-                return room + 1;
+                return None;
             }
             order[from + k] = s as u32;
             k += 1;
@@ -171,5 +162,5 @@ pub fn list_outputs(signals: &[u32], order: &mut [u32], from: usize, room: usize
         s += 1;
         at += size;
     }
-    k
+    Some(k)
 }

@@ -5,8 +5,7 @@ ghost use Rattle.simulation.specs.Index.{records_in, Driven};
 ghost use Rattle.ordering.specs.Marks.{marked, ready as ready_in, touched as touched_in};
 ghost use Rattle.ordering.specs.Words.{model_in, driver_marked, Tabled};
 
-use crate::tables::{driver, start};
-use simulation::Driver;
+use crate::tables::Model;
 use simulation::index::wide;
 
 pub fn is_marked(marks: &[u8], e: usize) -> bool
@@ -23,12 +22,10 @@ fn all_marked(exprs: &[u32], at: usize, n: usize, marks: &[u8]) -> bool
     requires { at + n ≤ length exprs.now }
     ensures { result ≡ all (marked marks.now) (take n (drop at exprs.now)) }
 {
-    let mut i: usize = 0;
-    while i < n {
+    for i in 0..n {
         if !is_marked(marks, wide(exprs[at + i])) {
             return false;
         }
-        i += 1;
     }
     true
 }
@@ -38,74 +35,56 @@ fn any_marked(exprs: &[u32], at: usize, n: usize, marks: &[u8]) -> bool
     requires { at + n ≤ length exprs.now }
     ensures { result ≡ any (marked marks.now) (take n (drop at exprs.now)) }
 {
-    let mut i: usize = 0;
-    while i < n {
+    for i in 0..n {
         if is_marked(marks, wide(exprs[at + i])) {
             return true;
         }
-        i += 1;
     }
     false
 }
 
 // The expression that is assigned to a signal is marked; `none` where there is none.
-pub fn driver_marked(stmts: &[u32], drivers: &[u32], marks: &[u8], s: usize, none: bool) -> bool
-    requires { Driven stmts.now drivers.now }
-    ensures { result ≡ driver_marked stmts.now marks.now s none }
+pub fn driver_marked(m: &Model, marks: &[u8], s: usize, none: bool) -> bool
+    ensures { result ≡ driver_marked m.now.stmts.now marks.now s none }
 {
-    match driver(stmts, drivers, s) {
-        Driver::None => none,
-        Driver::By(e) => is_marked(marks, wide(e)),
+    match m.driver(s) {
+        None => none,
+        Some(e) => is_marked(marks, wide(e)),
     }
 }
 
 // All that expression e needs is marked.
-pub fn ready(
-    exprs: &[u32],
-    starts: &[u32],
-    stmts: &[u32],
-    drivers: &[u32],
-    marks: &[u8],
-    e: usize,
-) -> bool
-    requires { Tabled exprs.now starts.now stmts.now drivers.now × (e < length (records_in exprs.now)) }
-    ensures { result ≡ ready_in (model_in exprs.now stmts.now) marks.now e }
+pub fn ready(m: &Model, marks: &[u8], e: usize) -> bool
+    requires { e < length (records_in m.now.exprs.now) }
+    ensures { result ≡ ready_in (model_in m.now.exprs.now m.now.stmts.now) marks.now e }
 {
-    let at = start(exprs, starts, e);
-    let kind = exprs[at + 1];
+    let at = m.start(e);
+    let kind = m.exprs[at + 1];
     if kind == 0 {
         return true;
     }
     if kind == 1 {
-        return driver_marked(stmts, drivers, marks, wide(exprs[at + 3]), true);
+        return driver_marked(m, marks, wide(m.exprs[at + 3]), true);
     }
-    all_marked(exprs, at + 3, wide(exprs[at]) - 3, marks)
+    all_marked(m.exprs, at + 3, wide(m.exprs[at]) - 3, marks)
 }
 
 // Expression e reads signal s, or needs one that is marked.
-pub fn touched(
-    exprs: &[u32],
-    starts: &[u32],
-    stmts: &[u32],
-    drivers: &[u32],
-    marks: &[u8],
-    s: usize,
-    e: usize,
-) -> bool
-    requires { Tabled exprs.now starts.now stmts.now drivers.now × (e < length (records_in exprs.now)) }
-    ensures { result ≡ touched_in (model_in exprs.now stmts.now) marks.now s e }
+pub fn touched(m: &Model, marks: &[u8], s: usize, e: usize) -> bool
+    requires { e < length (records_in m.now.exprs.now) }
+    ensures { result ≡ touched_in (model_in m.now.exprs.now m.now.stmts.now) marks.now s e }
 {
-    let at = start(exprs, starts, e);
-    let kind = exprs[at + 1];
+    let at = m.start(e);
+    let kind = m.exprs[at + 1];
     if kind == 0 {
         return false;
     }
     if kind == 1 {
-        let y = wide(exprs[at + 3]);
+        let y = wide(m.exprs[at + 3]);
         if y == s {
             return true;
         }
-        return driver_marked(stmts, drivers, marks, y, false);
+        return driver_marked(m, marks, y, false);
     }
-    any_marked(exprs, at + 3, wide(exprs[at]) - 3, marks)
+    any_marked(m.exprs, at + 3, wide(m.exprs[at]) - 3, marks)
 }

@@ -1,26 +1,16 @@
 // What is prepared once for a model without a fault: tables, an order of its expressions, and whether it has a loop.
-ghost use Rattle.std.specs.Prelude.{◌≡◌, ◌≤◌, length, take};
-ghost use Rattle.simulation.specs.Index.{records_in, Starts, Driven};
+ghost use Rattle.std.specs.Prelude.{◌≡◌, ◌≤◌, Some, None, IfOk, IfErr, length, take};
+ghost use Rattle.simulation.specs.Index.{widths_in, Indexed, Starts, Driven};
 ghost use Rattle.simulation.specs.Tick.{looped};
-ghost use Rattle.ordering.specs.Loops.{loop_of};
-ghost use Rattle.evaluation.specs.Ready.{Prepared, model_in};
-ghost use Rattle.evaluation.specs.Ticks.{NoFault, Ordered};
+ghost use Rattle.evaluation.specs.Ready.{model_in};
+ghost use Rattle.evaluation.specs.Ticks.{Ordered};
 
 use crate::loops::lowest_on_loop;
 use crate::sort::sort;
-use ordering::Loop;
+use crate::tables::Model;
 use simulation::index::{fill_drivers, fill_offsets, fill_starts};
-use simulation::zero::zero_bytes;
 
-// Whether the model has a loop, and how many expressions the order has: all or none.
-#[derive(Clone, Copy)]
-pub struct Readied {
-    pub found: Loop,
-    pub ordered: usize,
-}
-
-// Fills the tables and the order of a model without a fault, of n expressions and `count` signals.
-pub fn prepare(
+pub fn fill_tables(
     signals: &[u32],
     exprs: &[u32],
     stmts: &[u32],
@@ -28,47 +18,38 @@ pub fn prepare(
     expr_table: &mut [u32],
     signal_table: &mut [u32],
     driver_table: &mut [u32],
-    order: &mut [u32],
-    n: usize,
-    count: usize,
-    marks: &mut [u8],
-) -> Readied
-    requires { NoFault signals.now exprs.now stmts.now × (n ≡ length (records_in exprs.now)) × (count ≡ length (records_in signals.now)) × (n ≤ length marks.old) }
-    ensures prepared { Prepared signals.now exprs.now stmts.now expr_table.new signal_table.new }
+)
     ensures started { Starts exprs.now starts.new }
+    ensures expr_offsets { Indexed (widths_in exprs.now) expr_table.new }
+    ensures signal_offsets { Indexed (widths_in signals.now) signal_table.new }
     ensures driven { Driven stmts.now driver_table.new }
-    ensures found { loop_of result.found ≡ looped (model_in signals.now exprs.now stmts.now) }
-    ensures inside { result.ordered ≤ length order.new }
-    ensures ordered { Ordered (model_in signals.now exprs.now stmts.now) n (take result.ordered order.new) }
 {
     fill_starts(exprs, starts);
     fill_offsets(exprs, expr_table);
     fill_offsets(signals, signal_table);
     fill_drivers(stmts, driver_table);
-    if n >= 4294967296 {
-        let found = lowest_on_loop(exprs, starts, stmts, driver_table, marks, signals, n, count);
-        return Readied {
-            found: found,
-            ordered: 0,
-        };
+}
+
+// Fills the order: how many expressions it has, all or none, or the lowest signal on a loop.
+pub fn prepare(m: &Model, order: &mut [u32], marks: &mut [u8]) -> Result<usize, usize>
+    requires { m.now.expr_count ≤ length marks.old }
+    ensures looped { IfErr result (λ s. looped (model_in m.now.signals.now m.now.exprs.now m.now.stmts.now) ≡ Some s) }
+    ensures unlooped { IfOk result (λ _. looped (model_in m.now.signals.now m.now.exprs.now m.now.stmts.now) ≡ None) }
+    ensures inside { IfOk result (λ k. k ≤ length order.new) }
+    ensures ordered { IfOk result (λ k. Ordered (model_in m.now.signals.now m.now.exprs.now m.now.stmts.now) m.now.expr_count (take k order.new)) }
+{
+    let n = m.expr_count;
+    if n < 4294967296 {
+        marks.fill(0);
+        if sort(m, marks, order) == n {
+            if n <= order.len() {
+                return Ok(n);
+            }
+            return Ok(0);
+        }
     }
-    zero_bytes(marks);
-    let k = sort(exprs, starts, stmts, driver_table, marks, order, n);
-    if k != n {
-        let found = lowest_on_loop(exprs, starts, stmts, driver_table, marks, signals, n, count);
-        return Readied {
-            found: found,
-            ordered: 0,
-        };
-    }
-    if n <= order.len() {
-        return Readied {
-            found: Loop::Free,
-            ordered: n,
-        };
-    }
-    Readied {
-        found: Loop::Free,
-        ordered: 0,
+    match lowest_on_loop(m, marks) {
+        Some(s) => Err(s),
+        None => Ok(0),
     }
 }

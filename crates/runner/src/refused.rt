@@ -14,24 +14,25 @@ ghost use Rattle.runner.specs.Whole.{among, Stopped};
 
 use crate::list::head_fault;
 use crate::show::{end_of, fired_by, ports_end, put_answer, show};
-use model_check::call::either;
+use refusal::Refusal;
+use simulation::Edge;
 use simulation::index::wide;
-use simulation::{Fired, Ran};
 
 // What refuses a tick: what stands ahead of its own causes, those, or what stands behind them.
 fn tick_refusal(
-    ahead: Ran,
+    ahead: Result<(), Refusal>,
     count: usize,
     inputs: usize,
     asked: usize,
     ticks: &[u8],
-    fired: Fired,
-    behind: Ran,
-) -> Ran
+    fired: Option<Edge>,
+    behind: Result<(), Refusal>,
+) -> Result<(), Refusal>
     ensures { answer_of result ≡ among (answer_of ahead) (tick_causes count inputs (handed inputs asked ticks.now) (fired_of fired)) (answer_of behind) }
 {
-    let own = head_fault(count, inputs, asked, ticks, fired);
-    either(ahead, either(own, behind))
+    ahead?;
+    head_fault(count, inputs, asked, ticks, fired)?;
+    behind
 }
 
 // All ticks, each with its answer; the outputs show the bytes as they stand.
@@ -42,10 +43,10 @@ pub fn refuse_ticks(
     heads: &[u32],
     bits: &[u8],
     bytes: &[u8],
-    ahead: Ran,
+    ahead: Result<(), Refusal>,
     count: usize,
     inputs: usize,
-    behind: Ran,
+    behind: Result<(), Refusal>,
     answers: &mut [u64],
     shown: &mut [u8],
 )
@@ -56,9 +57,8 @@ pub fn refuse_ticks(
     let mut at: usize = 0;
     let mut pos: usize = 0;
     let mut to: usize = 0;
-    let mut i: usize = 0;
     let k = heads.len() / 3;
-    while i < k {
+    for i in 0..k {
         let asked = wide(heads[at]);
         let end = end_of(bits, pos, asked);
         let fired = fired_by(heads[at + 1], heads[at + 2]);
@@ -67,6 +67,5 @@ pub fn refuse_ticks(
         to = show(signals, bytes, shown, to, ports);
         at += 3;
         pos = end;
-        i += 1;
     }
 }

@@ -10,8 +10,9 @@ ghost use Rattle.runner.specs.Calls.{fired_by, output_width, answer_words};
 
 use crate::bytes::copy;
 use recorder::SignalId;
+use refusal::Refusal;
+use simulation::Edge;
 use simulation::index::{size, wide};
-use simulation::{Fired, Ran};
 
 // The widths of all outputs together.
 pub fn output_total(signals: &[u32]) -> usize
@@ -94,27 +95,30 @@ pub fn show(signals: &[u32], bytes: &[u8], shown: &mut [u8], from: usize, until:
 }
 
 // What fires: nothing (0), or an edge (1 rises, 2 falls) of signal s.
-pub fn fired_by(fires: u32, s: u32) -> Fired
+pub fn fired_by(fires: u32, s: u32) -> Option<Edge>
     ensures { fired_of result ≡ fired_by fires s }
 {
     if fires == 0 {
-        Fired::Nothing
+        None
     } else {
-        Fired::Edge(SignalId(s), fires - 1)
+        Some(Edge {
+            signal: SignalId(s),
+            edge: fires - 1,
+        })
     }
 }
 
 // A tick's answer as two numbers, from an index on.
-pub fn put_answer(answers: &mut [u64], at: usize, r: Ran)
+pub fn put_answer(answers: &mut [u64], at: usize, r: Result<(), Refusal>)
     requires { at + 2 ≤ length answers.old }
     ensures { answers.new ≡ over answers.old at (answer_words (answer_of r)) }
 {
     match r {
-        Ran::Done => {
+        Ok(()) => {
             answers[at] = 0;
             answers[at + 1] = 0;
         }
-        Ran::Refused(x) => {
+        Err(x) => {
             answers[at] = x.number() as u64;
             answers[at + 1] = x.place() as u64;
         }

@@ -7,26 +7,19 @@ ghost use Rattle.ordering.specs.Words.{model_in, Tabled};
 ghost use Rattle.ordering.specs.Sorts.{Step, Sorts, SortsAll};
 
 use crate::marks::{is_marked, ready};
-use simulation::index::{clip, driver, field, size, wide};
-use simulation::zero::zero_bytes;
-use simulation::{Driver, index};
+use crate::tables::Model;
+use simulation::index;
+use simulation::index::{clip, field, size, wide};
 
 // Expression e can be marked, and is not yet.
-pub fn adds_one(
-    exprs: &[u32],
-    starts: &[u32],
-    stmts: &[u32],
-    drivers: &[u32],
-    marks: &[u8],
-    e: usize,
-) -> bool
-    requires { Tabled exprs.now starts.now stmts.now drivers.now × (e < length (records_in exprs.now)) }
-    ensures { result ≡ adds (model_in exprs.now stmts.now) marks.now e }
+pub fn adds_one(m: &Model, marks: &[u8], e: usize) -> bool
+    requires { e < length (records_in m.now.exprs.now) }
+    ensures { result ≡ adds (model_in m.now.exprs.now m.now.stmts.now) marks.now e }
 {
     if is_marked(marks, e) {
         return false;
     }
-    ready(exprs, starts, stmts, drivers, marks, e)
+    ready(m, marks, e)
 }
 
 // Notes expression e as number k.
@@ -40,20 +33,11 @@ fn note(order: &mut [u32], k: usize, e: usize)
 }
 
 // Marks and notes expression e as number k, if it can be marked; how many are marked then.
-fn sort_one(
-    exprs: &[u32],
-    starts: &[u32],
-    stmts: &[u32],
-    drivers: &[u32],
-    marks: &mut [u8],
-    order: &mut [u32],
-    k: usize,
-    e: usize,
-) -> usize
-    requires { Tabled exprs.now starts.now stmts.now drivers.now × (e < length (records_in exprs.now)) × (e < length marks.old) × (e < 4294967296) × (k < 4294967296) }
-    ensures { Step (model_in exprs.now stmts.now) marks.old order.old k e result marks.new order.new }
+fn sort_one(m: &Model, marks: &mut [u8], order: &mut [u32], k: usize, e: usize) -> usize
+    requires { (e < length (records_in m.now.exprs.now)) × (e < length marks.old) × (e < 4294967296) × (k < 4294967296) }
+    ensures { Step (model_in m.now.exprs.now m.now.stmts.now) marks.old order.old k e result marks.new order.new }
 {
-    if !adds_one(exprs, starts, stmts, drivers, marks, e) {
+    if !adds_one(m, marks, e) {
         return k;
     }
     marks[e] = 1;
@@ -62,54 +46,35 @@ fn sort_one(
 }
 
 // One pass over the first n expressions: marks those that are ready, k are marked so far.
-fn sort_pass(
-    exprs: &[u32],
-    starts: &[u32],
-    stmts: &[u32],
-    drivers: &[u32],
-    marks: &mut [u8],
-    order: &mut [u32],
-    n: usize,
-    k: usize,
-) -> usize
-    requires { Tabled exprs.now starts.now stmts.now drivers.now × (n ≡ length (records_in exprs.now)) × (n ≤ length marks.old) × (n < 4294967296) × Sorting (model_in exprs.now stmts.now) n marks.old order.old k }
-    ensures { Sorts (model_in exprs.now stmts.now) n k result marks.new order.new }
+fn sort_pass(m: &Model, marks: &mut [u8], order: &mut [u32], k: usize) -> usize
+    requires { (m.now.expr_count ≤ length marks.old) × (m.now.expr_count < 4294967296) × Sorting (model_in m.now.exprs.now m.now.stmts.now) m.now.expr_count marks.old order.old k }
+    ensures { Sorts (model_in m.now.exprs.now m.now.stmts.now) m.now.expr_count k result marks.new order.new }
 {
     let mut count = k;
-    let mut e: usize = 0;
-    while e < n {
-        count = sort_one(exprs, starts, stmts, drivers, marks, order, count, e);
-        e += 1;
+    for e in 0..m.expr_count {
+        count = sort_one(m, marks, order, count, e);
     }
     count
 }
 
 // A GUESS of the order, depth first. It is tried, and nothing rests on it: where it is right, one pass along it marks all.
 
-// The expression that field j of the record at a word names as needed; n if it names none.
-fn need(
-    exprs: &[u32],
-    stmts: &[u32],
-    drivers: &[u32],
-    n: usize,
-    at: usize,
-    size: usize,
-    j: usize,
-) -> usize {
-    let kind = field(exprs, at, size, 0);
+// The expression that field j of the record at a word names as needed.
+fn need(m: &Model, at: usize, size: usize, j: usize) -> Option<usize> {
+    let kind = field(m.exprs, at, size, 0);
     if kind == 0 {
-        return n;
+        return None;
     }
-    let x = wide(field(exprs, at, size, j));
+    let x = wide(field(m.exprs, at, size, j));
     if kind != 1 {
-        return x;
+        return Some(x);
     }
     if j != 2 {
-        return n;
+        return None;
     }
-    match driver(stmts, drivers, x) {
-        Driver::None => n,
-        Driver::By(e) => wide(e),
+    match m.driver(x) {
+        None => None,
+        Some(e) => Some(wide(e)),
     }
 }
 
@@ -127,31 +92,21 @@ struct Unmet {
     passed: u32,
 }
 
-// The first new one that expression e needs, behind the needs that are passed; n if there is none.
-fn new_need(
-    exprs: &[u32],
-    starts: &[u32],
-    stmts: &[u32],
-    drivers: &[u32],
-    marks: &[u8],
-    n: usize,
-    e: usize,
-    passed: u32,
-) -> Unmet {
-    let at = index::start(exprs, starts, e);
-    let size = size(exprs, at);
-    let mut i = wide(passed) + 3;
-    while i < size {
-        let x = need(exprs, stmts, drivers, n, at, size, i - 1);
-        if is_new(marks, n, x) {
-            return Unmet {
-                expr: x,
-                passed: clip(i - 2),
-            };
+// The first new one that expression e needs, behind the needs that are passed.
+fn new_need(m: &Model, marks: &[u8], e: usize, passed: u32) -> Option<Unmet> {
+    let at = index::start(m.exprs, m.starts, e);
+    let size = size(m.exprs, at);
+    for i in wide(passed) + 3..size {
+        if let Some(x) = need(m, at, size, i - 1) {
+            if is_new(marks, m.expr_count, x) {
+                return Some(Unmet {
+                    expr: x,
+                    passed: clip(i - 2),
+                });
+            }
         }
-        i += 1;
     }
-    Unmet { expr: n, passed: 0 }
+    None
 }
 
 // Puts expression e on the stack, order[2 n ..], no need of it passed, order[3 n ..], if it is new: how deep the stack is then.
@@ -183,168 +138,99 @@ struct Walk {
 }
 
 // Begins at an expression, goes on to a need, or notes the last on the stack, whose needs are all noted, in order[n ..].
-fn turn(
-    exprs: &[u32],
-    starts: &[u32],
-    stmts: &[u32],
-    drivers: &[u32],
-    marks: &mut [u8],
-    order: &mut [u32],
-    n: usize,
-    root: usize,
-    depth: usize,
-    count: usize,
-) -> Walk
-    requires { (4 * n ≤ length order.old) × (root ≤ n) × (depth ≤ n) × (count ≤ n) }
-    ensures { (result.root ≤ n) × (result.depth ≤ n) × (result.count ≤ n) }
+fn turn(m: &Model, marks: &mut [u8], order: &mut [u32], walk: Walk) -> Walk
+    requires { (4 * m.now.expr_count ≤ length order.old) × (walk.root ≤ m.now.expr_count) × (walk.depth ≤ m.now.expr_count) × (walk.count ≤ m.now.expr_count) }
+    ensures { (result.root ≤ m.now.expr_count) × (result.depth ≤ m.now.expr_count) × (result.count ≤ m.now.expr_count) }
 {
-    if depth == 0 {
-        if root >= n {
-            return Walk {
-                root: root,
-                depth: 0,
-                count: count,
-            };
+    let n = m.expr_count;
+    if walk.depth == 0 {
+        if walk.root >= n {
+            return walk;
         }
-        let entered = enter(marks, order, n, 0, root);
         return Walk {
-            root: root + 1,
-            depth: entered,
-            count: count,
+            root: walk.root + 1,
+            depth: enter(marks, order, n, 0, walk.root),
+            count: walk.count,
         };
     }
-    let top = depth - 1;
+    let top = walk.depth - 1;
     let e = order[2 * n + top];
-    let found = new_need(
-        exprs,
-        starts,
-        stmts,
-        drivers,
-        marks,
-        n,
-        wide(e),
-        order[3 * n + top],
-    );
-    let x = found.expr;
-    if x < n {
+    if let Some(found) = new_need(m, marks, wide(e), order[3 * n + top]) {
         order[3 * n + top] = found.passed;
-        let entered = enter(marks, order, n, depth, x);
         return Walk {
-            root: root,
-            depth: entered,
-            count: count,
+            root: walk.root,
+            depth: enter(marks, order, n, walk.depth, found.expr),
+            count: walk.count,
         };
     }
-    if count >= n {
+    if walk.count >= n {
         return Walk {
-            root: root,
+            root: walk.root,
             depth: top,
-            count: count,
+            count: walk.count,
         };
     }
-    order[n + count] = e;
+    order[n + walk.count] = e;
     Walk {
-        root: root,
+        root: walk.root,
         depth: top,
-        count: count + 1,
+        count: walk.count + 1,
     }
 }
 
 // The guess, in order[n .. 2 n], if the order has four words for each of the n expressions. Each takes three turns at most: one begins at it,
 // one enters it, one notes it.
-fn guess_order(
-    exprs: &[u32],
-    starts: &[u32],
-    stmts: &[u32],
-    drivers: &[u32],
-    marks: &mut [u8],
-    order: &mut [u32],
-    n: usize,
-) {
-    if order.len() / 4 < n {
+fn guess_order(m: &Model, marks: &mut [u8], order: &mut [u32]) {
+    if order.len() / 4 < m.expr_count {
         return;
     }
-    let turns = 3 * n;
-    let mut root: usize = 0;
-    let mut depth: usize = 0;
-    let mut count: usize = 0;
-    let mut i: usize = 0;
-    while i < turns {
-        let walk = turn(
-            exprs, starts, stmts, drivers, marks, order, n, root, depth, count,
-        );
-        root = walk.root;
-        depth = walk.depth;
-        count = walk.count;
-        i += 1;
+    let mut walk = Walk {
+        root: 0,
+        depth: 0,
+        count: 0,
+    };
+    for _ in 0..3 * m.expr_count {
+        walk = turn(m, marks, order, walk);
     }
 }
 
 // Number j of the guess, if it is an expression: how many are marked then.
-fn sort_guessed(
-    exprs: &[u32],
-    starts: &[u32],
-    stmts: &[u32],
-    drivers: &[u32],
-    marks: &mut [u8],
-    order: &mut [u32],
-    n: usize,
-    k: usize,
-    j: usize,
-) -> usize
-    requires { Tabled exprs.now starts.now stmts.now drivers.now × (n ≡ length (records_in exprs.now)) × (n ≤ length marks.old) × (n < 4294967296) × (n + j < length order.old) × Sorting (model_in exprs.now stmts.now) n marks.old order.old k }
-    ensures { Sorting (model_in exprs.now stmts.now) n marks.new order.new result }
+fn sort_guessed(m: &Model, marks: &mut [u8], order: &mut [u32], k: usize, j: usize) -> usize
+    requires { (m.now.expr_count ≤ length marks.old) × (m.now.expr_count < 4294967296) × (m.now.expr_count + j < length order.old) × Sorting (model_in m.now.exprs.now m.now.stmts.now) m.now.expr_count marks.old order.old k }
+    ensures { Sorting (model_in m.now.exprs.now m.now.stmts.now) m.now.expr_count marks.new order.new result }
 {
-    let e = wide(order[n + j]);
-    if e >= n {
+    let e = wide(order[m.expr_count + j]);
+    if e >= m.expr_count {
         return k;
     }
-    sort_one(exprs, starts, stmts, drivers, marks, order, k, e)
+    sort_one(m, marks, order, k, e)
 }
 
 // One pass along the guess: how many expressions are marked.
-fn sort_along(
-    exprs: &[u32],
-    starts: &[u32],
-    stmts: &[u32],
-    drivers: &[u32],
-    marks: &mut [u8],
-    order: &mut [u32],
-    n: usize,
-) -> usize
-    requires { Tabled exprs.now starts.now stmts.now drivers.now × (n ≡ length (records_in exprs.now)) × (n ≤ length marks.old) × (n < 4294967296) × Sorting (model_in exprs.now stmts.now) n marks.old order.old 0 }
-    ensures { Sorting (model_in exprs.now stmts.now) n marks.new order.new result }
+fn sort_along(m: &Model, marks: &mut [u8], order: &mut [u32]) -> usize
+    requires { (m.now.expr_count ≤ length marks.old) × (m.now.expr_count < 4294967296) × Sorting (model_in m.now.exprs.now m.now.stmts.now) m.now.expr_count marks.old order.old 0 }
+    ensures { Sorting (model_in m.now.exprs.now m.now.stmts.now) m.now.expr_count marks.new order.new result }
 {
-    if order.len() / 4 < n {
+    if order.len() / 4 < m.expr_count {
         return 0;
     }
     let mut k: usize = 0;
-    let mut j: usize = 0;
-    while j < n {
-        k = sort_guessed(exprs, starts, stmts, drivers, marks, order, n, k, j);
-        j += 1;
+    for j in 0..m.expr_count {
+        k = sort_guessed(m, marks, order, k, j);
     }
     k
 }
 
 // A pass along a guess, then passes until one adds nothing: how many expressions were marked.
-pub fn sort(
-    exprs: &[u32],
-    starts: &[u32],
-    stmts: &[u32],
-    drivers: &[u32],
-    marks: &mut [u8],
-    order: &mut [u32],
-    n: usize,
-) -> usize
-    requires { Tabled exprs.now starts.now stmts.now drivers.now × (n ≡ length (records_in exprs.now)) × (n ≤ length marks.old) × (n < 4294967296) × Sorting (model_in exprs.now stmts.now) n marks.old order.old 0 }
-    ensures { SortsAll (model_in exprs.now stmts.now) n result marks.new order.new }
+pub fn sort(m: &Model, marks: &mut [u8], order: &mut [u32]) -> usize
+    requires { (m.now.expr_count ≤ length marks.old) × (m.now.expr_count < 4294967296) × Sorting (model_in m.now.exprs.now m.now.stmts.now) m.now.expr_count marks.old order.old 0 }
+    ensures { SortsAll (model_in m.now.exprs.now m.now.stmts.now) m.now.expr_count result marks.new order.new }
 {
-    guess_order(exprs, starts, stmts, drivers, marks, order, n);
-    zero_bytes(marks);
-    let mut k = sort_along(exprs, starts, stmts, drivers, marks, order, n);
+    guess_order(m, marks, order);
+    marks.fill(0);
+    let mut k = sort_along(m, marks, order);
     loop {
-        let next = sort_pass(exprs, starts, stmts, drivers, marks, order, n, k);
+        let next = sort_pass(m, marks, order, k);
         if next == k {
             return k;
         }

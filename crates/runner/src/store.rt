@@ -6,150 +6,80 @@ ghost use Rattle.evaluation.specs.Late.{PortsBefore, StoresDriven, StoresListed}
 ghost use Rattle.evaluation.specs.Ticks.{ReadSignals, GoodTicks, Inputs, StoresOne, Stores};
 
 use crate::bytes::copy;
-use crate::tables::{driver, offset};
-use simulation::Driver;
+use crate::tables::Model;
 use simulation::index::{size, wide};
 
 // Signal t takes the value of expression d, which is as wide.
-pub fn store(
-    signals: &[u32],
-    exprs: &[u32],
-    expr_table: &[u32],
-    signal_table: &[u32],
-    values: &[u8],
-    t: usize,
-    d: usize,
-    bytes: &mut [u8],
-)
-    requires { Indexed (widths_in exprs.now) expr_table.now × Indexed (widths_in signals.now) signal_table.now × Room signals.now exprs.now bytes.old values.now × (t < length (records_in signals.now)) × (d < length (records_in exprs.now)) × (get_or (widths_in exprs.now) d 0 ≡ get_or (widths_in signals.now) t 0) }
-    ensures { StoresOne signals.now exprs.now values.now t d bytes.old bytes.new }
+pub fn store(m: &Model, values: &[u8], t: usize, d: usize, bytes: &mut [u8])
+    requires { Room m.now.signals.now m.now.exprs.now bytes.old values.now × (t < length (records_in m.now.signals.now)) × (d < length (records_in m.now.exprs.now)) × (get_or (widths_in m.now.exprs.now) d 0 ≡ get_or (widths_in m.now.signals.now) t 0) }
+    ensures { StoresOne m.now.signals.now m.now.exprs.now values.now t d bytes.old bytes.new }
 {
-    let to = offset(signals, signal_table, t);
-    let from = offset(exprs, expr_table, d);
-    let end = offset(exprs, expr_table, d + 1);
+    let to = m.signal_offset(t);
+    let from = m.expr_offset(d);
+    let end = m.expr_offset(d + 1);
     copy(bytes, to, values, from, end - from);
 }
 
 // Signal s takes the value of what is assigned to it, if there is such a signal.
-fn store_driven(
-    signals: &[u32],
-    exprs: &[u32],
-    stmts: &[u32],
-    expr_table: &[u32],
-    signal_table: &[u32],
-    driver_table: &[u32],
-    values: &[u8],
-    count: usize,
-    s: usize,
-    bytes: &mut [u8],
-)
-    requires { Prepared signals.now exprs.now stmts.now expr_table.now signal_table.now × Driven stmts.now driver_table.now × Room signals.now exprs.now bytes.old values.now × (count ≡ length (records_in signals.now)) }
-    ensures { StoresDriven signals.now exprs.now stmts.now s values.now bytes.old bytes.new }
+fn store_driven(m: &Model, values: &[u8], s: usize, bytes: &mut [u8])
+    requires { Room m.now.signals.now m.now.exprs.now bytes.old values.now }
+    ensures { StoresDriven m.now.signals.now m.now.exprs.now m.now.stmts.now s values.now bytes.old bytes.new }
 {
-    if s >= count {
+    if s >= m.signal_count {
         return;
     }
-    match driver(stmts, driver_table, s) {
-        Driver::By(d) => store(
-            signals,
-            exprs,
-            expr_table,
-            signal_table,
-            values,
-            s,
-            wide(d),
-            bytes,
-        ),
-        Driver::None => {}
+    match m.driver(s) {
+        Some(d) => store(m, values, s, wide(d), bytes),
+        None => {}
     }
 }
 
 // Every assigned signal takes its expression's value. There are `count` signals.
-pub fn store_assigned(
-    signals: &[u32],
-    exprs: &[u32],
-    stmts: &[u32],
-    expr_table: &[u32],
-    signal_table: &[u32],
-    driver_table: &[u32],
-    values: &[u8],
-    count: usize,
-    bytes: &mut [u8],
-)
-    requires { Prepared signals.now exprs.now stmts.now expr_table.now signal_table.now × Driven stmts.now driver_table.now × Room signals.now exprs.now bytes.old values.now × (count ≡ length (records_in signals.now)) }
-    ensures { Stores signals.now exprs.now stmts.now values.now bytes.old bytes.new }
+pub fn store_assigned(m: &Model, values: &[u8], bytes: &mut [u8])
+    requires { Room m.now.signals.now m.now.exprs.now bytes.old values.now }
+    ensures { Stores m.now.signals.now m.now.exprs.now m.now.stmts.now values.now bytes.old bytes.new }
 {
-    let mut s: usize = 0;
-    while s < count {
-        match driver(stmts, driver_table, s) {
-            Driver::By(d) => store(
-                signals,
-                exprs,
-                expr_table,
-                signal_table,
-                values,
-                s,
-                wide(d),
-                bytes,
-            ),
-            Driver::None => {}
+    for s in 0..m.signal_count {
+        match m.driver(s) {
+            Some(d) => store(m, values, s, wide(d), bytes),
+            None => {}
         }
-        s += 1;
     }
 }
 
 // k signals of a list take the values of what is assigned to them. There are `count` signals.
 pub fn store_listed(
-    signals: &[u32],
-    exprs: &[u32],
-    stmts: &[u32],
-    expr_table: &[u32],
-    signal_table: &[u32],
-    driver_table: &[u32],
+    m: &Model,
     order: &[u32],
     from: usize,
     k: usize,
     values: &[u8],
-    count: usize,
     bytes: &mut [u8],
 )
-    requires { Prepared signals.now exprs.now stmts.now expr_table.now signal_table.now × Driven stmts.now driver_table.now × Room signals.now exprs.now bytes.old values.now × (count ≡ length (records_in signals.now)) × (from + k ≤ length order.now) }
-    ensures { StoresListed signals.now exprs.now stmts.now order.now from k values.now bytes.old bytes.new }
+    requires { Room m.now.signals.now m.now.exprs.now bytes.old values.now × (from + k ≤ length order.now) }
+    ensures { StoresListed m.now.signals.now m.now.exprs.now m.now.stmts.now order.now from k values.now bytes.old bytes.new }
 {
-    let mut j: usize = 0;
-    while j < k {
+    for j in 0..k {
         let s = wide(order[from + j]);
-        store_driven(
-            signals,
-            exprs,
-            stmts,
-            expr_table,
-            signal_table,
-            driver_table,
-            values,
-            count,
-            s,
-            bytes,
-        );
-        j += 1;
+        store_driven(m, values, s, bytes);
     }
 }
 
-// The input signals take the tick's bits, in order. All of them begin before a word.
-pub fn set_inputs(signals: &[u32], ticks: &[u8], bytes: &mut [u8], until: usize)
-    requires { ReadSignals signals.now × GoodTicks signals.now ticks.now × (sum_to (widths_in signals.now) (length (records_in signals.now)) ≤ length bytes.old) × PortsBefore signals.now until }
-    ensures { Inputs signals.now ticks.now bytes.old bytes.new }
+// The input signals take the tick's bits, in order.
+pub fn set_inputs(m: &Model, ticks: &[u8], bytes: &mut [u8])
+    requires { GoodTicks m.now.signals.now ticks.now × (sum_to (widths_in m.now.signals.now) (length (records_in m.now.signals.now)) ≤ length bytes.old) }
+    ensures { Inputs m.now.signals.now ticks.now bytes.old bytes.new }
 {
     let mut at: usize = 0;
     let mut to: usize = 0;
     let mut pos: usize = 0;
-    while at < until {
-        let size = size(signals, at);
+    while at < m.ports {
+        let size = size(m.signals, at);
         if size == 0 {
             return;
         }
-        let width = wide(signals[at + 2]);
-        if signals[at + 1] == 0 {
+        let width = wide(m.signals[at + 2]);
+        if m.signals[at + 1] == 0 {
             copy(bytes, to, ticks, pos, width);
             pos += width;
         }

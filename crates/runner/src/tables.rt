@@ -1,30 +1,67 @@
-// Where records and values stand, and what is assigned to a signal, by tables that are right.
-ghost use Rattle.std.specs.Prelude.{◌≡◌, ◌≤◌, ◌<◌, length};
-ghost use Rattle.simulation.specs.Index.{records_in, widths_in, offset as sum_to, start_of, Indexed, Starts, stmts_in, driver_of, Driven};
+// A model without a fault, in words, with tables of where its records and values stand and of what is assigned to a signal. What a
+// table has no room for is found by walking the lists. All ports begin before word `ports`.
+ghost use Rattle.std.specs.Prelude.{◌≡◌, ◌≤◌, ◌<◌, None, length};
+ghost use Rattle.std.proofs.Props.{props};
+ghost use Rattle.recorder.specs.Lists.{lists};
+ghost use Rattle.recorder.specs.Words.{raw_of};
+ghost use Rattle.simulation.specs.Wellformed.{largest, first_fault};
+ghost use Rattle.simulation.specs.Index.{records_in, widths_in, offset as sum_to, start_of, Indexed, Starts, stmts_in, Driven};
 ghost use Rattle.simulation.specs.Tick.{given, assigns as by_assign};
+ghost use Rattle.evaluation.specs.Late.{PortsBefore};
 
-use simulation::{Driver, index};
+use simulation::index;
 
-// The word at which record k begins.
-pub fn start(list: &[u32], table: &[u32], k: usize) -> usize
-    requires { Starts list.now table.now × (k < length (records_in list.now)) }
-    ensures { result ≡ start_of list.now k }
-{
-    index::start(list, table, k)
+#[derive(Clone, Copy)]
+pub struct Model<'a> {
+    pub signals: &'a [u32],
+    pub exprs: &'a [u32],
+    pub stmts: &'a [u32],
+    pub starts: &'a [u32],
+    pub expr_table: &'a [u32],
+    pub signal_table: &'a [u32],
+    pub driver_table: &'a [u32],
+    pub expr_count: usize,
+    pub signal_count: usize,
+    pub ports: usize,
+    pub ghost faultless: { first_fault largest (raw_of (lists signals.now exprs.now stmts.now)) ≡ None } by { Prim.hlevel props },
+    pub ghost started: { Starts exprs.now starts.now },
+    pub ghost expr_offsets: { Indexed (widths_in exprs.now) expr_table.now },
+    pub ghost signal_offsets: { Indexed (widths_in signals.now) signal_table.now },
+    pub ghost driven: { Driven stmts.now driver_table.now },
+    pub ghost expr_counted: { expr_count ≡ length (records_in exprs.now) },
+    pub ghost signal_counted: { signal_count ≡ length (records_in signals.now) },
+    pub ghost ports_before: { PortsBefore signals.now ports },
 }
 
-// The sum of the first k widths.
-pub fn offset(list: &[u32], table: &[u32], k: usize) -> usize
-    requires { Indexed (widths_in list.now) table.now × (k ≤ length (records_in list.now)) × (sum_to (widths_in list.now) (length (records_in list.now)) ≤ 18446744073709551615) }
-    ensures { result ≡ sum_to (widths_in list.now) k }
-{
-    index::offset(list, table, k)
-}
+impl Model<'_> {
+    // The word at which expression e begins.
+    pub fn start(&self, e: usize) -> usize
+        requires { e < length (records_in self.now.exprs.now) }
+        ensures { result ≡ start_of self.now.exprs.now e }
+    {
+        index::start(self.exprs, self.starts, e)
+    }
 
-// The expression that is assigned to signal s.
-pub fn driver(stmts: &[u32], table: &[u32], s: usize) -> Driver
-    requires { Driven stmts.now table.now }
-    ensures { driver_of result ≡ given by_assign (stmts_in stmts.now) s }
-{
-    index::driver(stmts, table, s)
+    // Where the value of expression e begins.
+    pub fn expr_offset(&self, e: usize) -> usize
+        requires { (e ≤ length (records_in self.now.exprs.now)) × (sum_to (widths_in self.now.exprs.now) (length (records_in self.now.exprs.now)) ≤ 18446744073709551615) }
+        ensures { result ≡ sum_to (widths_in self.now.exprs.now) e }
+    {
+        index::offset(self.exprs, self.expr_table, e)
+    }
+
+    // Where the value of signal s begins.
+    pub fn signal_offset(&self, s: usize) -> usize
+        requires { (s ≤ length (records_in self.now.signals.now)) × (sum_to (widths_in self.now.signals.now) (length (records_in self.now.signals.now)) ≤ 18446744073709551615) }
+        ensures { result ≡ sum_to (widths_in self.now.signals.now) s }
+    {
+        index::offset(self.signals, self.signal_table, s)
+    }
+
+    // The expression that is assigned to signal s.
+    pub fn driver(&self, s: usize) -> Option<u32>
+        ensures { result ≡ given by_assign (stmts_in self.now.stmts.now) s }
+    {
+        index::driver(self.stmts, self.driver_table, s)
+    }
 }

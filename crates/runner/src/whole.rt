@@ -13,22 +13,20 @@ use crate::WIDEST;
 use crate::code::encode;
 use crate::cut::malformed;
 use crate::list::run_ticks;
-use crate::prepare::prepare;
+use crate::prepare::{fill_tables, prepare};
 use crate::refused::refuse_ticks;
-use crate::show::{output_total, times};
+use crate::show::{output_total, ports_end, times};
+use crate::tables::Model;
 use model_check::call::{byte_fault, call_lengths, input_total};
-use ordering::Loop;
 use refusal::Refusal;
 use simulation::index::count;
-use simulation::zero::{zero_bytes, zero_words};
-use simulation::{Fault, Ran};
 
 pub fn zero_works(work_bits: &mut [u8], work_exprs: &mut [u8], work_signals: &mut [u8])
     ensures { (work_bits.new ≡ zeroed work_bits.old) × (work_exprs.new ≡ zeroed work_exprs.old) × (work_signals.new ≡ zeroed work_signals.old) }
 {
-    zero_bytes(work_bits);
-    zero_bytes(work_exprs);
-    zero_bytes(work_signals);
+    work_bits.fill(0);
+    work_exprs.fill(0);
+    work_signals.fill(0);
 }
 
 pub fn zero_tables(
@@ -40,27 +38,32 @@ pub fn zero_tables(
 )
     ensures { (starts.new ≡ zeroed starts.old) × (expr_table.new ≡ zeroed expr_table.old) × (signal_table.new ≡ zeroed signal_table.old) × (driver_table.new ≡ zeroed driver_table.old) × (order.new ≡ zeroed order.old) }
 {
-    zero_words(starts);
-    zero_words(expr_table);
-    zero_words(signal_table);
-    zero_words(driver_table);
-    zero_words(order);
+    starts.fill(0);
+    expr_table.fill(0);
+    signal_table.fill(0);
+    driver_table.fill(0);
+    order.fill(0);
 }
 
 // 1 for the two buffers of what is shown.
-fn shown_lengths(signals: &[u32], heads: &[u32], answers: &[u64], shown: &[u8]) -> Ran
+fn shown_lengths(
+    signals: &[u32],
+    heads: &[u32],
+    answers: &[u64],
+    shown: &[u8],
+) -> Result<(), Refusal>
     requires { ReadSignals signals.now × (sum_to (widths_in signals.now) (length (records_in signals.now)) ≤ 18446744073709551615) }
     ensures { answer_of result ≡ first_of (shown_causes signals.now heads.now answers.now shown.now) }
 {
     let k = heads.len() / 3;
     if answers.len() < 2 * k {
-        return Ran::Refused(Refusal::BufferTooShort(2 * k));
+        return Err(Refusal::BufferTooShort(2 * k));
     }
     let needed = times(output_total(signals), k);
     if shown.len() < needed {
-        return Ran::Refused(Refusal::BufferTooShort(needed));
+        return Err(Refusal::BufferTooShort(needed));
     }
-    Ran::Done
+    Ok(())
 }
 
 // 1.
@@ -74,14 +77,16 @@ fn list_fault(
     work_signals: &[u8],
     answers: &[u64],
     shown: &[u8],
-) -> Ran
+) -> Result<(), Refusal>
     requires { ReadSignals signals.now }
     ensures { answer_of result ≡ fault_causes (list_call (lists signals.now exprs.now []) heads.now [] bytes.now work_bits.now work_exprs.now work_signals.now answers.now shown.now) }
 {
-    let a = call_lengths(signals, exprs, bytes, work_bits, work_exprs, work_signals);
-    let Ran::Done = a else {
-        return a;
+    let m = simulation::Model {
+        signals,
+        exprs,
+        stmts: &[],
     };
+    call_lengths(m, bytes, work_bits, work_exprs, work_signals)?;
     shown_lengths(signals, heads, answers, shown)
 }
 
@@ -100,7 +105,7 @@ fn check_list(
     work_signals: &mut [u8],
     answers: &[u64],
     shown: &[u8],
-) -> Ran
+) -> Result<(), Refusal>
     ensures { answer_of result ≡ list_answer largest (list_call (lists signals.now exprs.now stmts.now) heads.now bits.now bytes.now work_bits.now work_exprs.now work_signals.old answers.now shown.now) }
 {
     let f = malformed(
@@ -113,8 +118,8 @@ fn check_list(
         WIDEST,
     );
     match f {
-        Fault::At(n) => Ran::Refused(Refusal::MalformedModel(n)),
-        Fault::Fine => list_fault(
+        Some(n) => Err(Refusal::MalformedModel(n)),
+        None => list_fault(
             signals,
             exprs,
             heads,
@@ -150,11 +155,7 @@ fn run_unrefused(
     requires { ListUnrefused (lists signals.now exprs.now stmts.now) heads.now bytes.old work_bits.old work_exprs.old work_signals.old answers.old shown.old }
     ensures { RunsTicks (lists signals.now exprs.now stmts.now) heads.now bits.now bytes.old bytes.new answers.old answers.new shown.old shown.new }
 {
-    let counted_exprs = count(exprs);
-    let n = counted_exprs.count;
-    let counted_signals = count(signals);
-    let s = counted_signals.count;
-    let ready = prepare(
+    fill_tables(
         signals,
         exprs,
         stmts,
@@ -162,62 +163,43 @@ fn run_unrefused(
         expr_table,
         signal_table,
         driver_table,
-        order,
-        n,
-        s,
-        work_exprs,
     );
-    let found = ready.found;
-    match found {
-        Loop::At(x) => {
-            let inputs = input_total(signals);
-            refuse_ticks(
-                signals,
-                exprs,
-                stmts,
-                heads,
-                bits,
-                bytes,
-                Ran::Done,
-                s,
-                inputs,
-                Ran::Refused(Refusal::CombinationalLoop(x)),
-                answers,
-                shown,
-            );
-        }
-        Loop::Free => {
-            let inputs = input_total(signals);
-            let code = encode(
-                signals,
-                exprs,
-                stmts,
-                starts,
-                expr_table,
-                signal_table,
-                driver_table,
-                n,
-                s,
-                ready.ordered,
-                order,
-                work_bits,
-                work_exprs,
-                work_signals,
-            );
-            let used = code.used;
-            zero_bytes(work_bits);
+    let m = Model {
+        signals: signals,
+        exprs: exprs,
+        stmts: stmts,
+        starts: &*starts,
+        expr_table: &*expr_table,
+        signal_table: &*signal_table,
+        driver_table: &*driver_table,
+        expr_count: count(exprs),
+        signal_count: count(signals),
+        ports: ports_end(signals),
+    };
+    let inputs = input_total(signals);
+    match prepare(&m, order, work_exprs) {
+        Err(s) => refuse_ticks(
+            signals,
+            exprs,
+            stmts,
+            heads,
+            bits,
+            bytes,
+            Ok(()),
+            m.signal_count,
+            inputs,
+            Err(Refusal::CombinationalLoop(s)),
+            answers,
+            shown,
+        ),
+        Ok(ordered) => {
+            let plan = encode(&m, ordered, order, work_bits, work_exprs, work_signals);
+            let used = plan.used;
+            work_bits.fill(0);
             run_ticks(
-                signals,
-                exprs,
-                stmts,
-                starts,
-                expr_table,
-                signal_table,
-                driver_table,
+                &m,
                 &order[..used],
-                n,
-                code,
-                s,
+                plan.code,
                 inputs,
                 heads,
                 bits,
@@ -256,8 +238,8 @@ fn run_fitting(
 {
     let stopped = byte_fault(signals, bytes);
     match stopped {
-        Ran::Refused(x) => {
-            let counted = count(signals);
+        Err(x) => {
+            let count = count(signals);
             let inputs = input_total(signals);
             refuse_ticks(
                 signals,
@@ -266,15 +248,15 @@ fn run_fitting(
                 heads,
                 bits,
                 bytes,
-                Ran::Refused(x),
-                counted.count,
+                Err(x),
+                count,
                 inputs,
-                Ran::Done,
+                Ok(()),
                 answers,
                 shown,
             );
         }
-        Ran::Done => {
+        Ok(()) => {
             run_unrefused(
                 signals,
                 exprs,
@@ -315,10 +297,10 @@ pub fn run_list_with(
     order: &mut [u32],
     answers: &mut [u64],
     shown: &mut [u8],
-) -> Ran
+) -> Result<(), Refusal>
     ensures { Leaves (list_call (lists signals.now exprs.now stmts.now) heads.now bits.now bytes.old work_bits.old work_exprs.old work_signals.old answers.old shown.old) (list_answer largest (list_call (lists signals.now exprs.now stmts.now) heads.now bits.now bytes.old work_bits.old work_exprs.old work_signals.old answers.old shown.old)) result bytes.new answers.new shown.new }
 {
-    let checked = check_list(
+    check_list(
         signals,
         signal_table,
         exprs,
@@ -332,29 +314,24 @@ pub fn run_list_with(
         work_signals,
         answers,
         shown,
+    )?;
+    run_fitting(
+        signals,
+        exprs,
+        stmts,
+        heads,
+        bits,
+        bytes,
+        work_bits,
+        work_exprs,
+        work_signals,
+        starts,
+        expr_table,
+        signal_table,
+        driver_table,
+        order,
+        answers,
+        shown,
     );
-    match checked {
-        Ran::Refused(x) => Ran::Refused(x),
-        Ran::Done => {
-            run_fitting(
-                signals,
-                exprs,
-                stmts,
-                heads,
-                bits,
-                bytes,
-                work_bits,
-                work_exprs,
-                work_signals,
-                starts,
-                expr_table,
-                signal_table,
-                driver_table,
-                order,
-                answers,
-                shown,
-            );
-            Ran::Done
-        }
-    }
+    Ok(())
 }

@@ -1,40 +1,105 @@
-// What a single list of ticks and a batch of them read in the same way.
-ghost use Rattle.std.specs.Prelude.{◌≡◌};
-ghost use Rattle.std.specs.Counts.{IsPrefixLen};
-
-use crate::tick_text::print_refusal;
+// A list of ticks and its netlist, read into lent buffers. One session reads all lists of a batch: the stack has no room for two of
+// each buffer.
+use crate::print::Printer;
+use crate::run::run;
+use std::io;
 use std::io::{Read, Write};
-use words::read_full;
+use words::{read_full, read_words, words_of};
 
-pub fn wide(x: u32) -> usize
-    ensures { result ≡ x }
-{
-    x as usize
+#[derive(Drop)]
+pub struct Session<'a, R, W> {
+    pub from: &'a mut R,
+    pub printer: Printer<'a, W>,
+    pub input: &'a mut [u8],
+    pub words: &'a mut [u32],
+    pub heads: &'a mut [u32],
+    pub bits: &'a mut [u8],
 }
 
-pub fn most(list: &[u8], n: usize) -> usize
-    ensures { IsPrefixLen result list.now }
-{
-    if n <= list.len() { n } else { 0 }
+// How much of each buffer a list and its netlist fill.
+#[derive(Clone, Copy)]
+pub struct Filled {
+    pub words: usize,
+    pub heads: usize,
+    pub bits: usize,
 }
 
-// Input that is too long, too short or not in whole words.
-pub fn refuse<W: Write>(to: &mut W) -> bool {
-    let mut out = [0u8; 64];
-    print_refusal(to, &mut out, 3, 0)
-}
-
-// Reads n tick bits from a reader, as the standard input, and the bytes behind them up to a whole word: whether they were there.
-pub fn read_bits<R: Read>(from: &mut R, bits: &mut [u8], n: usize) -> bool {
-    if bits.len() < n {
-        return false;
+// What is left of the input, at most 65,536 words, in whole words.
+fn read_netlist<R: Read>(from: &mut R, input: &mut [u8], words: &mut [u32]) -> Option<usize> {
+    let n = read_full(from, input);
+    if 262144 < n || n % 4 != 0 {
+        return None;
     }
-    let got = read_full(from, &mut bits[..n]);
-    if got != n {
-        return false;
+    Some(words_of(&input[..n], words))
+}
+
+impl<R: Read, W: Write> Session<'_, R, W> {
+    // The two leading words: the number of ticks, and of all their bits.
+    pub fn read_lead(&mut self) -> Option<(usize, usize)> {
+        let mut lead = [0u32; 2];
+        if read_words(self.from, self.input, &mut lead, 2) == 2 {
+            Some((lead[0] as usize, lead[1] as usize))
+        } else {
+            None
+        }
     }
-    let mut rest = [0u8; 4];
-    let more = (4 - n % 4) % 4;
-    let left = read_full(from, &mut rest[..more]);
-    left == more
+
+    // Three words for each tick, 4,096 ticks at most.
+    pub fn read_heads(&mut self, ticks: usize) -> Option<usize> {
+        if 4096 < ticks {
+            return None;
+        }
+        let n = 3 * ticks;
+        if read_words(self.from, self.input, self.heads, n) == n {
+            Some(n)
+        } else {
+            None
+        }
+    }
+
+    // The bits of all ticks, and the bytes behind them up to a whole word.
+    pub fn read_bits(&mut self, n: usize) -> Option<usize> {
+        let bits = self.bits.get_mut(..n)?;
+        if read_full(self.from, bits) < n {
+            return None;
+        }
+        let mut rest = [0u8; 4];
+        let more = (4 - n % 4) % 4;
+        if read_full(self.from, &mut rest[..more]) < more {
+            return None;
+        }
+        Some(n)
+    }
+
+    fn read_one(&mut self) -> Option<Filled> {
+        let (ticks, count) = self.read_lead()?;
+        let heads = self.read_heads(ticks)?;
+        let bits = self.read_bits(count)?;
+        let words = read_netlist(self.from, self.input, self.words)?;
+        Some(Filled { words, heads, bits })
+    }
+
+    // One list, the whole input.
+    pub fn run_one(&mut self, vcd: bool) -> io::Result<()> {
+        match self.read_one() {
+            Some(filled) => self.run(filled, vcd),
+            None => self.refuse(),
+        }
+    }
+
+    pub fn run(&mut self, filled: Filled, vcd: bool) -> io::Result<()> {
+        run(
+            &mut self.printer,
+            self.words,
+            self.heads,
+            self.bits,
+            filled,
+            vcd,
+        )
+    }
+
+    // Input that is too long, too short or not in whole words.
+    pub fn refuse(&mut self) -> io::Result<()> {
+        self.printer.print_refusal(3, 0)
+    }
 }

@@ -1,5 +1,5 @@
 -- Which expression is assigned to a signal: by walking the statements, and by a table. Assumes nothing.
-use Prim.Native.Nat.{ℕ, zero, suc, ◌+◌, ◌≤◌, ◌<◌}
+use Prim.Native.Nat.{ℕ, zero, suc, ◌+◌, ◌<◌}
 use mathlib.Core.Path.{◌≡◌, refl, sym, ◌∙◌, ap, subst}
 use mathlib.Core.Bool.{Bool, true, false, ◌&&◌}
 use mathlib.Core.List.{List, [], ◌∷◌, tail}
@@ -8,17 +8,16 @@ use native.Mathlib.Omega.{arith}
 use native.Mathlib.Decide.{ℕ_discrete}
 use lib.Dec.{eqb}
 use lib.ListN.{length, get_or, set, replicate, length-set}
-use lib.Seq.{get_or-set_same, get_or-set_other, set_out}
+use lib.Seq.{get_or-set_same, get_or-set_other}
 use borrow.Author.Tests.{eq-eqb, ne_eqb, eqb-true}
 use Rattle.bits.specs.Bits.{pick}
 use Rattle.recorder.specs.Record.{Stmt, assign, reg}
 use Rattle.recorder.specs.Read.{read_stmt, read_all}
 use Rattle.recorder.proofs.Roundtrip.{stmt_said}
 use Rattle.simulation.specs.Tick.{given, assigns}
-use Rattle.simulation.specs.Index.{stmts_in, clipped, coded, Driven, is_assign, assigns_to, noted}
+use Rattle.simulation.specs.Index.{records_in, stmts_in, clipped, coded, Driven, is_assign, assigns_to, noted}
 use Rattle.simulation.proofs.Ands.{and_false, long}
 use Rattle.simulation.proofs.Tally.{get_d_zeros}
-use Rattle.simulation.proofs.Steps.{left_from}
 
 -- ONE RECORD
 
@@ -53,36 +52,20 @@ given_step s (suc k ∷ l) rs =
 
 -- WALKING
 
-abbrev pub given_from : List ℕ → ℕ → ℕ → Option ℕ
-given_from l at s = given assigns (read_all read_stmt (left_from l at)) s
-
 -- what is still to be found is what there is to find
-pub record Driving (l : List ℕ) (at s : ℕ) : Type 0 where
-  pub sought : given_from l at s ≡ given assigns (stmts_in l) s
+pub record Driving (l : List ℕ) (rest : List (List ℕ)) (s : ℕ) : Type 0 where
+  pub sought : given assigns (read_all read_stmt rest) s ≡ given assigns (stmts_in l) s
 
-pub driving_start : (l : List ℕ) (s : ℕ) → Driving l 0 s
-driving_start l s = record { sought = refl }
+module _ {l : List ℕ} {rest : List (List ℕ)} {s : ℕ} (w : Driving l rest s) where
+  module _ {r : List ℕ} {rest' : List (List ℕ)} (q : rest ≡ r ∷ rest') where
+    driving_step : pick (assigns_to s r) (Some (get_or r 2 0)) (given assigns (read_all read_stmt rest') s) ≡ given assigns (stmts_in l) s
+    driving_step = sym (ap (λ (rs : List (List ℕ)). given assigns (read_all read_stmt rs) s) q ∙ given_step s r rest') ∙ w.sought
 
-module _ {l : List ℕ} {at s : ℕ} (w : Driving l at s) where
-  pub driving_next : (r : List ℕ) (at' : ℕ) → left_from l at ≡ r ∷ left_from l at' → assigns_to s r ≡ false → Driving l at' s
-  driving_next r at' e h = record {
-    sought =
-        sym (ap (λ (rs : List (List ℕ)). given assigns (read_all read_stmt rs) s) e
-        ∙ given_step s r (left_from l at')
-        ∙ ap (λ (b : Bool). pick b (Some (get_or r 2 0)) (given_from l at' s)) h)
-        ∙ w.sought;
-  }
+    pub driving_next : assigns_to s r ≡ false → Driving l rest' s
+    driving_next h = record { sought = sym (ap (λ (b : Bool). pick b (Some (get_or r 2 0)) (given assigns (read_all read_stmt rest') s)) h) ∙ driving_step }
 
-  pub driving_here : (r : List ℕ) (at' : ℕ) → left_from l at ≡ r ∷ left_from l at' → assigns_to s r ≡ true → (e : ℕ) → e ≡ get_or r 2 0 → Some e ≡ given assigns (stmts_in l) s
-  driving_here r at' q h e v =
-      ap Some v
-      ∙ sym (ap (λ (rs : List (List ℕ)). given assigns (read_all read_stmt rs) s) q
-      ∙ given_step s r (left_from l at')
-      ∙ ap (λ (b : Bool). pick b (Some (get_or r 2 0)) (given_from l at' s)) h)
-      ∙ w.sought
-
-  pub driving_none : left_from l at ≡ [] → None ≡ given assigns (stmts_in l) s
-  driving_none e = ap (λ (rs : List (List ℕ)). given assigns (read_all read_stmt rs) s) (sym e) ∙ w.sought
+    pub driving_here : assigns_to s r ≡ true → Some (get_or r 2 0) ≡ given assigns (stmts_in l) s
+    driving_here h = sym (ap (λ (b : Bool). pick b (Some (get_or r 2 0)) (given assigns (read_all read_stmt rest') s)) h) ∙ driving_step
 
 -- THE TABLE
 
@@ -90,10 +73,10 @@ module _ {l : List ℕ} {at s : ℕ} (w : Driving l at s) where
 abbrev pub known : ℕ → Option ℕ → ℕ
 known v o = pick (eqb v 0) (coded o) v
 
-pub record Noting (l : List ℕ) (at : ℕ) (table : List ℕ) : Type 0 where
-  pub so_far : (i : ℕ) → i < length table → known (get_or table i 0) (given_from l at i) ≡ coded (given assigns (stmts_in l) i)
+pub record Noting (l : List ℕ) (rest : List (List ℕ)) (table : List ℕ) : Type 0 where
+  pub so_far : (i : ℕ) → i < length table → known (get_or table i 0) (given assigns (read_all read_stmt rest) i) ≡ coded (given assigns (stmts_in l) i)
 
-pub noting_start : (l : List ℕ) (n : ℕ) → Noting l 0 (replicate n 0)
+pub noting_start : (l : List ℕ) (n : ℕ) → Noting l (records_in l) (replicate n 0)
 noting_start l n = record { so_far = λ i h. ap (λ (v : ℕ). known v (given assigns (stmts_in l) i)) (get_d_zeros n i) }
 
 known_set : (e : ℕ) (o : Option ℕ) → known (clipped (e + 1)) o ≡ clipped (e + 1)
@@ -147,41 +130,16 @@ noted_length r table = go (is_assign r && eqb (get_or table (get_or r 1 0) 0) 0)
     go true = length-set table (get_or r 1 0) (clipped (get_or r 2 0 + 1))
     go false = refl
 
-pub noting_next : {l : List ℕ} {at : ℕ} {table : List ℕ} → Noting l at table → (r : List ℕ) (at' : ℕ) → left_from l at ≡ r ∷ left_from l at' → {table' : List ℕ} → table' ≡ noted r table → Noting l at' table'
-noting_next {l} {at} {table} w r at' e {table'} q = subst (λ (x : List ℕ). Noting l at' x) (sym q) (record {
+pub noting_next : {l : List ℕ} {rest : List (List ℕ)} {table : List ℕ} → Noting l rest table → (r : List ℕ) (rest' : List (List ℕ)) → rest ≡ r ∷ rest' → {table' : List ℕ} → table' ≡ noted r table → Noting l rest' table'
+noting_next {l} {rest} {table} w r rest' e {table'} q = subst (λ (x : List ℕ). Noting l rest' x) (sym q) (record {
   so_far = λ i h.
       let k = subst (λ (n : ℕ). i < n) (noted_length r table) h in
-      noted_at r table i k (given_from l at' i)
-      ∙ ap (known (get_or table i 0)) (sym (ap (λ (rs : List (List ℕ)). given assigns (read_all read_stmt rs) i) e ∙ given_step i r (left_from l at')))
+      noted_at r table i k (given assigns (read_all read_stmt rest') i)
+      ∙ ap (known (get_or table i 0)) (sym (ap (λ (rs : List (List ℕ)). given assigns (read_all read_stmt rs) i) e ∙ given_step i r rest'))
       ∙ w.so_far i k;
 })
 
-pub noting_end : {l : List ℕ} {at : ℕ} {table : List ℕ} → Noting l at table → left_from l at ≡ [] → Driven l table
-noting_end {l} {at} {table} w e = record {
+pub noting_end : {l : List ℕ} {rest : List (List ℕ)} {table : List ℕ} → Noting l rest table → rest ≡ [] → Driven l table
+noting_end {l} {rest} {table} w e = record {
   driver_at = λ s h. sym (known_none (get_or table s 0)) ∙ ap (λ (rs : List (List ℕ)). known (get_or table s 0) (given assigns (read_all read_stmt rs) s)) (sym e) ∙ w.so_far s h;
 }
-
--- A TABLE'S WORD NOTED, by the code's tests
-
-module _ (r table : List ℕ) where
-  pub noted_other : is_assign r ≡ false → table ≡ noted r table
-  noted_other h = sym (ap (λ (b : Bool). pick (b && eqb (get_or table (get_or r 1 0) 0) 0) (set table (get_or r 1 0) (clipped (get_or r 2 0 + 1))) table) h)
-
-  module _ (a : is_assign r ≡ true) (t : ℕ) (q : t ≡ get_or r 1 0) where
-    pub noted_taken : (get_or table t 0 ≡ 0 → ⊥) → table ≡ noted r table
-    noted_taken d = sym (ap (λ (b : Bool). pick (b && eqb (get_or table (get_or r 1 0) 0) 0) (set table (get_or r 1 0) (clipped (get_or r 2 0 + 1))) table) a
-        ∙ ap (λ (b : Bool). pick b (set table (get_or r 1 0) (clipped (get_or r 2 0 + 1))) table) (ne_eqb (get_or table (get_or r 1 0) 0) 0 (λ z. d (ap (λ (j : ℕ). get_or table j 0) q ∙ z))))
-
-    pub noted_first : get_or table t 0 ≡ 0 → (v : ℕ) → v ≡ clipped (get_or r 2 0 + 1) → set table t v ≡ noted r table
-    noted_first z v e =
-        ap (λ (j : ℕ). set table j v) q ∙ ap (set table (get_or r 1 0)) e
-        ∙ sym (ap (λ (b : Bool). pick (b && eqb (get_or table (get_or r 1 0) 0) 0) (set table (get_or r 1 0) (clipped (get_or r 2 0 + 1))) table) a
-        ∙ ap (λ (b : Bool). pick b (set table (get_or r 1 0) (clipped (get_or r 2 0 + 1))) table) (eq-eqb (get_or table (get_or r 1 0) 0) 0 (ap (λ (j : ℕ). get_or table j 0) (sym q) ∙ z)))
-
-    pub noted_out : length table ≤ t → table ≡ noted r table
-    noted_out h =
-        sym (ap (λ (b : Bool). pick (b && eqb (get_or table (get_or r 1 0) 0) 0) (set table (get_or r 1 0) (clipped (get_or r 2 0 + 1))) table) a ∙ go (eqb (get_or table (get_or r 1 0) 0) 0))
-      where
-        go : (b : Bool) → pick b (set table (get_or r 1 0) (clipped (get_or r 2 0 + 1))) table ≡ table
-        go true = set_out table (get_or r 1 0) (clipped (get_or r 2 0 + 1)) (omega arith)
-        go false = refl

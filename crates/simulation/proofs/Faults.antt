@@ -1,6 +1,6 @@
 -- The tests of single records against their rules, and the loops that look for the first that fails. Assumes nothing.
 use Prim.Native.Nat.{ℕ, zero, suc, ◌+◌, ◌≤◌, ◌<◌, min}
-use mathlib.Core.Path.{◌≡◌, refl, sym, ◌∙◌, ap}
+use mathlib.Core.Path.{◌≡◌, refl, sym, ◌∙◌, ap, subst}
 use mathlib.Core.Bool.{Bool, true, false, ◌&&◌}
 use mathlib.Core.List.{List, [], ◌∷◌}
 use Rattle.std.specs.Prelude.{Option, None, Some}
@@ -43,6 +43,17 @@ module _ {p : ℕ → List ℕ → Bool} {rs : List (List ℕ)} where
     pub seeking_none : left ≡ [] → None ≡ first_failing p 0 rs
     seeking_none e = ap (first_failing p n) (sym e) ∙ s.sought
 
+-- where the record's number is given beside it
+module _ {p : ℕ → List ℕ → Bool} {rs : List (List ℕ)} {i n : ℕ} {left : List (List ℕ)} (s : Seeking p rs i left) (q : n ≡ i) {r : List ℕ} {rest : List (List ℕ)} (e : left ≡ r ∷ rest) where
+  at_n : Seeking p rs n left
+  at_n = subst (λ (j : ℕ). Seeking p rs j left) (sym q) s
+
+  pub seeking_found : p n r ≡ false → Some n ≡ first_failing p 0 rs
+  seeking_found h = seeking_here at_n r rest e h
+
+  pub seeking_more : p n r ≡ true → {j : ℕ} → j ≡ i + 1 → Seeking p rs j rest
+  seeking_more h k = subst (λ (j : ℕ). Seeking p rs j rest) (ap (λ (m : ℕ). m + 1) q ∙ sym k) (seeking_next at_n r rest e h)
+
 -- COUNTING THE STATEMENTS ON ONE SIGNAL
 
 pub record Counting (n : ℕ) (rs left : List (List ℕ)) (k : ℕ) : Type 0 where
@@ -52,23 +63,34 @@ pub record Counting (n : ℕ) (rs left : List (List ℕ)) (k : ℕ) : Type 0 whe
 pub counting_start : (n : ℕ) (rs : List (List ℕ)) → Counting n rs rs 0
 counting_start n rs = record { so_far = ap (λ (i : ℕ). min i 2) (omega arith); small = omega arith }
 
-pub counting_next : (n : ℕ) (rs left : List (List ℕ)) (r : List ℕ) (k t k' o : ℕ) → Counting n rs (r ∷ left) k → (o ≡ n → ⊥) → t ≡ pick (stands r) (get_or r 1 0) o → k' ≡ pick (eqb t n) (min (k + 1) 2) k → Counting n rs left k'
-counting_next n rs left r k t k' o c d e q = go (stands r) refl e
-  where
-    by : (b : Bool) → eqb t n ≡ b → drives n r ≡ b → Counting n rs left k'
-    by true x y =
-        let z : min (k + suc (count_of (drives n) left)) 2 ≡ min (count_of (drives n) rs) 2 = ap (λ (v : Bool). min (k + pick v (suc (count_of (drives n) left)) (count_of (drives n) left)) 2) (sym y) ∙ c.so_far in
-        let g : k' ≡ min (k + 1) 2 = q ∙ ap (λ (v : Bool). pick v (min (k + 1) 2) k) x in
-        record { so_far = omega arith; small = omega arith }
-    by false x y =
-        let z : min (k + count_of (drives n) left) 2 ≡ min (count_of (drives n) rs) 2 = ap (λ (v : Bool). min (k + pick v (suc (count_of (drives n) left)) (count_of (drives n) left)) 2) (sym y) ∙ c.so_far in
-        let g : k' ≡ k = q ∙ ap (λ (v : Bool). pick v (min (k + 1) 2) k) x in
-        let m = c.small in
-        record { so_far = omega arith; small = omega arith }
+module _ {n : ℕ} {rs left : List (List ℕ)} {k : ℕ} (c : Counting n rs left k) {r : List ℕ} {rest : List (List ℕ)} (e : left ≡ r ∷ rest) where
+  counted_one : (b : Bool) → drives n r ≡ b → min (k + pick b (suc (count_of (drives n) rest)) (count_of (drives n) rest)) 2 ≡ min (count_of (drives n) rs) 2
+  counted_one b h =
+      ap (λ (v : Bool). min (k + pick v (suc (count_of (drives n) rest)) (count_of (drives n) rest)) 2) (sym h)
+      ∙ ap (λ (l : List (List ℕ)). min (k + count_of (drives n) l) 2) (sym e)
+      ∙ c.so_far
 
-    go : (b : Bool) → stands r ≡ b → t ≡ pick b (get_or r 1 0) o → Counting n rs left k'
-    go true s p = by (eqb t n) refl (drives_stands n r ∙ ap (λ (v : Bool). v && eqb (get_or r 1 0) n) s ∙ ap (λ (j : ℕ). eqb j n) (sym p))
-    go false s p = by false (ne_eqb t n (λ z. d (sym p ∙ z))) (drives_stands n r ∙ ap (λ (v : Bool). v && eqb (get_or r 1 0) n) s)
+  by_target : (b : Bool) (o : Option ℕ) → o ≡ pick b (Some (get_or r 1 0)) None → (t : ℕ) → o ≡ Some t → (b ≡ true) × (t ≡ get_or r 1 0)
+  by_target true o q t h = let z : Some t ≡ Some (get_or r 1 0) = sym h ∙ q in (refl, cc)
+  by_target false o q t h = let z : ◌≡◌ {A = Option ℕ} (Some t) None = sym h ∙ q in absurd cc
+
+  pub counting_here : {t : ℕ} → Some t ≡ pick (stands r) (Some (get_or r 1 0)) None → t ≡ n → {k' : ℕ} → k' ≡ min (k + 1) 2 → Counting n rs rest k'
+  counting_here {t} q h g =
+      let s = by_target (stands r) (Some t) q t refl in
+      let z = counted_one true (drives_stands n r ∙ ap (λ (v : Bool). v && eqb (get_or r 1 0) n) s.0 ∙ eq-eqb (get_or r 1 0) n (sym s.1 ∙ h)) in
+      record { so_far = omega arith; small = omega arith }
+
+  pub counting_other : {t : ℕ} → Some t ≡ pick (stands r) (Some (get_or r 1 0)) None → (t ≡ n → ⊥) → Counting n rs rest k
+  counting_other {t} q h =
+      let s = by_target (stands r) (Some t) q t refl in
+      record { so_far = counted_one false (drives_stands n r ∙ ap (λ (v : Bool). v && eqb (get_or r 1 0) n) s.0 ∙ ne_eqb (get_or r 1 0) n (λ z. h (s.1 ∙ z))); small = c.small }
+
+  pub counting_none : None ≡ pick (stands r) (Some (get_or r 1 0)) None → Counting n rs rest k
+  counting_none q = record { so_far = counted_one false (drives_stands n r ∙ ap (λ (v : Bool). v && eqb (get_or r 1 0) n) (go (stands r) q)); small = c.small }
+    where
+      go : (b : Bool) → None ≡ pick b (Some (get_or r 1 0)) None → b ≡ false
+      go true p = absurd cc
+      go false p = refl
 
 pub counting_end : {n : ℕ} {rs left : List (List ℕ)} {k : ℕ} → Counting n rs left k → left ≡ [] → k ≡ min (count_of (drives n) rs) 2
 counting_end {n} {rs} {left} {k} c e = let q = c.so_far in let g = ap (λ (l : List (List ℕ)). count_of (drives n) l) e in let z = c.small in omega arith

@@ -1,4 +1,5 @@
 -- The laws of simulation.
+pub mod Walking
 pub mod Sound
 pub mod Settles
 pub mod Bounds

@@ -1,6 +1,6 @@
 -- A loop over the records of a list: at word `at` record k begins. Assumes nothing.
 use Prim.Native.Nat.{ℕ, zero, suc, ◌+◌, ◌-◌, ◌≤◌, ◌<◌}
-use mathlib.Core.Path.{◌≡◌, refl, sym, ◌∙◌, ap, subst}
+use mathlib.Core.Path.{◌≡◌, refl, sym, ◌∙◌, ap, ap₂, subst}
 use mathlib.Core.Bool.{Bool, true, false}
 use mathlib.Core.List.{List, [], ◌∷◌}
 use native.Mathlib.Omega.{arith}
@@ -8,6 +8,7 @@ use native.Mathlib.Nat.{add-zero}
 use lib.ListN.{length, get_or, take, drop, length-drop, length-map, drop_of_length-le, get_or-eq_default}
 use lib.Seq.{drop-drop, get_or-drop}
 use lib.Dec.{leb}
+use Rattle.std.specs.Prelude.{Result, Ok, Err}
 use Rattle.bits.specs.Bits.{pick}
 use Rattle.recorder.specs.declared.Cut.{Cut}
 use Rattle.recorder.specs.declared.Cut.TheVariants.{Record, End, Broken}
@@ -16,7 +17,7 @@ use Rattle.recorder.specs.Read.{split}
 use Rattle.recorder.specs.Standing.{standing, cut_at}
 use Rattle.recorder.proofs.Reading.{split_as, record_within}
 use Rattle.recorder.proofs.Roundtrip.{split_nil}
-use Rattle.simulation.specs.Index.{size_of, size_at, fields_at, records_in, widths_in, start_of}
+use Rattle.simulation.specs.Index.{size_of, size_at, fields_at, records_in, counted, widths_in, start_of}
 use Rattle.simulation.proofs.Offsets.{fields_count, start_first, start_next, start_past}
 
 pub record Walked (l : List ℕ) (at k : ℕ) : Type 0 where
@@ -137,6 +138,9 @@ module _ {l : List ℕ} {at k : ℕ} (w : Walked l at k) (size : ℕ) (e : size 
 
   pub walked_broken : at < length l → size ≡ 0 → (k ≡ length (records_in l)) × (false ≡ (split l).whole)
   walked_broken i z = (walked_out z, sym (w.whole ∙ left_broken l at size e i z))
+
+pub counted_as : (l : List ℕ) {k : ℕ} {b : Bool} → (k ≡ length (records_in l)) × (b ≡ (split l).whole) → pick b (Ok k) (Err k) ≡ counted l
+counted_as l w = ap₂ (λ (b : Bool) (k : ℕ). pick {A = Result ℕ ℕ} b (Ok k) (Err k)) w.1 w.0
 
 -- no record left: whatever is asked for begins no later
 pub walked_stop : {l : List ℕ} {at i : ℕ} → Walked l at i → (k : ℕ) → i ≡ length (records_in l) → i ≤ k → at ≡ start_of l k

@@ -6,8 +6,9 @@ use mathlib.Core.List.{List, [], ◌∷◌}
 use Rattle.std.specs.Prelude.{Option, None, Some}
 use native.Mathlib.Omega.{arith}
 use lib.Dec.{eqb, leb}
-use lib.ListN.{length, get_or, drop, length-drop, drop_of_length-le}
-use lib.Seq.{get_or-drop}
+use native.Mathlib.Decide.{dec_lt}
+use lib.ListN.{length, get_or, take, drop, length-drop, drop_of_length-le}
+use lib.Seq.{get_or-drop, take_all}
 use borrow.Author.Tests.{le-leb, lt-leb, eq-eqb, ne_eqb, lt-ltb, le-ltb}
 use Rattle.bits.specs.Bits.{pick}
 use Rattle.recorder.specs.Record.{reg, RegReset}
@@ -214,3 +215,23 @@ module _ (sw ew r : List ℕ) where
 
           pub reg_so : 10 ≤ length r → reset_test sw ew r ≡ true → (x : Bool) → x ≡ enable_test sw (drop 9 r) → x ≡ reg_test sw ew r
           reg_so k c x q = with_reset (and_go (eq-eqb f 1 one) (and_go (le-leb 10 (length r) k) (and_go c q)))
+
+take_nil : (n : ℕ) → take {A = ℕ} n [] ≡ []
+take_nil zero = refl
+take_nil (suc n) = refl
+
+-- by what stands behind the reset's flag, or behind the reset
+module _ (sw ew r : List ℕ) (b : head_test sw ew r ≡ true) {x : Bool} where
+  pub reg_without : get_or r 5 0 ≡ 0 → x ≡ enable_test sw (take (length r - 6) (drop 6 r)) → x ≡ reg_test sw ew r
+  reg_without z q = go (dec_lt 6 (length r))
+    where
+      go : Dec (6 < length r) → x ≡ reg_test sw ew r
+      go (yes h) = reg_plain sw ew r (omega arith) b (get_or r 5 0) refl z x (q ∙ ap (enable_test sw) (take_all (length r - 6) (drop 6 r) (omega (arith, length-drop 6 r))))
+      go (no h) = let k : length r ≤ 6 = omega arith in q ∙ ap (λ (l : List ℕ). enable_test sw (take (length r - 6) l)) (drop_of_length-le r k) ∙ ap (enable_test sw) (take_nil (length r - 6)) ∙ reg_short sw ew r (omega arith)
+
+  pub reg_with : get_or r 5 0 ≡ 1 → 9 ≤ length r → reset_test sw ew r ≡ true → x ≡ enable_test sw (take (length r - 9) (drop 9 r)) → x ≡ reg_test sw ew r
+  reg_with z n c q = go (dec_lt 9 (length r))
+    where
+      go : Dec (9 < length r) → x ≡ reg_test sw ew r
+      go (yes h) = reg_so sw ew r (omega arith) b (get_or r 5 0) refl (λ w. absurd (omega arith)) z (omega arith) c x (q ∙ ap (enable_test sw) (take_all (length r - 9) (drop 9 r) (omega (arith, length-drop 9 r))))
+      go (no h) = let k : length r ≤ 9 = omega arith in q ∙ ap (λ (l : List ℕ). enable_test sw (take (length r - 9) l)) (drop_of_length-le r k) ∙ ap (enable_test sw) (take_nil (length r - 9)) ∙ reg_cut sw ew r (omega arith) b (get_or r 5 0) refl (λ w. absurd (omega arith)) z (omega arith)

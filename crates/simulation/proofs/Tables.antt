@@ -7,6 +7,7 @@ use Rattle.std.specs.Prelude.{Option, None, Some}
 use native.Mathlib.Omega.{arith}
 use native.Mathlib.Numerals.{add-one}
 use native.Mathlib.Nat.{not-suc-le-zero}
+use native.Mathlib.Decide.{dec_lt}
 use lib.Dec.{ltb}
 use lib.ListN.{length, get_or, set}
 use lib.Seq.{ext_get_or}
@@ -66,6 +67,14 @@ filled_at f n t₀ {t} e i h q = ap (λ (r : List ℕ). get_or r i 0) e ∙ fill
 
 pub filling_full : (f : ℕ → ℕ) (k n : ℕ) (t₀ : List ℕ) {t : List ℕ} → t ≡ filling f k t₀ → length t ≤ k → k ≤ n → t ≡ filling f n t₀
 filling_full f k n t₀ e h q = e ∙ filling_past f k n t₀ (omega (arith, filled_length f k t₀ e)) q
+
+-- as many as the table has room for
+pub filling_end : (f : ℕ → ℕ) (m : ℕ) (t₀ : List ℕ) {n : ℕ} {t : List ℕ} → t ≡ filling f n t₀ → n ≡ min (length t₀) m → t ≡ filling f m t₀
+filling_end f m t₀ {n} {t} e h = go (dec_lt m (length t₀))
+  where
+    go : Dec (m < length t₀) → t ≡ filling f m t₀
+    go (yes q) = let z : n ≡ m = omega arith in e ∙ ap (λ (j : ℕ). filling f j t₀) z
+    go (no q) = filling_full f n m t₀ e (omega (arith, filled_length f n t₀ e)) (omega arith)
 
 module _ (l t₀ : List ℕ) {t : List ℕ} where
   pub widths_filled : t ≡ width_table l t₀ → Listed (widths_in l) t

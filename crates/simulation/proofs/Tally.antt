@@ -9,7 +9,7 @@ use lib.Dec.{eqb, leb}
 use lib.ListN.{length, get_or, set, replicate, length-set}
 use lib.Seq.{get_or-set_same, get_or-set_other, set_out}
 use borrow.Author.Tests.{le-leb, lt-leb, eq-eqb, ne_eqb}
-use Rattle.std.specs.Prelude.{Option, Some}
+use Rattle.std.specs.Prelude.{Option, None, Some}
 use Rattle.bits.specs.Bits.{pick}
 use Rattle.recorder.specs.Read.{Cut}
 use Rattle.simulation.specs.Wellformed.{drives, count_of, unsplit, behind}
@@ -84,14 +84,21 @@ module _ (rs : List (List ℕ)) (r : List ℕ) (left : List (List ℕ)) (table :
   pub tallying_more : {table' : List ℕ} → table' ≡ set table t (min (get_or table t 0 + 1) 2) → Tallying rs left table'
   tallying_more q = subst (Tallying rs left) (sym q) (record { so_far = λ i h. let k = subst (λ (n : ℕ). i < n) (length-set table t (min (get_or table t 0 + 1) 2)) h in at_target i k (stands r) refl e (ℕ_discrete i t) ∙ w.so_far i k; small = λ i. smaller i (ℕ_discrete i t) })
 
+-- by the record's target, if it has one
+module _ {rs : List (List ℕ)} {left : List (List ℕ)} {table : List ℕ} (w : Tallying rs left table) {r : List ℕ} {rest : List (List ℕ)} (q : left ≡ r ∷ rest) where
+  pub tallying_some : {t : ℕ} → Some t ≡ pick (stands r) (Some (get_or r 1 0)) None → {table' : List ℕ} → table' ≡ set table t (min (get_or table t 0 + 1) 2) → Tallying rs rest table'
+  tallying_some {t} e {table'} h = tallying_more rs r rest table t (subst (λ (l : List (List ℕ)). Tallying rs l table) q w) (go (stands r) e) h
+    where
+      go : (b : Bool) → Some t ≡ pick b (Some (get_or r 1 0)) None → t ≡ pick b (get_or r 1 0) (length table)
+      go true p = cc
+      go false p = absurd cc
+
+  pub tallying_none : None ≡ pick (stands r) (Some (get_or r 1 0)) None → Tallying rs rest table
+  tallying_none e = tallying_more rs r rest table (length table) (subst (λ (l : List (List ℕ)). Tallying rs l table) q w) (go (stands r) e) (sym (set_out table (length table) _ (omega arith)))
+    where
+      go : (b : Bool) → None ≡ pick b (Some (get_or r 1 0)) None → length table ≡ pick b (get_or r 1 0) (length table)
+      go true p = absurd cc
+      go false p = refl
+
 pub tallying_end : {rs left : List (List ℕ)} {table : List ℕ} → Tallying rs left table → left ≡ [] → Tallied rs table
 tallying_end {rs} {left} {table} w e = record { tally_at = λ i h. let q = w.so_far i h in let g = ap (λ (l : List (List ℕ)). count_of (drives i) l) e in let z = w.small i in omega arith }
-
--- WHOLE LISTS
-
-module _ (c : Cut) (o : Option ℕ) (n : ℕ) (b : Bool) (s : n ≡ length c.records) (w : b ≡ c.whole) where
-  pub unsplit_not : b ≡ false → Some n ≡ unsplit c o
-  unsplit_not f = sym (ap (λ (x : Bool). pick x (behind (length c.records) o) (Some (length c.records))) (sym w ∙ f) ∙ ap Some (sym s))
-
-  pub unsplit_so : {p : Option ℕ} → b ≡ true → p ≡ o → behind n p ≡ unsplit c o
-  unsplit_so {p} f q = sym (ap (λ (x : Bool). pick x (behind (length c.records) o) (Some (length c.records))) (sym w ∙ f) ∙ ap (λ (k : ℕ). behind k o) (sym s) ∙ ap (behind n) (sym q))

@@ -5,16 +5,9 @@ use Rattle.bits.specs.Bits.{pick}
 use Rattle.recorder.specs.Read.{read_signal, read_expr, read_stmt}
 use Rattle.recorder.specs.Record.{Model}
 use Rattle.recorder.specs.Lists.{Lists}
-use Rattle.simulation.specs.declared.Fault.{Fault}
-use Rattle.simulation.specs.declared.Fault.TheVariants.{Fine, At}
 use Rattle.simulation.specs.Index.{records_in, widths_in, Listed}
 use Rattle.simulation.specs.Wellformed.{widths, count_of, drives, wide, in_range, earlier, width_sum, broad, suits, fits, first_failing, signal_fits, expr_fits, stmt_fits, or_else, malformed}
 use Rattle.simulation.specs.Run.{Call, call_model, total, short, no_bit, wrong_count, wrong_fired, first_of, causes}
-
--- the first faulty record
-abbrev pub fault_of : Fault → Option ℕ
-fault_of Fine = None
-fault_of (At n) = Some n
 
 -- a record that counts as a statement
 abbrev pub stands : List ℕ → Bool

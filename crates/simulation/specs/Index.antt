@@ -1,17 +1,19 @@
 -- Where signals and expressions stand: their widths, offsets, words and drivers, and the tables that the code keeps of them.
 use Rattle.std.specs.Prelude.{ℕ, zero, suc, ◌+◌, ◌≤◌, ◌<◌, min, ◌≡◌, List, [], ◌∷◌, map, Bool, ◌&&◌, eqb, ltb, length, get_or, set}
-use Rattle.std.specs.Prelude.{Option, None, Some}
+use Rattle.std.specs.Prelude.{Option, None, Some, Result, Ok, Err}
 use Rattle.bits.specs.Bits.{pick}
 use Rattle.recorder.specs.Record.{Stmt}
 use Rattle.recorder.specs.Read.{split, read_stmt, read_all}
 pub use Rattle.recorder.specs.Standing.{size_of, size_at, fields_at}
-use Rattle.simulation.specs.declared.Driver.{Driver}
-use Rattle.simulation.specs.declared.Driver.TheVariants.{None as Undriven, By}
 use Rattle.simulation.specs.Wellformed.{widths}
 use Rattle.simulation.specs.Tick.{given, assigns}
 
 abbrev pub records_in : List ℕ → List (List ℕ)
 records_in list = (split list).records
+
+-- how many there are; an error if other words are left behind them
+abbrev pub counted : List ℕ → Result ℕ ℕ
+counted list = let n = length (records_in list) in pick (split list).whole (Ok n) (Err n)
 
 -- the widths that the records of a list give
 abbrev pub widths_in : List ℕ → List ℕ
@@ -88,10 +90,6 @@ offset_by list table k = tabled table k (λ (w : ℕ). w) (min (offset (widths_i
 abbrev pub stmts_in : List ℕ → List Stmt
 stmts_in list = read_all read_stmt (records_in list)
 
-abbrev pub driver_of : Driver → Option ℕ
-driver_of Undriven = None
-driver_of (By e) = Some e
-
 -- none is 0, expression e is e + 1
 abbrev pub coded : Option ℕ → ℕ
 coded None = 0
@@ -117,6 +115,10 @@ driver_by list table s = tabled table s uncoded (given assigns (stmts_in list) s
 -- from a record's fields: it is an assignment, and on signal s
 abbrev pub is_assign : List ℕ → Bool
 is_assign r = eqb (length r) 3 && eqb (get_or r 0 0) 0
+
+-- its signal and its expression
+abbrev pub assigned : List ℕ → Option (ℕ × ℕ)
+assigned r = pick (is_assign r) (Some (get_or r 1 0, get_or r 2 0)) None
 
 abbrev pub assigns_to : ℕ → List ℕ → Bool
 assigns_to s r = is_assign r && eqb (get_or r 1 0) s

@@ -7,5 +7,7 @@ pub mod Settled
 pub mod Kept
 pub mod Cases
 pub mod Index
+pub mod Model
+pub mod Records
 pub mod Fault
 pub mod Shown

@@ -1,8 +1,9 @@
 -- One call of the run, as a value: the answer, the signal bytes and the three works afterwards.
 use Rattle.std.specs.Prelude.{ℕ, suc, ◌+◌, min, Bool, false, ◌&&◌, List, [], ◌∷◌, ◌++◌, map, eqb, leb, ltb, length, take, drop}
-use Rattle.std.specs.Prelude.{Option, None, Some}
+use Rattle.std.specs.Prelude.{Option, None, Some, option_map, Result, Ok, Err, ⊤}
 use Rattle.bits.specs.Bits.{pick, Bits, digit}
 pub use Rattle.bits.specs.Bits.{flat}
+use Rattle.refusal.specs.declared.Refusal.{Refusal}
 use Rattle.refusal.specs.Refusal.{number_of, place_of}
 use Rattle.recorder.specs.Record.{Signal, Expr, Model}
 use Rattle.recorder.specs.Record.{const, read, concat, not, and, or, xor, mux, eq, mul}
@@ -10,21 +11,21 @@ use Rattle.recorder.specs.Lists.{Lists}
 use Rattle.recorder.specs.Read.{only, model_of}
 use Rattle.recorder.specs.Words.{raw_of}
 pub use Rattle.recorder.specs.Words.{zeroed}
-use Rattle.simulation.specs.declared.Fired.{Fired}
-use Rattle.simulation.specs.declared.Fired.TheVariants.{Nothing, Edge}
-use Rattle.simulation.specs.declared.Ran.{Ran}
-use Rattle.simulation.specs.declared.Ran.TheVariants.{Done, Refused}
+use Rattle.simulation.specs.declared.Edge.{Edge}
 use Rattle.simulation.specs.Wellformed.{or_else, malformed}
 use Rattle.simulation.specs.Tick.{Firing, tick, looped}
 
+-- how a run ends
+abbrev pub Ran : Type 0
+Ran = Result ⊤ Refusal
+
 -- a refusal's number and place, none for a run that is accepted
 abbrev pub answer_of : Ran → Option (ℕ × ℕ)
-answer_of Done = None
-answer_of (Refused x) = Some (number_of x, place_of x)
+answer_of (Ok x) = None
+answer_of (Err x) = Some (number_of x, place_of x)
 
-abbrev pub fired_of : Fired → Option (ℕ × ℕ)
-fired_of Nothing = None
-fired_of (Edge s d) = Some (s.0, d)
+abbrev pub fired_of : Option Edge → Option (ℕ × ℕ)
+fired_of = option_map (λ e. (e.signal.0, e.edge))
 
 -- nothing fires, or one edge of one signal
 abbrev pub firing : Option (ℕ × ℕ) → Firing

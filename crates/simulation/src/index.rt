@@ -1,14 +1,12 @@
 // Where a list's records stand, their widths and offsets, and what is assigned to a signal. A table holds the first; for the others the list
 // is walked.
 ghost use Rattle.std.specs.Prelude.{◌≡◌, ◌+◌, ◌≤◌, min, length, get_or};
-ghost use Rattle.recorder.specs.Read.{split};
-ghost use Rattle.simulation.specs.Index.{size_at, fields_at, records_in, widths_in, offset as sum_to, start_of, clipped, start_table, start_by, offset_table, offset_by, stmts_in, driver_of, driver_table, driver_by, is_assign, assigns_to, noted};
+ghost use Rattle.simulation.specs.Index.{size_at, fields_at, records_in, counted, widths_in, offset as sum_to, start_of, clipped, start_table, start_by, offset_table, offset_by, stmts_in, driver_table, driver_by, assigned, noted};
 ghost use Rattle.simulation.specs.Tick.{given, assigns as by_assign};
 
-use crate::Driver;
-use crate::zero::zero_words;
+use crate::records::Records;
 use recorder::Cut;
-use recorder::read::cut;
+use recorder::read::{cut, word};
 
 pub fn wide(x: u32) -> usize
     ensures { result ≡ x }
@@ -57,50 +55,20 @@ pub fn field(list: &[u32], at: usize, size: usize, j: usize) -> u32
     list[at + 1 + j]
 }
 
-#[derive(Clone, Copy)]
-pub struct Counted {
-    pub count: usize,
-    pub whole: bool,
-}
-
-// How many records stand whole from the left, and whether they are the whole list.
-pub fn count(list: &[u32]) -> Counted
-    ensures { (result.count ≡ length (records_in list.now)) × (result.whole ≡ (split list.now).whole) }
+// How many records stand whole from the left.
+pub fn count(list: &[u32]) -> usize
+    ensures { result ≡ length (records_in list.now) }
 {
-    let mut at: usize = 0;
-    let mut n: usize = 0;
-    while at < list.len() {
-        let size = size(list, at);
-        if size == 0 {
-            return Counted {
-                count: n,
-                whole: false,
-            };
-        }
-        at += size;
-        n += 1;
-    }
-    Counted {
-        count: n,
-        whole: true,
-    }
+    Records::new(list).count()
 }
 
 // The sum of the first widths of a list, as far as it can be named.
 pub fn sum_to(list: &[u32], limit: usize) -> usize
     ensures { result ≡ min (sum_to (widths_in list.now) limit) 18446744073709551615 }
 {
-    let mut at: usize = 0;
-    let mut k: usize = 0;
     let mut sum: usize = 0;
-    while k < limit {
-        let size = size(list, at);
-        if size == 0 {
-            return sum;
-        }
-        sum = plus(sum, wide(field(list, at, size, 1)));
-        at += size;
-        k += 1;
+    for fields in Records::new(list).take(limit) {
+        sum = sum.saturating_add(wide(word(fields, 1)));
     }
     sum
 }
@@ -127,14 +95,8 @@ fn walk_start(list: &[u32], k: usize) -> usize
     ensures { result ≡ start_of list.now k }
 {
     let mut at: usize = 0;
-    let mut i: usize = 0;
-    while i < k {
-        let size = size(list, at);
-        if size == 0 {
-            return at;
-        }
-        at += size;
-        i += 1;
+    for fields in Records::new(list).take(k) {
+        at += fields.len() + 1;
     }
     at
 }
@@ -155,15 +117,9 @@ pub fn fill_starts(list: &[u32], table: &mut [u32])
     ensures { table.new ≡ start_table list.now table.old }
 {
     let mut at: usize = 0;
-    let mut k: usize = 0;
-    while k < table.len() {
-        let size = size(list, at);
-        if size == 0 {
-            return;
-        }
+    for (k, fields) in (0..table.len()).zip(Records::new(list)) {
         table[k] = clip(at);
-        at += size;
-        k += 1;
+        at += fields.len() + 1;
     }
 }
 
@@ -182,104 +138,72 @@ pub fn offset(list: &[u32], table: &[u32], k: usize) -> usize
 pub fn fill_offsets(list: &[u32], table: &mut [u32])
     ensures { table.new ≡ offset_table list.now table.old }
 {
-    let mut at: usize = 0;
-    let mut k: usize = 0;
+    if table.is_empty() {
+        return;
+    }
+    table[0] = 0;
     let mut sum: usize = 0;
-    while k < table.len() {
+    for (k, fields) in (1..table.len()).zip(Records::new(list)) {
+        sum = sum.saturating_add(wide(word(fields, 1)));
         table[k] = clip(sum);
-        let size = size(list, at);
-        if size == 0 {
-            return;
-        }
-        sum = plus(sum, wide(field(list, at, size, 1)));
-        at += size;
-        k += 1;
     }
 }
 
-// The statement at an index is an assignment.
-fn is_assign(stmts: &[u32], at: usize, size: usize) -> bool
-    requires { at + size ≤ length stmts.now }
-    ensures { result ≡ is_assign (fields_at stmts.now at size) }
+// The signal and the expression of a statement that is an assignment.
+fn assigned(fields: &[u32]) -> Option<(u32, u32)>
+    ensures { result ≡ assigned fields.now }
 {
-    if size != 4 {
-        return false;
+    match fields {
+        [0, t, e] => Some((*t, *e)),
+        _ => None,
     }
-    field(stmts, at, size, 0) == 0
 }
 
-// It is one on signal s.
-fn assigns(stmts: &[u32], at: usize, size: usize, s: usize) -> bool
-    requires { at + size ≤ length stmts.now }
-    ensures { result ≡ assigns_to s (fields_at stmts.now at size) }
+fn walk_driver(stmts: &[u32], s: usize) -> Option<u32>
+    ensures { result ≡ given by_assign (stmts_in stmts.now) s }
 {
-    if !is_assign(stmts, at, size) {
-        return false;
-    }
-    wide(field(stmts, at, size, 1)) == s
-}
-
-fn walk_driver(stmts: &[u32], s: usize) -> Driver
-    ensures { driver_of result ≡ given by_assign (stmts_in stmts.now) s }
-{
-    let mut at: usize = 0;
-    while at < stmts.len() {
-        let size = size(stmts, at);
-        if size == 0 {
-            return Driver::None;
+    for fields in Records::new(stmts) {
+        if let Some((t, e)) = assigned(fields) {
+            if wide(t) == s {
+                return Some(e);
+            }
         }
-        if assigns(stmts, at, size, s) {
-            return Driver::By(field(stmts, at, size, 2));
-        }
-        at += size;
     }
-    Driver::None
+    None
 }
 
 // The expression that is assigned to signal s, from the table, or else from the list.
-pub fn driver(stmts: &[u32], table: &[u32], s: usize) -> Driver
-    ensures { driver_of result ≡ driver_by stmts.now table.now s }
+pub fn driver(stmts: &[u32], table: &[u32], s: usize) -> Option<u32>
+    ensures { result ≡ driver_by stmts.now table.now s }
 {
     let w = entry(table, s);
     if w == 0 {
-        return Driver::None;
+        return None;
     }
     if w < 4294967295 {
-        return Driver::By(w - 1);
+        return Some(w - 1);
     }
     walk_driver(stmts, s)
 }
 
-// Notes the statement at an index, if it is the first assignment on its signal.
-fn note(stmts: &[u32], at: usize, size: usize, table: &mut [u32])
-    requires { at + size ≤ length stmts.now }
-    ensures { table.new ≡ noted (fields_at stmts.now at size) table.old }
+// Notes a statement, if it is the first assignment on its signal.
+fn note(fields: &[u32], table: &mut [u32])
+    ensures { table.new ≡ noted fields.now table.old }
 {
-    if !is_assign(stmts, at, size) {
-        return;
+    if let Some((t, e)) = assigned(fields) {
+        let t = wide(t);
+        if t < table.len() && table[t] == 0 {
+            table[t] = clip(wide(e) + 1);
+        }
     }
-    let t = wide(field(stmts, at, size, 1));
-    if t >= table.len() {
-        return;
-    }
-    if table[t] != 0 {
-        return;
-    }
-    table[t] = clip(wide(field(stmts, at, size, 2)) + 1);
 }
 
 // Fills the table with what is assigned to the first signals.
 pub fn fill_drivers(stmts: &[u32], table: &mut [u32])
     ensures { table.new ≡ driver_table stmts.now table.old }
 {
-    zero_words(table);
-    let mut at: usize = 0;
-    while at < stmts.len() {
-        let size = size(stmts, at);
-        if size == 0 {
-            return;
-        }
-        note(stmts, at, size, table);
-        at += size;
+    table.fill(0);
+    for fields in Records::new(stmts) {
+        note(fields, table);
     }
 }

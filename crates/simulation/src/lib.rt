@@ -3,35 +3,21 @@
 #![tactic(auto)]
 
 pub mod index;
-pub mod zero;
+pub mod records;
 
 use recorder::SignalId;
-use refusal::Refusal;
 
-// What fires in a tick: nothing, or an edge (0 rises, 1 falls) of a signal.
+// A model as its three lists of words.
 #[derive(Clone, Copy)]
-pub enum Fired {
-    Nothing,
-    Edge(SignalId, u32),
+pub struct Model<'a> {
+    pub signals: &'a [u32],
+    pub exprs: &'a [u32],
+    pub stmts: &'a [u32],
 }
 
-// How a run ends.
-#[derive(Clone, Copy)]
-pub enum Ran {
-    Done,
-    Refused(Refusal),
-}
-
-// A model's first faulty record, counted through its three lists.
-#[derive(Clone, Copy)]
-pub enum Fault {
-    Fine,
-    At(usize),
-}
-
-// What is assigned to a signal: nothing, or an expression.
-#[derive(Clone, Copy)]
-pub enum Driver {
-    None,
-    By(u32),
+// An edge of a signal: 0 rises, 1 falls. A caller can say a larger number; then the tick is refused.
+#[derive(Clone, Copy, Debug, PartialEq, Eq)]
+pub struct Edge {
+    pub signal: SignalId,
+    pub edge: u32,
 }

@@ -9,8 +9,7 @@ use Rattle.recorder.specs.Lists.{Lists}
 use Rattle.lowering.specs.Lower.{Lowered, Accepted, Refused, Lowering}
 use Rattle.behaviour.specs.Behaviour.{start, NoWireLoop}
 use Rattle.simulation.specs.Wellformed.{largest}
-use Rattle.simulation.specs.declared.Ran.{Ran}
-use Rattle.simulation.specs.Run.{zeroed, tick_bits}
+use Rattle.simulation.specs.Run.{Ran, zeroed, tick_bits}
 use Rattle.simulation.specs.Run as s
 use Rattle.simulation.specs.Shown.{Entry, ByModel}
 use Rattle.forms.specs.Lowered.{lowered_model}

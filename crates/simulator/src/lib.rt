@@ -12,10 +12,8 @@ ghost use Rattle.simulator.specs.Entry.{simulation, Simulates, Zeroed, StaysZero
 
 use converter::{Lowered, lower};
 use recorder::Tapes;
-use recorder::words::zero_words;
+use refusal::Refusal;
 use runner::run_list;
-use simulation::Ran;
-use simulation::zero::{zero_bytes, zero_longs};
 
 // So many words of a list, at most all of them.
 fn cut(list: &[u32], n: usize) -> usize
@@ -43,7 +41,7 @@ fn run_used(
     work_signals: &mut [u8],
     answers: &mut [u64],
     shown: &mut [u8],
-) -> Ran
+) -> Result<(), Refusal>
     ensures runs { RunsList (on_used (list_call (lists signals.now exprs.now stmts.now) heads.now bits.now bytes.old work_bits.old work_exprs.old work_signals.old answers.old shown.old) tapes) result bytes.new answers.new shown.new }
     ensures works { Zeroed (work_bits.old ∷ work_exprs.old ∷ work_signals.old ∷ []) (work_bits.new ∷ work_exprs.new ∷ work_signals.new ∷ []) }
     ensures tables { Zeroed (starts.old ∷ expr_table.old ∷ signal_table.old ∷ driver_table.old ∷ order.old ∷ []) (starts.new ∷ expr_table.new ∷ signal_table.new ∷ driver_table.new ∷ order.new ∷ []) }
@@ -77,15 +75,15 @@ fn run_used(
 fn zero_lists(signals: &mut [u32], exprs: &mut [u32], stmts: &mut [u32])
     ensures { ZerosThree signals.old exprs.old stmts.old signals.new exprs.new stmts.new }
 {
-    zero_words(signals);
-    zero_words(exprs);
-    zero_words(stmts);
+    signals.fill(0);
+    exprs.fill(0);
+    stmts.fill(0);
 }
 
 // How the ticks' answer ends the whole: a refusal leaves no model.
 fn conclude(
     tapes: Tapes,
-    a: Ran,
+    a: Result<(), Refusal>,
     signals: &mut [u32],
     exprs: &mut [u32],
     stmts: &mut [u32],
@@ -93,8 +91,8 @@ fn conclude(
     ensures { Concludes (lists signals.old exprs.old stmts.old) tapes a result (lists signals.new exprs.new stmts.new) }
 {
     match a {
-        Ran::Done => Lowered::Accepted(tapes),
-        Ran::Refused(x) => {
+        Ok(()) => Lowered::Accepted(tapes),
+        Err(x) => {
             zero_lists(signals, exprs, stmts);
             Lowered::Refused(x)
         }
@@ -157,11 +155,11 @@ fn zero_outputs(
 )
     ensures { Zeroed (work_bits.old ∷ work_exprs.old ∷ work_signals.old ∷ answers.old ∷ shown.old ∷ []) (work_bits.new ∷ work_exprs.new ∷ work_signals.new ∷ answers.new ∷ shown.new ∷ []) }
 {
-    zero_bytes(work_bits);
-    zero_bytes(work_exprs);
-    zero_bytes(work_signals);
-    zero_longs(answers);
-    zero_bytes(shown);
+    work_bits.fill(0);
+    work_exprs.fill(0);
+    work_signals.fill(0);
+    answers.fill(0);
+    shown.fill(0);
 }
 
 // What follows lowering.
@@ -243,7 +241,7 @@ pub fn simulate(
     let lowered = lower(
         words, signals, exprs, stmts, wires, places, parts, values, banks,
     );
-    zero_bytes(bytes); // the ticks start from zeros
+    bytes.fill(0); // the ticks start from zeros
     let r = run_lowered(
         lowered,
         heads,
@@ -263,6 +261,6 @@ pub fn simulate(
         answers,
         shown,
     );
-    zero_bytes(bytes); // and no state is left
+    bytes.fill(0); // and no state is left
     r
 }

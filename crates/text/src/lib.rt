@@ -2,49 +2,115 @@
 
 #![tactic(auto)]
 
-ghost use Rattle.std.specs.Prelude.{◌≡◌, ◌<◌, ◌≤◌, [], ◌∷◌, length, drop, take, true};
+ghost use Rattle.std.specs.Prelude.{◌≡◌, ◌-◌, ◌≤◌, [], ◌∷◌, IsOk, length, drop, take};
 ghost use Rattle.std.specs.Io.KnownBytes.{Appends};
-ghost use Rattle.text.specs.Text.{Appended, Flushed};
 ghost use Rattle.text.specs.Decimal.{decimal};
 
 use std::io::Write;
+use std::{fmt, io};
 
-// The place behind what was put, or that not all of it fitted.
-#[derive(Clone, Copy)]
-pub enum Place {
-    At(usize),
-    Full,
-}
+// Not all of a text fitted into the buffer.
+#[derive(Clone, Copy, Debug, PartialEq, Eq)]
+pub struct Full;
 
-pub fn put_byte(out: &mut [u8], at: usize, byte: u8) -> Place
-    ensures { Appended out.old at (byte ∷ []) result out.new }
-{
-    if at < out.len() {
-        out[at] = byte;
-        Place::At(at + 1)
-    } else {
-        Place::Full
+impl fmt::Display for Full {
+    fn fmt<W: fmt::Write>(&self, f: &mut fmt::Formatter<W>) -> fmt::Result {
+        write!(f, "the buffer is full")
     }
 }
 
-pub fn put_text(out: &mut [u8], at: usize, text: &[u8]) -> Place
-    ensures { Appended out.old at text.now result out.new }
-{
-    let len = out.len();
-    if len < at {
-        return Place::Full;
+// Where text is put and then written, one `?` passes on both errors.
+impl From<Full> for io::Error {
+    fn from(_full: Full) -> io::Error {
+        io::Error::from(io::ErrorKind::WriteZero)
     }
-    let left = len - at;
-    let n = text.len();
-    let mut i = 0;
-    while i < n {
-        if i == left {
-            return Place::Full;
+}
+
+// Text at the start of a lent buffer.
+#[derive(Drop)]
+pub struct Text<'a> {
+    pub out: &'a mut [u8],
+    pub used: usize,
+    ghost within: { used ≤ length out.now },
+}
+
+impl<'a> Text<'a> {
+    ghost use Rattle.text.specs.Text.{Appended};
+
+    pub fn new(out: &'a mut [u8]) -> Text<'a>
+        ensures same_reference { result.out.ghost_name ≡ out.entry.ghost_name }
+        ensures same_bytes { result.out.now ≡ out.old }
+        ensures empty { result.used ≡ 0 }
+    {
+        Text { out, used: 0 }
+    }
+
+    // How many bytes more fit.
+    pub fn room(&self) -> usize
+        ensures { result ≡ length self.now.out.now - self.now.used }
+    {
+        self.out.len() - self.used
+    }
+
+    pub fn put_byte(&mut self, byte: u8) -> Result<(), Full>
+        ensures { Appended self.old (byte ∷ []) result self.new }
+    {
+        if self.used < self.out.len() {
+            self.out[self.used] = byte;
+            self.used += 1;
+            Ok(())
+        } else {
+            Err(Full)
         }
-        out[at + i] = text[i];
-        i += 1;
     }
-    Place::At(at + n)
+
+    pub fn put(&mut self, bytes: &[u8]) -> Result<(), Full>
+        ensures { Appended self.old bytes.now result self.new }
+    {
+        let fits = bytes.len().min(self.room());
+        self.out[self.used..self.used + fits].copy_from_slice(&bytes[..fits]);
+        self.used += fits;
+        if fits == bytes.len() {
+            Ok(())
+        } else {
+            Err(Full)
+        }
+    }
+
+    // A number's decimal digits.
+    pub fn put_decimal(&mut self, n: u64) -> Result<(), Full>
+        ensures { Appended self.old (decimal n) result self.new }
+    {
+        let mut figures = [0u8; 20];
+        let k = decimal(n, &mut figures);
+        self.put(&figures[k..])
+    }
+
+    pub fn bytes(&self) -> &[u8]
+        ensures { result.now ≡ take self.now.used self.now.out.now }
+    {
+        &self.out[..self.used]
+    }
+
+    pub fn clear(&mut self)
+        ensures same_reference { self.new.out.ghost_name ≡ self.old.out.ghost_name }
+        ensures same_bytes { self.new.out.now ≡ self.old.out.now }
+        ensures empty { self.new.used ≡ 0 }
+    {
+        self.used = 0;
+    }
+
+    // Writes the text to a writer, as the standard output, and begins anew.
+    pub fn flush<W: Write>(&mut self, to: &mut W) -> io::Result<()>
+        ensures same_reference { self.new.out.ghost_name ≡ self.old.out.ghost_name }
+        ensures same_bytes { self.new.out.now ≡ self.old.out.now }
+        ensures empty { self.new.used ≡ 0 }
+        ensures written { IsOk result → Appends (W.contents to.old) (W.contents to.new) (take self.old.used self.old.out.now) }
+    {
+        let sent = to.write_all(self.bytes());
+        self.clear();
+        sent
+    }
 }
 
 // Puts a number's decimal digits at the end of figures, and answers where they begin.
@@ -52,6 +118,7 @@ pub fn decimal(n: u64, figures: &mut [u8; 20]) -> usize
     ensures within { result ≤ 20 }
     ensures digits { drop result figures.new ≡ decimal n }
 {
+    // From the last digit, since their number is not known before: no `for` is plainer.
     let mut i = 20;
     let mut rest = n;
     while 10 <= rest {
@@ -62,26 +129,4 @@ pub fn decimal(n: u64, figures: &mut [u8; 20]) -> usize
     i -= 1;
     figures[i] = b'0' + rest as u8;
     i
-}
-
-// A number's decimal digits.
-pub fn put_decimal(out: &mut [u8], at: usize, n: u64) -> Place
-    ensures { Appended out.old at (decimal n) result out.new }
-{
-    let mut figures = [0u8; 20];
-    let k = decimal(n, &mut figures);
-    put_text(out, at, &figures[k..])
-}
-
-// Writes the bytes before a place to a writer, as the standard output, and answers whether all were written.
-pub fn flush<W: Write>(to: &mut W, out: &[u8], at: usize) -> bool
-    ensures said { Flushed out.now at result }
-    ensures written { result ≡ true → Appends (W.contents to.old) (W.contents to.new) (take at out.now) }
-    ensures kept { length out.now < at → W.contents to.new ≡ W.contents to.old }
-{
-    if at <= out.len() {
-        to.write_all(&out[..at]).is_ok()
-    } else {
-        false
-    }
 }

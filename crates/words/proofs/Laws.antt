@@ -1,13 +1,13 @@
 -- Laws of the words of bytes.
 -- Assumes nothing.
-use mathlib.Core.Path.{◌≡◌, refl, sym, ◌∙◌, ap, subst}
+use mathlib.Core.Path.{◌≡◌, refl, sym, ◌∙◌, ap}
 use mathlib.Core.List.{List, [], ◌∷◌, ◌++◌}
-use Prim.Native.Nat.{ℕ, zero, suc, ◌+◌, ◌*◌, ◌/◌, ◌≤◌, ◌<◌, min}
+use Prim.Native.Nat.{ℕ, suc, ◌+◌, ◌-◌, ◌/◌, ◌<◌, min}
 use native.Mathlib.Omega.{arith}
-use lib.ListN.{length, get_or, set, take, drop}
-use lib.Seq.{take-suc, drop-cons, append_snoc, set_at, drop_at, length-take-le, take-append-le}
+use native.Mathlib.Nat.{add-zero}
+use lib.ListN.{length, get_or, set, take, drop, length-drop, length-append, length-take}
+use lib.Seq.{take-suc, drop-cons, drop-drop, get_or-drop, append_snoc, set_at, length-take-le}
 use Rattle.std.specs.declared.option.Option.{Option}
-use Rattle.std.specs.Io.KnownBytes.{Consumes}
 use Rattle.std.proofs.KnownBytes.{Consumes-nil}
 use Rattle.words.specs.Words.{le_word, words_of, Laid, ReadWords}
 
@@ -21,46 +21,51 @@ words_length (a ∷ b ∷ c ∷ d ∷ bytes) =
     let h : length (words_of bytes) ≡ length bytes / 4 = words_length bytes in
     omega (arith, h)
 
--- the word at an index
-pub word_at : (bytes : List ℕ) (k : ℕ) → k < length bytes / 4
-    → le_word (get_or bytes (4 * k) 0) (get_or bytes (4 * k + 1) 0) (get_or bytes (4 * k + 2) 0) (get_or bytes (4 * k + 3) 0) ≡ get_or (words_of bytes) k 0
+-- the first four bytes make the first word
+pub words_next : (four left : List ℕ) → length four ≡ 4
+    → words_of (four ++ left) ≡ le_word (get_or four 0 0) (get_or four 1 0) (get_or four 2 0) (get_or four 3 0) ∷ words_of left
 unfolding words_of
-word_at [] k h = absurd (omega (arith, h))
-word_at (a ∷ []) k h = absurd (omega (arith, h))
-word_at (a ∷ b ∷ []) k h = absurd (omega (arith, h))
-word_at (a ∷ b ∷ c ∷ []) k h = absurd (omega (arith, h))
-word_at (a ∷ b ∷ c ∷ d ∷ bytes) zero h = refl
-word_at (a ∷ b ∷ c ∷ d ∷ bytes) (suc k) h =
-    let at : (j i : ℕ) → i ≡ suc (suc (suc (suc j))) → get_or (a ∷ b ∷ c ∷ d ∷ bytes) i 0 ≡ get_or bytes j 0 = λ j i e. ap (λ (x : ℕ). get_or (a ∷ b ∷ c ∷ d ∷ bytes) x 0) e in
-    let e₀ = at (4 * k) (4 * suc k) (omega arith) in
-    let e₁ = at (4 * k + 1) (4 * suc k + 1) (omega arith) in
-    let e₂ = at (4 * k + 2) (4 * suc k + 2) (omega arith) in
-    let e₃ = at (4 * k + 3) (4 * suc k + 3) (omega arith) in
-    rw (e₀, e₁, e₂, e₃) (word_at bytes k (omega (arith, h)))
+words_next [] left h = absurd (omega arith)
+words_next (a ∷ []) left h = absurd (omega arith)
+words_next (a ∷ b ∷ []) left h = absurd (omega arith)
+words_next (a ∷ b ∷ c ∷ []) left h = absurd (omega arith)
+words_next (a ∷ b ∷ c ∷ d ∷ []) left h = refl
+words_next (a ∷ b ∷ c ∷ d ∷ e ∷ four) left h = absurd (omega arith)
+
+-- fewer than four make none
+pub words_none : (bytes : List ℕ) → length bytes < 4 → words_of bytes ≡ []
+unfolding words_of
+words_none [] h = refl
+words_none (a ∷ []) h = refl
+words_none (a ∷ b ∷ []) h = refl
+words_none (a ∷ b ∷ c ∷ []) h = refl
+words_none (a ∷ b ∷ c ∷ d ∷ bytes) h = absurd (omega arith)
 
 -- one more word is laid
-pub laid_step : (ws out : List ℕ) (k : ℕ) → k < length ws → k < length out
-    → set (take k ws ++ drop k out) k (get_or ws k 0) ≡ take (k + 1) ws ++ drop (k + 1) out
-laid_step ws out k h g =
-    let e : k + 1 ≡ suc k = omega arith in
-    ap (λ (r : List ℕ). set (take k ws ++ r) k (get_or ws k 0)) (drop-cons out k 0 g)
-    ∙ set_at (take k ws) (get_or out k 0) (drop (suc k) out) (get_or ws k 0) k (length-take-le k ws (omega arith))
-    ∙ sym (append_snoc (take k ws) (get_or ws k 0) (drop (suc k) out))
-    ∙ ap (λ (r : List ℕ). r ++ drop (suc k) out) (sym (take-suc ws k 0 h))
-    ∙ sym (ap (λ (i : ℕ). take i ws ++ drop i out) e)
+pub laid_more : (ws out₀ out : List ℕ) (k v : ℕ) {more : List ℕ} → out ≡ take k ws ++ drop k out₀ → drop k ws ≡ v ∷ more → k < length out₀ → set out k v ≡ take (k + 1) ws ++ drop (k + 1) out₀
+laid_more ws out₀ out k v {more} q e g =
+    let n : k + 1 ≡ suc k = omega arith in
+    let h : k < length ws = omega (arith, length-drop k ws, ap length e) in
+    let w : get_or ws k 0 ≡ v = sym (get_or-drop k ws 0 0 ∙ ap (λ (i : ℕ). get_or ws i 0) (add-zero k)) ∙ ap (λ (l : List ℕ). get_or l 0 0) e in
+    ap (λ (l : List ℕ). set l k v) (q ∙ ap (λ (r : List ℕ). take k ws ++ r) (drop-cons out₀ k 0 g))
+    ∙ set_at (take k ws) (get_or out₀ k 0) (drop (suc k) out₀) v k (length-take-le k ws (omega arith))
+    ∙ sym (append_snoc (take k ws) v (drop (suc k) out₀))
+    ∙ ap (λ (r : List ℕ). r ++ drop (suc k) out₀) (ap (λ (x : ℕ). take k ws ++ (x ∷ [])) (sym w) ∙ sym (take-suc ws k 0 h))
+    ∙ sym (ap (λ (i : ℕ). take i ws ++ drop i out₀) n)
 
-pub laid_more : (bytes out₀ out : List ℕ) (k v : ℕ) → k < length bytes / 4 → k < length out → length out ≡ length out₀
-    → v ≡ le_word (get_or bytes (4 * k) 0) (get_or bytes (4 * k + 1) 0) (get_or bytes (4 * k + 2) 0) (get_or bytes (4 * k + 3) 0)
-    → out ≡ take k (words_of bytes) ++ drop k out₀ → set out k v ≡ take (k + 1) (words_of bytes) ++ drop (k + 1) out₀
-laid_more bytes out₀ out k v h g l e q =
-    let n : length (words_of bytes) ≡ length bytes / 4 = words_length bytes in
-    ap (λ (x : ℕ). set out k x) (e ∙ word_at bytes k h)
-    ∙ ap (λ (r : List ℕ). set r k (get_or (words_of bytes) k 0)) q
-    ∙ laid_step (words_of bytes) out₀ k (omega (arith, h, n)) (omega (arith, g, l))
+pub drop_more : (ws : List ℕ) (k v : ℕ) {more : List ℕ} → drop k ws ≡ v ∷ more → drop (k + 1) ws ≡ more
+drop_more ws k v e = sym (drop-drop 1 k ws) ∙ ap (drop 1) e
 
--- no word is left, or no room
-pub laid_end : (bytes out₀ out : List ℕ) (k : ℕ) → k ≡ min (length bytes / 4) (length out₀) → out ≡ take k (words_of bytes) ++ drop k out₀ → Laid bytes out₀ k out
-laid_end bytes out₀ out k e q = record { count = e ∙ ap (λ (n : ℕ). min n (length out₀)) (sym (words_length bytes)); words = q }
+-- no room is left, or no word
+pub laid_end : (bytes out₀ out rest : List ℕ) (k n : ℕ) {room : ℕ} → k + room ≡ length out₀ → length out ≡ length out₀ → drop k (words_of bytes) ≡ words_of rest → (0 < room → length rest < 4)
+    → out ≡ take k (words_of bytes) ++ drop k out₀ → n ≡ min (length out) (length bytes / 4) → Laid bytes out₀ n out
+laid_end bytes out₀ out rest k n {room} r l e h q m =
+    let ws = words_of bytes in
+    let all : length ws ≡ length bytes / 4 = words_length bytes in
+    let a : length ws - k ≡ length rest / 4 = sym (length-drop k ws) ∙ ap length e ∙ words_length rest in
+    let b : length out ≡ length (take k ws) + length (drop k out₀) = ap length q ∙ length-append (take k ws) (drop k out₀) in
+    let k_is : k ≡ n = grind (arith, a, all, h, b, r, l, m, length-take k ws, length-drop k out₀) in
+    record { count = omega (arith, m, l, all); words = q ∙ ap (λ (i : ℕ). take i ws ++ drop i out₀) k_is }
 
 -- READING
 
@@ -71,23 +76,3 @@ laid_none bytes out = record { count = omega arith; words = refl }
 -- nothing is read
 pub read_none : (bytes out : List ℕ) (n : ℕ) (left : Option (List ℕ)) → ReadWords bytes out n 0 bytes out left left
 read_none bytes out n left = record { came = 0; most = omega arith; taken = Consumes-nil left; laid = laid_none bytes out; kept = refl; roomless = λ h. (refl, refl) }
-
--- some bytes come in front of those behind n words
-pub read_some : (bytes front out : List ℕ) (n came : ℕ) {r : ℕ} {out' : List ℕ} (left left' : Option (List ℕ)) → n ≤ length bytes / 4 → length front ≡ length (take (4 * n) bytes) → came ≤ 4 * n
-    → Consumes left left' (take came front) → Laid (take came (front ++ drop (4 * n) bytes)) out r out' → ReadWords bytes out n r (front ++ drop (4 * n) bytes) out' left left'
-read_some bytes front out n came left left' room l most taken laid =
-    let e : length (take (4 * n) bytes) ≡ 4 * n = length-take-le (4 * n) bytes (omega (arith, room)) in
-    record {
-      came = came;
-      most = most;
-      taken = subst (Consumes left left') (sym (take-append-le came front (drop (4 * n) bytes) (omega (arith, l, e, most)))) taken;
-      laid = laid;
-      kept = drop_at front (drop (4 * n) bytes) (4 * n) (l ∙ e);
-      roomless = λ h. absurd (omega (arith, room, h));
-    }
-
--- no more than the room for n words
-pub never_more : (bytes front : List ℕ) (n came : ℕ) → n ≤ length bytes / 4 → length front ≡ length (take (4 * n) bytes) → came ≤ length front → 4 * n < came → ⊥
-never_more bytes front n came room l most h =
-    let e : length (take (4 * n) bytes) ≡ 4 * n = length-take-le (4 * n) bytes (omega (arith, room)) in
-    omega (arith, l, e, most, h)

@@ -5,36 +5,19 @@
 ghost use Rattle.std.specs.Prelude.{◌≡◌, take};
 ghost use Rattle.std.specs.Io.KnownBytes.{Consumes};
 ghost use Rattle.std.specs.Counts.{IsPrefixLen};
-ghost use Rattle.words.specs.Words.{le_word, Laid, ReadWords};
+ghost use Rattle.words.specs.Words.{Laid, ReadWords};
 
 use std::io::Read;
-
-fn le_word(a: u8, b: u8, c: u8, d: u8) -> u32
-    ensures { result ≡ le_word a b c d }
-{
-    (a as u32) + 256 * (b as u32) + 65536 * (c as u32) + 16777216 * (d as u32)
-}
 
 // The words of the bytes, laid at the start of out, and how many there are.
 pub fn words_of(bytes: &[u8], out: &mut [u32]) -> usize
     ensures prefix_len { IsPrefixLen result out.new }
     ensures laid { Laid bytes.now out.old result out.new }
 {
-    let n = bytes.len() / 4;
-    let mut k: usize = 0;
-    while k < n {
-        if out.len() <= k {
-            return k;
-        }
-        out[k] = le_word(
-            bytes[4 * k],
-            bytes[4 * k + 1],
-            bytes[4 * k + 2],
-            bytes[4 * k + 3],
-        );
-        k += 1;
+    for (k, four) in bytes.chunks_exact(4).take(out.len()).enumerate() {
+        out[k] = u32::from_le_bytes([four[0], four[1], four[2], four[3]]);
     }
-    k
+    out.len().min(bytes.len() / 4)
 }
 
 // Reads until bytes are full, the input ends or a read fails, and answers how many bytes came to their start.
@@ -42,6 +25,7 @@ pub fn read_full<R: Read>(from: &mut R, bytes: &mut [u8]) -> usize
     ensures prefix_len { IsPrefixLen result bytes.new }
     ensures consumed { Consumes (R.remaining from.old) (R.remaining from.new) (take result bytes.new) }
 {
+    // `read_exact` does not say how much came before the input ended.
     let mut done = 0;
     while done < bytes.len() {
         let Ok(n) = from.read(&mut bytes[done..]) else {
@@ -64,8 +48,5 @@ pub fn read_words<R: Read>(from: &mut R, bytes: &mut [u8], out: &mut [u32], n: u
         return 0;
     }
     let got = read_full(from, &mut bytes[..4 * n]);
-    if 4 * n < got {
-        return 0;
-    }
     words_of(&bytes[..got], out)
 }

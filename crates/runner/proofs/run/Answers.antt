@@ -5,4 +5,4 @@ use Rattle.runner.proofs.Call.{runs, zeroed_same}
 use Rattle.runner.proofs.run.Goals as goal
 
 pub returns : goal.returns
-returns c = let a = c.args in runs (call_of (lists a.signals.now a.exprs.now a.stmts.now) a.bytes.now a.ticks.now (fired_of a.fired) a.work_bits.now a.work_exprs.now a.work_signals.now) c.run_with-r.ensures (zeroed_same _ a.work_bits.now c.run_with-r.auto.work_bits c.zero_bytes.ensures) (zeroed_same _ a.work_exprs.now c.run_with-r.auto.work_exprs c.zero_bytes-2.ensures) (zeroed_same _ a.work_signals.now c.run_with-r.auto.work_signals c.zero_bytes-3.ensures)
+returns c = let a = c.args in runs (call_of (lists a.signals.now a.exprs.now a.stmts.now) a.bytes.now a.ticks.now (fired_of a.fired) a.work_bits.now a.work_exprs.now a.work_signals.now) c.run_with-r.ensures (zeroed_same _ a.work_bits.now c.run_with-r.auto.work_bits (c.fill.ensures.after (λ _ e. e))) (zeroed_same _ a.work_exprs.now c.run_with-r.auto.work_exprs (c.fill-2.ensures.after (λ _ e. e))) (zeroed_same _ a.work_signals.now c.run_with-r.auto.work_signals (c.fill-3.ensures.after (λ _ e. e)))

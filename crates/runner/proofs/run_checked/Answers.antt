@@ -1,15 +1,23 @@
-use Rattle.std.proofs.Common.{refl, arith}
-use Rattle.runner.proofs.Call.{no_fault, exprs_fit, signals_fit, values_fill, room, bytes_fill, ticks_good, unlooped, tried_made}
+use Rattle.std.proofs.Common.{refl, sym, arith}
+use Rattle.runner.proofs.Call.{fine, signals_read_in, exprs_fit, signals_fit, values_fill, room, bytes_fill, ticks_good, tried_looped, tried_made}
 use Rattle.runner.proofs.run_checked.Goals as goal
 
-pub prepare-ready-requires : goal.prepare-ready-requires
-prepare-ready-requires c = let u = c.requires in (no_fault u, c.count-counted_exprs.ensures.0, c.count-counted_signals.ensures.0, exprs_fit u c.count-counted_exprs.ensures.0)
+pub invariant_of-m : goal.invariant_of-m
+invariant_of-m c = let t = c.fill_tables.ensures in record { faultless = fine c.requires; started = t.started; expr_offsets = t.expr_offsets; signal_offsets = t.signal_offsets; driven = t.driven; expr_counted = c.count.ensures; signal_counted = c.count-2.ensures; ports_before = c.ports_end.ensures }
+
+pub ports_end-requires : goal.ports_end-requires
+ports_end-requires c = signals_read_in c.requires
+
+pub prepare-requires : goal.prepare-requires
+prepare-requires c = exprs_fit c.requires c.count.ensures
 
 pub tick-requires : goal.tick-requires
 tick-requires c =
     let u = c.requires in
-    let p = c.prepare-ready.ensures in
-    (p.prepared, p.started, p.driven, room u c.zero_bytes.auto.bytes, c.count-counted_exprs.ensures.0, c.count-counted_signals.ensures.0, omega (arith, exprs_fit u c.count-counted_exprs.ensures.0, c.prepare-ready.auto.marks), signals_fit u c.count-counted_signals.ensures.0, p.ordered, unlooped u c.in-Free.is p.found, values_fill u c.zero_bytes.ensures, ticks_good u, bytes_fill u)
+    (room u c.fill.auto.self, omega (arith, exprs_fit u c.count.ensures, c.prepare.auto.marks), signals_fit u c.count-2.ensures, c.in-Ok.ensures.ordered, c.in-Ok.ensures.unlooped, values_fill u (c.fill.ensures.after (λ _ e. e)), ticks_good u, bytes_fill u)
 
-pub returns-in-Free : goal.returns-in-Free
-returns-in-Free c = tried_made c.requires (unlooped c.requires c.in-Free.is c.prepare-ready.ensures.found) c.tick.ensures.ticked _ refl
+pub returns-in-Err : goal.returns-in-Err
+returns-in-Err c = tried_looped c.requires _ refl (sym c.in-Err.ensures.looped) _ refl
+
+pub returns-in-Ok : goal.returns-in-Ok
+returns-in-Ok c = tried_made c.requires c.in-Ok.ensures.unlooped c.tick.ensures.ticked _ refl

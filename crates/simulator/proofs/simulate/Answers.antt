@@ -10,4 +10,4 @@ returns-clause-simulates c =
     let k = c.lower-lowered.auto in
     let w = c.run_lowered-r.new in
     simulates a.words.now a.heads.now a.bits.now (lists a.signals.now a.exprs.now a.stmts.now) (a.wires.now ∷ a.places.now ∷ a.parts.now ∷ a.values.now ∷ a.banks.now ∷ []) a.bytes.now a.work_bits.now a.work_exprs.now a.work_signals.now a.answers.now a.shown.now
-    {l' = lists w.signals w.exprs w.stmts} c.lower-lowered.ensures k.signals k.exprs k.stmts c.zero_bytes.ensures c.run_lowered-r.ensures.runs
+    {l' = lists w.signals w.exprs w.stmts} c.lower-lowered.ensures k.signals k.exprs k.stmts (c.fill.ensures.after (λ _ e. e)) c.run_lowered-r.ensures.runs

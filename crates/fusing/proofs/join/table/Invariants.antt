@@ -1,9 +1,5 @@
-use Rattle.std.proofs.Common.{◌≤◌}
 use Rattle.fusing.specs.Join.{Tabled, row_bit}
 use Rattle.fusing.proofs.join.table.Given as goal
 
 abbrev pub invariant-loop-i : goal.invariant-loop-i
-invariant-loop-i l = (l.i ≤ 16) × Tabled (row_bit l.kind l.s l.p l.q l.r) l.t l.i
-
-abbrev pub decreases-loop-i : goal.decreases-loop-i
-decreases-loop-i l = l.i
+invariant-loop-i l = Tabled (row_bit l.kind l.s l.p l.q l.r) l.t l.i

@@ -1,15 +1,15 @@
-use Rattle.lines.specs.Lines.{refused_text, field}
 use Rattle.text.proofs.Appending.{then_text, then_full}
+use Rattle.lines.specs.Lines.{refused_text, field}
 use Rattle.lines.proofs.records.put_refused.Goals as goal
 
-pub returns-in_default : goal.returns-in_default
+pub returns-in_err-put : goal.returns-in_err-put
 unfolding refused_text
-returns-in_default c = then_full c.put_text-r.ensures _ c.in_default.is
+returns-in_err-put c = then_full _ c.in_err-put.ensures c.from_residual.ensures.0
 
-pub returns-in_default-q : goal.returns-in_default-q
+pub returns-in_err-put_number : goal.returns-in_err-put_number
 unfolding refused_text field
-returns-in_default-q c = then_text c.put_text-r.ensures c.in-At.is (then_full c.put_number-q.ensures _ c.in_default-q.is)
+returns-in_err-put_number c = then_text c.in_ok-put.ensures (then_full _ c.in_err-put_number.ensures c.from_residual-in_err-put_number.ensures.0)
 
 pub returns : goal.returns
 unfolding refused_text field
-returns c = then_text c.put_text-r.ensures c.in-At.is (then_text c.put_number-q.ensures c.in-At-q.is c.put_number.ensures)
+returns c = then_text c.in_ok-put.ensures (then_text c.in_ok-put_number.ensures c.put_number-2.ensures)

@@ -6,4 +6,6 @@ use Rattle.simulation.proofs.Calls.{input_fits}
 use Rattle.model_check.proofs.call.bits.Goals as goal
 
 pub returns : goal.returns
-returns c = c.either.ensures ∙ ap₂ or_else c.byte_fault-a.ensures (c.tick_fault-b.ensures ∙ ap₂ (λ (n k : ℕ). first_of (tick_causes n k c.args.ticks.now (fired_of c.args.fired))) c.count-s.ensures.0 (input_fits c.args.signals.now _ (length c.args.bytes.now) c.input_total.ensures c.requires (omega (arith, c.well_formed))))
+returns c =
+    let e = input_fits c.args.signals.now _ (length c.args.bytes.now) c.input_total.ensures c.requires (omega (arith, c.well_formed)) in
+    ap₂ or_else c.in_ok-byte_fault.ensures (c.tick_fault.ensures ∙ ap₂ (λ (n k : ℕ). first_of (tick_causes n k c.args.ticks.now (fired_of c.args.fired))) c.count.ensures e)

@@ -5,7 +5,7 @@ use Rattle.coding.proofs.Emitting.{put_emitted}
 use Rattle.runner.proofs.code.put.Goals as goal
 
 pub place-requires : goal.place-requires
-place-requires c = (omega (arith, c.offset-begin.ensures, c.offset-end.ensures, offset_next (widths_in c.args.exprs.now) c.wide-x.result), omega (arith, c.offset-end.ensures, c.wide-x.ensures, c.requires.6.there, offset_le (widths_in c.args.exprs.now) (c.wide-x.result + 1) (length (records_in c.args.exprs.now)) (omega (arith, c.wide-x.ensures, c.requires.6.there))))
+place-requires c = (omega (arith, c.expr_offset-begin.ensures, c.expr_offset-end.ensures, offset_next (widths_in c.args.m.now.exprs.now) c.wide-x.result), omega (arith, c.expr_offset-end.ensures, c.wide-x.ensures, c.requires.4.there, offset_le (widths_in c.args.m.now.exprs.now) (c.wide-x.result + 1) (length (records_in c.args.m.now.exprs.now)) (omega (arith, c.wide-x.ensures, c.requires.4.there))))
 
 pub returns-clause-emitted : goal.returns-clause-emitted
-returns-clause-emitted c = put_emitted c.requires.4 c.requires.1 c.requires.5 c.requires.6 c.wide-x.ensures c.offset-begin.ensures c.offset-end.ensures c.place.ensures
+returns-clause-emitted c = put_emitted c.requires.2 c.args.m.now.expr_counted c.requires.3 c.requires.4 c.wide-x.ensures c.expr_offset-begin.ensures c.expr_offset-end.ensures c.place.ensures

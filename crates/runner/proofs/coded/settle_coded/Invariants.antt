@@ -1,9 +1,5 @@
-use Rattle.std.proofs.Common.{◌-◌}
 use Rattle.coding.proofs.Running.{Running}
 use Rattle.runner.proofs.coded.settle_coded.Given as goal
 
 abbrev pub invariant-loop-j : goal.invariant-loop-j
-invariant-loop-j l = Running l.signals l.exprs l.stmts l.from l.k l.order l.bytes l.initial.values l.values l.j
-
-abbrev pub decreases-loop-j : goal.decreases-loop-j
-decreases-loop-j l = l.k - l.j
+invariant-loop-j l = Running l.m.signals.now l.m.exprs.now l.m.stmts.now l.from l.k l.order l.bytes l.initial.values l.values l.j

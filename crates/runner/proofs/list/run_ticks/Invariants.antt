@@ -1,4 +1,3 @@
-use Rattle.std.proofs.Common.{◌-◌}
 use Rattle.recorder.specs.Lists.{lists}
 use Rattle.simulation.specs.Index.{widths_in}
 use Rattle.evaluation.specs.Ticks.{Filled}
@@ -6,7 +5,4 @@ use Rattle.runner.proofs.Lagging.{Along}
 use Rattle.runner.proofs.list.run_ticks.Given as goal
 
 abbrev pub invariant-loop-i : goal.invariant-loop-i
-invariant-loop-i l = Along (lists l.signals l.exprs l.stmts) l.heads l.bits l.initial.bytes l.bytes l.initial.answers l.answers l.initial.shown l.shown l.at l.pos l.to l.i l.late × Filled (widths_in l.exprs) l.values
-
-abbrev pub decreases-loop-i : goal.decreases-loop-i
-decreases-loop-i l = l.k - l.i
+invariant-loop-i l = Along (lists l.m.signals.now l.m.exprs.now l.m.stmts.now) l.heads l.bits l.initial.bytes l.bytes l.initial.answers l.answers l.initial.shown l.shown l.at l.pos l.to l.i l.late × Filled (widths_in l.m.exprs.now) l.values

@@ -1,5 +1,6 @@
 use Rattle.runner.proofs.Lagging.{late_whole}
+use Rattle.runner.proofs.Models.{prepared_of}
 use Rattle.runner.proofs.list.tick_either.Goals as goal
 
-pub returns-else-code-clause-ticked : goal.returns-else-code-clause-ticked
-returns-else-code-clause-ticked c = late_whole c.requires.0 c.requires.9 c.tick.ensures.ticked
+pub returns-in-None-clause-ticked : goal.returns-in-None-clause-ticked
+returns-in-None-clause-ticked c = late_whole (prepared_of c.args.m.now) c.requires.4 c.tick.ensures.ticked

@@ -1,5 +1,6 @@
 use Rattle.ordering.proofs.Touching.{on_loop_by}
+use Rattle.runner.proofs.Models.{faultless_of}
 use Rattle.runner.proofs.loops.on_loop.Goals as goal
 
 pub returns : goal.returns
-returns c = on_loop_by c.requires.3.widest c.requires.3.sound c.mark_leading.ensures c.driver_marked.ensures
+returns c = on_loop_by (faultless_of c.args.m.now).widest (faultless_of c.args.m.now).sound c.mark_leading.ensures c.driver_marked.ensures

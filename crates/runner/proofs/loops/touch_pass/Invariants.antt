@@ -1,10 +1,6 @@
-use Rattle.std.proofs.Common.{◌-◌}
 use Rattle.ordering.specs.Words.{model_with}
 use Rattle.ordering.proofs.Touching.{Touching}
 use Rattle.runner.proofs.loops.touch_pass.Given as goal
 
 abbrev pub invariant-loop-e : goal.invariant-loop-e
-invariant-loop-e l = Touching (model_with l.signals l.exprs l.stmts) l.n l.s l.initial.marks l.marks l.any l.e
-
-abbrev pub decreases-loop-e : goal.decreases-loop-e
-decreases-loop-e l = l.n - l.e
+invariant-loop-e l = Touching (model_with l.m.signals.now l.m.exprs.now l.m.stmts.now) l.m.expr_count l.s l.initial.marks l.marks l.any l.e

@@ -1,5 +1,6 @@
 use Rattle.evaluation.proofs.Settling.{settles_stored}
+use Rattle.runner.proofs.Models.{prepared_of}
 use Rattle.runner.proofs.settling.settle.Goals as goal
 
 pub returns : goal.returns
-returns c = settles_stored c.requires.0 c.requires.8 c.settle_plain.ensures c.store_assigned.ensures
+returns c = settles_stored (prepared_of c.args.m.now) c.requires.3 c.settle_plain.ensures c.store_assigned.ensures

@@ -1,10 +1,9 @@
 use Rattle.std.proofs.Common.{ap, not}
-use Rattle.evaluation.proofs.Preparing.{tabled}
-use Rattle.evaluation.proofs.Settling.{no_fault, settles_none, settles_more}
+use Rattle.evaluation.proofs.Settling.{settles_none, settles_more}
 use Rattle.runner.proofs.settling.settle_one.Goals as goal
 
 pub adds_one-requires : goal.adds_one-requires
-adds_one-requires c = (tabled (no_fault c.requires.0) c.requires.1 c.requires.2, c.requires.4)
+adds_one-requires c = c.requires.1
 
 pub returns-then-not-adds_one : goal.returns-then-not-adds_one
 returns-then-not-adds_one c = settles_none c.adds_one.ensures (ap not c.if-not-adds_one.true)

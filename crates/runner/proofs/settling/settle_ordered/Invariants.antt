@@ -1,9 +1,5 @@
-use Rattle.std.proofs.Common.{◌-◌}
 use Rattle.evaluation.proofs.Settling.{Along}
 use Rattle.runner.proofs.settling.settle_ordered.Given as goal
 
 abbrev pub invariant-loop-j : goal.invariant-loop-j
-invariant-loop-j l = Along l.signals l.exprs l.stmts l.n l.order l.bytes l.fn.values l.values l.j
-
-abbrev pub decreases-loop-j : goal.decreases-loop-j
-decreases-loop-j l = l.n - l.j
+invariant-loop-j l = Along l.m.signals.now l.m.exprs.now l.m.stmts.now l.m.expr_count l.order l.bytes l.fn.values l.values l.j

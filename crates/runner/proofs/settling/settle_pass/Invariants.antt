@@ -1,9 +1,5 @@
-use Rattle.std.proofs.Common.{◌-◌}
 use Rattle.evaluation.proofs.Settling.{Passing}
 use Rattle.runner.proofs.settling.settle_pass.Given as goal
 
 abbrev pub invariant-loop-e : goal.invariant-loop-e
-invariant-loop-e l = Passing l.signals l.exprs l.stmts l.n l.bytes l.fn.values l.fn.marks l.values l.marks l.any l.e
-
-abbrev pub decreases-loop-e : goal.decreases-loop-e
-decreases-loop-e l = l.n - l.e
+invariant-loop-e l = Passing l.m.signals.now l.m.exprs.now l.m.stmts.now l.m.expr_count l.bytes l.fn.values l.fn.marks l.values l.marks l.any l.e

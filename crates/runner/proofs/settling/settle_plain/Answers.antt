@@ -1,8 +1,9 @@
 use Rattle.evaluation.proofs.Settling.{settles_all}
+use Rattle.runner.proofs.Models.{prepared_of}
 use Rattle.runner.proofs.settling.settle_plain.Goals as goal
 
-pub returns-then-n-order : goal.returns-then-n-order
-returns-then-n-order c = settles_all c.requires.0 c.requires.7 c.settle_ordered.ensures
+pub returns-then-m-order : goal.returns-then-m-order
+returns-then-m-order c = settles_all (prepared_of c.args.m.now) c.requires.3 c.settle_ordered.ensures
 
-pub returns-else-n-order : goal.returns-else-n-order
-returns-else-n-order c = settles_all c.requires.0 c.requires.7 c.settle_marked.ensures
+pub returns-else-m-order : goal.returns-else-m-order
+returns-else-m-order c = settles_all (prepared_of c.args.m.now) c.requires.3 c.settle_marked.ensures

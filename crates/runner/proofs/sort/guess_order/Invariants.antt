@@ -1,8 +1,5 @@
-use Rattle.std.proofs.Common.{◌-◌, ◌≤◌}
+use Rattle.std.proofs.Common.{◌≤◌}
 use Rattle.runner.proofs.sort.guess_order.Given as goal
 
-abbrev pub invariant-loop-i : goal.invariant-loop-i
-invariant-loop-i l = (l.root ≤ l.n) × (l.depth ≤ l.n) × (l.count ≤ l.n)
-
-abbrev pub decreases-loop-i : goal.decreases-loop-i
-decreases-loop-i l = l.turns - l.i
+abbrev pub invariant-loop : goal.invariant-loop
+invariant-loop l = (l.walk.root ≤ l.m.expr_count) × (l.walk.depth ≤ l.m.expr_count) × (l.walk.count ≤ l.m.expr_count)

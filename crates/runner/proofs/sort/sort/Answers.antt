@@ -4,4 +4,4 @@ use Rattle.evaluation.proofs.Preparing.{sorting_zeroed}
 use Rattle.runner.proofs.sort.sort.Goals as goal
 
 pub sort_along-k-requires : goal.sort_along-k-requires
-sort_along-k-requires c = (c.requires.0, c.requires.1, omega arith, c.requires.3, sorting_zeroed (model_in c.args.exprs.now c.args.stmts.now) c.args.n c.guess_order.new.marks c.zero_bytes.ensures)
+sort_along-k-requires c = (omega arith, c.requires.1, sorting_zeroed (model_in c.args.m.now.exprs.now c.args.m.now.stmts.now) c.args.m.now.expr_count c.guess_order.new.marks (c.fill.ensures.after (λ _ e. e)))

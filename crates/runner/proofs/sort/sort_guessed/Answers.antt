@@ -2,4 +2,4 @@ use Rattle.runner.proofs.Along.{sorting_step}
 use Rattle.runner.proofs.sort.sort_guessed.Goals as goal
 
 pub returns : goal.returns
-returns c = sorting_step c.requires.5 c.if-e-n.false c.requires.2 c.sort_one.ensures
+returns c = sorting_step c.requires.3 c.if-e-m.false c.requires.0 c.sort_one.ensures

@@ -1,10 +1,6 @@
-use Rattle.std.proofs.Common.{◌-◌}
 use Rattle.ordering.specs.Words.{model_in}
 use Rattle.ordering.proofs.Sorted.{Passing}
 use Rattle.runner.proofs.sort.sort_pass.Given as goal
 
 abbrev pub invariant-loop-e : goal.invariant-loop-e
-invariant-loop-e l = Passing (model_in l.exprs l.stmts) l.n l.k l.initial.marks l.initial.order l.marks l.order l.count l.e
-
-abbrev pub decreases-loop-e : goal.decreases-loop-e
-decreases-loop-e l = l.n - l.e
+invariant-loop-e l = Passing (model_in l.m.exprs.now l.m.stmts.now) l.m.expr_count l.k l.initial.marks l.initial.order l.marks l.order l.count l.e

@@ -1,9 +1,5 @@
-use Rattle.std.proofs.Common.{◌-◌}
 use Rattle.evaluation.proofs.Storing.{Storing}
 use Rattle.runner.proofs.store.store_assigned.Given as goal
 
 abbrev pub invariant-loop-s : goal.invariant-loop-s
-invariant-loop-s l = Storing l.signals l.exprs l.stmts l.values l.fn.bytes l.bytes l.s
-
-abbrev pub decreases-loop-s : goal.decreases-loop-s
-decreases-loop-s l = l.count - l.s
+invariant-loop-s l = Storing l.m.signals.now l.m.exprs.now l.m.stmts.now l.values l.fn.bytes l.bytes l.s

@@ -1,9 +1,5 @@
-use Rattle.std.proofs.Common.{◌-◌}
 use Rattle.runner.proofs.Listing.{StoresFirst}
 use Rattle.runner.proofs.store.store_listed.Given as goal
 
 abbrev pub invariant-loop-j : goal.invariant-loop-j
-invariant-loop-j l = StoresFirst l.signals l.exprs l.stmts l.values l.order l.from l.fn.bytes l.bytes l.j
-
-abbrev pub decreases-loop-j : goal.decreases-loop-j
-decreases-loop-j l = l.k - l.j
+invariant-loop-j l = StoresFirst l.m.signals.now l.m.exprs.now l.m.stmts.now l.values l.order l.from l.fn.bytes l.bytes l.j

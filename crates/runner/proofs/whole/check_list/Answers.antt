@@ -5,13 +5,13 @@ use Rattle.runner.proofs.WholeList.{signals_readable, checked_fault, checked_fin
 use Rattle.runner.proofs.whole.check_list.Goals as goal
 
 pub list_fault-requires : goal.list_fault-requires
-list_fault-requires c = signals_readable (lists c.args.signals.now c.args.exprs.now c.args.stmts.now) c.in-Fine.ensures.fault
+list_fault-requires c = signals_readable (lists c.args.signals.now c.args.exprs.now c.args.stmts.now) c.in-None.ensures.fault
 
-pub returns-in-At : goal.returns-in-At
-returns-in-At c = let a = c.args in checked_fault (list_call (lists a.signals.now a.exprs.now a.stmts.now) a.heads.now a.bits.now a.bytes.now a.work_bits.now a.work_exprs.now a.work_signals.now a.answers.now a.shown.now) _ c.in-At.ensures.fault
+pub returns-in-Some : goal.returns-in-Some
+returns-in-Some c = let a = c.args in checked_fault (list_call (lists a.signals.now a.exprs.now a.stmts.now) a.heads.now a.bits.now a.bytes.now a.work_bits.now a.work_exprs.now a.work_signals.now a.answers.now a.shown.now) _ c.in-Some.ensures.fault
 
-pub returns-in-Fine : goal.returns-in-Fine
-returns-in-Fine c =
+pub returns-in-None : goal.returns-in-None
+returns-in-None c =
     let a = c.args in
-    checked_fine (list_call (lists a.signals.now a.exprs.now a.stmts.now) a.heads.now a.bits.now a.bytes.now a.work_bits.now a.work_exprs.now a.work_signals.now a.answers.now a.shown.now) c.in-Fine.ensures.fault
+    checked_fine (list_call (lists a.signals.now a.exprs.now a.stmts.now) a.heads.now a.bits.now a.bytes.now a.work_bits.now a.work_exprs.now a.work_signals.now a.answers.now a.shown.now) c.in-None.ensures.fault
     (c.list_fault.ensures ∙ work_same (lists a.signals.now a.exprs.now a.stmts.now) a.heads.now a.bits.now a.bytes.now a.work_bits.now a.work_exprs.now a.work_signals.now c.malformed-f.new.bytes a.answers.now a.shown.now c.malformed-f.auto.bytes)

@@ -1,29 +1,39 @@
-use Rattle.std.proofs.Common.{arith, ap, ◌∙◌}
-use Rattle.simulation.proofs.Steps.{walked_start, walked_next, walked_out, walked_within}
-use Rattle.simulation.specs.Index.{filling, start_entry}
-use Rattle.simulation.proofs.Tables.{filling_none, filling_more, filling_full}
-use Rattle.std.proofs.Common.{ℕ}
-use Rattle.simulation.specs.Index.{clipped, start_table}
+use Rattle.std.proofs.Common.{arith, ap, sym, ◌∙◌, ◌≡◌, ◌+◌, length, set}
+use Rattle.std.proofs.lemmas.List.{length_push}
+use Rattle.simulation.specs.Index.{records_in, start_of, start_entry, start_table, filling, clipped}
+use Rattle.simulation.proofs.Offsets.{start_first}
+use Rattle.simulation.proofs.Tables.{filling_none, filling_more, filling_end}
+use Rattle.simulation.proofs.Walking.{numbered_turn, numbered_end, taken_start, start_inside}
 use Rattle.simulation.proofs.index.fill_starts.Goals as goal
 
--- src/index.rt:160:5
 pub loop-k-init : goal.loop-k-init
-loop-k-init c = (walked_start _, omega arith, filling_none _ _)
+loop-k-init c = (start_first _, filling_none _ _)
 
--- src/index.rt:163:13
-pub returns-then-size-eq0 : goal.returns-then-size-eq0
-unfolding start_table
-returns-then-size-eq0 c = c.loop-k.invariant.2 ∙ ap (λ (j : ℕ). filling (start_entry c.args.list.now) j c.args.table.now) (walked_out c.loop-k.invariant.0 _ c.size-size.ensures c.if-size-eq0.true)
+pub bounds-table-k : goal.bounds-table-k
+bounds-table-k c =
+    let t = numbered_turn (length c.args.table.now) c.into_iter-k-iterator.ensures.into_iter_gives c.zip-k-items.ensures.first c.zip-k-items.ensures.second c.new.ensures (omega arith) c.loop-k.yielded c.loop-k.k-iterator c.next.new.self c.loop-k.yielded_by (c.in-Some.k, c.in-Some.fields) c.in-Some.is c.next.ensures.steps in
+    omega (arith, t.0, t.1.asked, c.loop-k.auto.table)
 
--- src/index.rt:166:9
-pub overflow_add-at : goal.overflow_add-at
-overflow_add-at c = let w = walked_within c.loop-k.invariant.0 _ c.size-size.ensures c.if-size-eq0.false in omega (arith, c.well_formed)
+pub offset_bounds-table-k : goal.offset_bounds-table-k
+offset_bounds-table-k c =
+    let t = numbered_turn (length c.args.table.now) c.into_iter-k-iterator.ensures.into_iter_gives c.zip-k-items.ensures.first c.zip-k-items.ensures.second c.new.ensures (omega arith) c.loop-k.yielded c.loop-k.k-iterator c.next.new.self c.loop-k.yielded_by (c.in-Some.k, c.in-Some.fields) c.in-Some.is c.next.ensures.steps in
+    omega (arith, t.0, t.1.asked, c.loop-k.auto.table, c.well_formed)
 
--- src/index.rt:160:5
+pub overflow_add-at-in-loop-k : goal.overflow_add-at-in-loop-k
+overflow_add-at-in-loop-k c =
+    let t = numbered_turn (length c.args.table.now) c.into_iter-k-iterator.ensures.into_iter_gives c.zip-k-items.ensures.first c.zip-k-items.ensures.second c.new.ensures (omega arith) c.loop-k.yielded c.loop-k.k-iterator c.next.new.self c.loop-k.yielded_by (c.in-Some.k, c.in-Some.fields) c.in-Some.is c.next.ensures.steps in
+    omega (arith, c.loop-k.invariant.0, taken_start t.1, start_inside c.args.list.now (length c.loop-k.yielded + 1), c.well_formed)
+
 pub loop-k-preserved : goal.loop-k-preserved
-loop-k-preserved c = (walked_next c.loop-k.invariant.0 _ c.size-size.ensures c.if-size-eq0.false, omega arith, filling_more _ _ _ _ c.loop-k.invariant.2 (c.clip.ensures ∙ ap clipped c.loop-k.invariant.0.begins))
+loop-k-preserved c =
+    let l = c.args.list.now in
+    let t = numbered_turn (length c.args.table.now) c.into_iter-k-iterator.ensures.into_iter_gives c.zip-k-items.ensures.first c.zip-k-items.ensures.second c.new.ensures (omega arith) c.loop-k.yielded c.loop-k.k-iterator c.next.new.self c.loop-k.yielded_by (c.in-Some.k, c.in-Some.fields) c.in-Some.is c.next.ensures.steps in
+    let z : c.in-Some.k ≡ length c.loop-k.yielded = omega (arith, t.0) in
+    let p = sym (length_push c.loop-k.yielded (c.in-Some.k, c.in-Some.fields)) in (
+      ap (λ n. n + (length c.in-Some.fields.now + 1)) c.loop-k.invariant.0 ∙ taken_start t.1 ∙ ap (start_of l) p,
+      ap (λ k. set c.loop-k.table k c.clip.result) z ∙ filling_more (start_entry l) _ _ _ c.loop-k.invariant.1 (c.clip.ensures ∙ ap clipped c.loop-k.invariant.0) ∙ ap (λ n. filling (start_entry l) n c.args.table.now) p,
+    )
 
--- src/index.rt:155:1
 pub returns : goal.returns
 unfolding start_table
-returns c = filling_full _ _ _ _ c.loop-k.invariant.2 (omega (arith, c.loop-k-test.false)) c.loop-k.invariant.0.reached
+returns c = filling_end (start_entry c.args.list.now) (length (records_in c.args.list.now)) _ c.loop-k.invariant.1 (numbered_end (length c.args.table.now) c.into_iter-k-iterator.ensures.into_iter_gives c.zip-k-items.ensures.first c.zip-k-items.ensures.second c.new.ensures (omega arith) c.loop-k.yielded c.loop-k.k-iterator c.next.new.self c.loop-k.yielded_by c.in-None.is c.next.ensures.steps)

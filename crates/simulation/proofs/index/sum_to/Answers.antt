@@ -1,21 +1,18 @@
-use Rattle.std.proofs.Common.{arith, refl, sym, ◌∙◌}
-use Rattle.simulation.proofs.Steps.{walked_start, walked_next, walked_out, walked_within, walked_width, length_widths}
-use Rattle.simulation.proofs.Offsets.{sum_step, sum_past}
-use Rattle.simulation.specs.Index.{widths_in}
+use Rattle.std.proofs.Common.{ap, sym, ◌∙◌, ℕ, length, min}
+use Rattle.std.proofs.lemmas.List.{length_push}
+use Rattle.simulation.specs.Index.{offset, widths_in}
+use Rattle.simulation.proofs.Offsets.{sum_step}
+use Rattle.simulation.proofs.Walking.{first_turn, first_end, taken_width, sum_taken}
 use Rattle.simulation.proofs.index.sum_to.Goals as goal
 
--- src/index.rt:97:5
-pub loop-k-init : goal.loop-k-init
-loop-k-init c = (walked_start _, omega arith, refl)
+pub loop-fields-preserved : goal.loop-fields-preserved
+loop-fields-preserved c =
+    let l = c.args.list.now in
+    let t = first_turn c.into_iter-fields-iterator.ensures.into_iter_gives c.take-fields-items.ensures.source c.take-fields-items.ensures.count c.new.ensures c.loop-fields.yielded c.loop-fields.fields-iterator c.next.new.self c.loop-fields.yielded_by c.in-Some.fields c.in-Some.is c.next.ensures.steps in
+    sum_step (widths_in l) (length c.loop-fields.yielded) _ _ _ c.loop-fields.invariant (c.wide.ensures ∙ c.word.ensures ∙ taken_width t) c.saturating_add-sum.ensures
+    ∙ ap (λ (n : ℕ). min (offset (widths_in l) n) 18446744073709551615) (sym (length_push c.loop-fields.yielded c.in-Some.fields))
 
--- src/index.rt:100:13
-pub returns-then-size-eq0 : goal.returns-then-size-eq0
-returns-then-size-eq0 c = sum_past _ _ c.args.limit _ c.loop-k.invariant.2 (walked_out c.loop-k.invariant.0 _ c.size-size.ensures c.if-size-eq0.true ∙ sym (length_widths _)) c.loop-k.invariant.1
-
--- src/index.rt:103:9
-pub overflow_add-at : goal.overflow_add-at
-overflow_add-at c = let w = walked_within c.loop-k.invariant.0 _ c.size-size.ensures c.if-size-eq0.false in omega (arith, c.well_formed)
-
--- src/index.rt:97:5
-pub loop-k-preserved : goal.loop-k-preserved
-loop-k-preserved c = (walked_next c.loop-k.invariant.0 _ c.size-size.ensures c.if-size-eq0.false, omega arith, sum_step (widths_in c.args.list.now) c.loop-k.k c.loop-k.sum _ _ c.loop-k.invariant.2 (c.wide.ensures ∙ c.field.ensures ∙ sym (walked_width c.loop-k.invariant.0 _ c.size-size.ensures c.if-size-eq0.false)) c.plus-sum.ensures)
+pub returns : goal.returns
+returns c =
+    let t = first_end c.into_iter-fields-iterator.ensures.into_iter_gives c.take-fields-items.ensures.source c.take-fields-items.ensures.count c.new.ensures c.loop-fields.yielded c.loop-fields.fields-iterator c.next.new.self c.loop-fields.yielded_by c.in-None.is c.next.ensures.steps in
+    c.loop-fields.invariant ∙ ap (λ (n : ℕ). min n 18446744073709551615) (sum_taken c.args.list.now c.args.limit t)

@@ -1,19 +1,24 @@
-use Rattle.std.proofs.Common.{arith}
-use Rattle.simulation.proofs.Steps.{walked_start, walked_next, walked_out, walked_stop, walked_within}
+use Rattle.std.proofs.Common.{arith, ap, sym, ◌∙◌, ◌+◌, length}
+use Rattle.std.proofs.lemmas.List.{length_push}
+use Rattle.simulation.specs.Index.{start_of}
+use Rattle.simulation.proofs.Offsets.{start_first}
+use Rattle.simulation.proofs.Walking.{first_turn, first_end, taken_start, start_taken, start_inside}
 use Rattle.simulation.proofs.index.walk_start.Goals as goal
 
--- src/index.rt:132:5
-pub loop-i-init : goal.loop-i-init
-loop-i-init c = (walked_start _, omega arith)
+pub loop-fields-init : goal.loop-fields-init
+loop-fields-init c = start_first _
 
--- src/index.rt:135:13
-pub returns-then-size-eq0 : goal.returns-then-size-eq0
-returns-then-size-eq0 c = walked_stop c.loop-i.invariant.0 _ (walked_out c.loop-i.invariant.0 _ c.size-size.ensures c.if-size-eq0.true) c.loop-i.invariant.1
+pub overflow_add-at-in-loop-fields : goal.overflow_add-at-in-loop-fields
+overflow_add-at-in-loop-fields c =
+    let t = first_turn c.into_iter-fields-iterator.ensures.into_iter_gives c.take-fields-items.ensures.source c.take-fields-items.ensures.count c.new.ensures c.loop-fields.yielded c.loop-fields.fields-iterator c.next.new.self c.loop-fields.yielded_by c.in-Some.fields c.in-Some.is c.next.ensures.steps in
+    omega (arith, c.loop-fields.invariant, taken_start t, start_inside c.args.list.now (length c.loop-fields.yielded + 1), c.well_formed)
 
--- src/index.rt:137:9
-pub overflow_add-at : goal.overflow_add-at
-overflow_add-at c = let w = walked_within c.loop-i.invariant.0 _ c.size-size.ensures c.if-size-eq0.false in omega (arith, c.well_formed)
+pub loop-fields-preserved : goal.loop-fields-preserved
+loop-fields-preserved c =
+    let t = first_turn c.into_iter-fields-iterator.ensures.into_iter_gives c.take-fields-items.ensures.source c.take-fields-items.ensures.count c.new.ensures c.loop-fields.yielded c.loop-fields.fields-iterator c.next.new.self c.loop-fields.yielded_by c.in-Some.fields c.in-Some.is c.next.ensures.steps in
+    ap (λ n. n + (length c.in-Some.fields.now + 1)) c.loop-fields.invariant ∙ taken_start t ∙ ap (start_of c.args.list.now) (sym (length_push c.loop-fields.yielded c.in-Some.fields))
 
--- src/index.rt:132:5
-pub loop-i-preserved : goal.loop-i-preserved
-loop-i-preserved c = (walked_next c.loop-i.invariant.0 _ c.size-size.ensures c.if-size-eq0.false, omega arith)
+pub returns : goal.returns
+returns c =
+    let t = first_end c.into_iter-fields-iterator.ensures.into_iter_gives c.take-fields-items.ensures.source c.take-fields-items.ensures.count c.new.ensures c.loop-fields.yielded c.loop-fields.fields-iterator c.next.new.self c.loop-fields.yielded_by c.in-None.is c.next.ensures.steps in
+    c.loop-fields.invariant ∙ start_taken c.args.list.now c.args.k t

@@ -1,0 +1,2 @@
+-- The specs of hashes.
+pub mod Hash

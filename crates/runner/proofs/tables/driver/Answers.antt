@@ -1,5 +1,0 @@
-use Rattle.simulation.proofs.Tables.{driver_right}
-use Rattle.runner.proofs.tables.driver.Goals as goal
-
-pub returns : goal.returns
-returns c = driver_right _ _ _ c.driver.ensures c.requires

@@ -1,5 +1,0 @@
-use Rattle.simulation.proofs.Tables.{start_right}
-use Rattle.runner.proofs.tables.start.Goals as goal
-
-pub returns : goal.returns
-returns c = start_right _ _ _ c.start.ensures c.requires.0 c.requires.1

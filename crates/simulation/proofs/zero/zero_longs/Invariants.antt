@@ -1,9 +1,0 @@
-use lib.ListN.{replicate}
-use Rattle.std.proofs.Common.{drop, ◌++◌, length, ◌-◌, ◌≡◌, ◌≤◌}
-use Rattle.simulation.proofs.zero.zero_longs.Given as goal
-
-abbrev pub invariant-loop-i : goal.invariant-loop-i
-invariant-loop-i l = (l.i ≤ length l.initial.longs) × (l.longs ≡ replicate l.i 0 ++ drop l.i l.initial.longs)
-
-abbrev pub decreases-loop-i : goal.decreases-loop-i
-decreases-loop-i l = length l.initial.longs - l.i
