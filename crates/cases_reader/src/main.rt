@@ -10,7 +10,7 @@ use words::read_words;
 
 // Number and place of the check's refusal.
 fn checked(words: &[u32]) -> (usize, usize) {
-    match reader::check(Limits::base(), words) {
+    match reader::check(Limits::BASE, words) {
         Checked::Netlist(_) => (0, 0),
         Checked::Refused(x) => (x.number(), x.place()),
     }

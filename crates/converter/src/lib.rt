@@ -185,7 +185,7 @@ pub fn lower(
     ensures { Lowers base words.now (lists signals.old exprs.old stmts.old) (wires.old ∷ places.old ∷ parts.old ∷ values.old ∷ banks.old ∷ []) result (lists signals.new exprs.new stmts.new) (wires.new ∷ places.new ∷ parts.new ∷ values.new ∷ banks.new ∷ []) }
 {
     lower_within(
-        Limits::base(),
+        Limits::BASE,
         words,
         signals,
         exprs,
