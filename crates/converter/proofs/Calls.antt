@@ -8,6 +8,7 @@ use lib.ListN.{length, replicate, length-replicate}
 use borrow.Author.Tests.{ltb-false}
 use Rattle.bits.specs.Bits.{pick}
 use Rattle.std.specs.Prelude.{Result, Ok, Err}
+use Rattle.std.specs.Result.{is_err}
 use Rattle.refusal.specs.declared.Refusal.{Refusal}
 use Rattle.refusal.specs.declared.Refusal.TheVariants.{BufferTooShort}
 use Rattle.recorder.specs.declared.Tapes.{Tapes}
@@ -102,6 +103,16 @@ module _ (limits : Limits) (words s e t : List ℕ) (a b d f g : List ℕ) where
             ∙ tried.value w (ready y (sym q ∙ p)) (length s) (length e) (length t) (zeroed_lists z)
             ∙ sym (by_short false (sym q ∙ p));
       }
+
+-- WHAT A REFUSAL LEAVES
+
+pub keeps_err : (r : Result Tapes Refusal) → is_err r ≡ true → (l : Lists) {l' : Lists} → l' ≡ blank_of l → Keeps r l l'
+keeps_err (Ok t) p l q = let z : ◌≡◌ {A = ℕ} 0 1 = cc in absurd (omega arith)
+keeps_err (Err x) p l q = q
+
+pub keeps_ok : (r : Result Tapes Refusal) → is_err r ≡ false → (l : Lists) → Keeps r l l
+keeps_ok (Ok t) p l = refl
+keeps_ok (Err x) p l = let z : ◌≡◌ {A = ℕ} 0 1 = cc in absurd (omega arith)
 
 -- THE WORKS
 

@@ -83,16 +83,13 @@ finish (Some s) u a l l' z p e = λ i. record { answer = p i; lists = kept (p i)
 
 -- THE ATTEMPT
 
-pub check_netlist : (limits : Limits) (words : List ℕ) {m : Result Layout x.Refusal} {layout : Layout} → Checks limits words m → m ≡ Ok layout → (read_words limits words ≡ netlist (netlist_at words)) × (layout ≡ layout_of words)
-check_netlist limits words h e = subst (Checks limits words) e h
-
-pub check_refused : (limits : Limits) (words : List ℕ) {m : Result Layout x.Refusal} {w : x.Refusal} → Checks limits words m → m ≡ Err w → read_words limits words ≡ refused (number_of w) (place_of w)
-check_refused limits words h e = subst (Checks limits words) e h
-
 module _ (limits : Limits) (words : List ℕ) (l : Lists) (wires places parts values banks : List ℕ) where
   -- the words are refused
-  pub attempt_refused : {w : x.Refusal} {l' : Lists} → read_words limits words ≡ refused (number_of w) (place_of w) → Attempts limits words l wires places parts values banks (Err w) l'
-  attempt_refused read = record { value = λ h g s e t q. sym (ap (λ (y : Read). lowered_read limits.wires y s e t) read) }
+  pub attempt_refused : (w : x.Refusal) {l' : Lists} → Checks limits words (Err w) → (q : Result Tapes x.Refusal) → IsErrAnd q (λ y. y ≡ w) → Attempts limits words l wires places parts values banks q l'
+  attempt_refused w {l'} read q e =
+      let p = err_from_is_err_and q e in
+      subst (λ (y : Result Tapes x.Refusal). Attempts limits words l wires places parts values banks y l') (sym (p.1 ∙ ap Err p.2))
+      (record { value = λ h g s e t from. sym (ap (λ (y : Read). lowered_read limits.wires y s e t) read) })
 
   module _ {layout : Layout} (read : read_words limits words ≡ netlist (netlist_at words)) (is : layout ≡ layout_of words) {p : Result Tapes x.Refusal} {l₁ : Lists} (recorded : RecordsNetlist l wires places parts values banks words layout limits.wires p l₁)
       {q : Result Tapes x.Refusal} {s' : List ℕ} (answer : AnswersTo l₁.signals l₁.stmts p q s') (s e t : ℕ) (from : l ≡ blank s e t) (h : Within limits) (g : Ready wires places parts values banks) where
