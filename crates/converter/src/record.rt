@@ -1,4 +1,5 @@
 // The records of a checked netlist, in three lent lists.
+ghost use Rattle.std.specs.Prelude.{◌≡◌};
 ghost use Rattle.recorder.specs.Lists.{lists};
 ghost use Rattle.converter.specs.Steps.{RecordsParts, RecordsNetlist};
 
