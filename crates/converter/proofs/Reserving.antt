@@ -11,7 +11,7 @@ use Rattle.netlist.specs.declared.Limits.{Limits}
 use Rattle.netlist.specs.Netlist.{Cell, Port}
 use Rattle.netlist.specs.declared.Bit.{Bit}
 use Rattle.netlist.specs.declared.fields.Fields.{Fields}
-use Rattle.netlist.specs.Fields.{records_at, end_at}
+use Rattle.netlist.specs.Fields.{records_at, end_at, word_at, port_size}
 use Rattle.netlist.proofs.RecordLaws.{end_more}
 use Rattle.refusal.specs.declared.Refusal.{Refusal}
 use Rattle.refusal.specs.Refusal.{number_of, place_of}
@@ -209,17 +209,10 @@ stands_step {words = words} {at = at} {i = i} {size = size} {f = f} {g = g} size
     let q : end_at next (i + 1) at ≡ next (end_at next i at) = ap (λ (k : ℕ). end_at next k at) (add-one i) ∙ end_more next i at in
     record { words_are = kept; place = omega (arith, cut, long, behind, b, q) }
 
--- where the code's index is
-pub place_start : (next : ℕ → ℕ) (at : ℕ) → at ≡ end_at next 0 at
-unfolding end_at
-place_start next at = refl
-
-pub place_step : {A : Type 0} {value : ℕ → A} (next : ℕ → ℕ) {fits : A → Type 0} {end n at i : ℕ} {place q : ℕ} → Fitting value next fits end n at → i < n → place ≡ end_at next i at → q ≡ min (next place) end → q ≡ end_at next (i + 1) at
-place_step next {end = end} {at = at} {i = i} {place = place} fit h e c =
-    let b : next (end_at next i at) ≤ end = fit.inside i h in
-    let d : next place ≡ next (end_at next i at) = ap next e in
-    let g : end_at next (i + 1) at ≡ next (end_at next i at) = ap (λ (k : ℕ). end_at next k at) (add-one i) ∙ end_more next i at in
-    omega arith
+-- a port's size, as the code counts it
+pub port_sized : (f : Fields) {width : ℕ} → width ≡ word_at f.words.now (f.at + 1) → 2 + width ≡ port_size f.words.now f.at
+unfolding port_size
+port_sized f e = ap (λ (k : ℕ). 2 + k) e
 
 -- the definitions are such loops
 abbrev pub held_one : ℕ → ℕ → Wires → ℕ → Bit → Writer Wires

@@ -83,8 +83,8 @@ module _ (words : List ℕ) (at n : ℕ) (r₀ : Reserver) where
   abbrev pub CellIs : ℕ → Fields → Type 0
   CellIs i f = (limits : Limits) → CellsIn limits → Stands words (cell_end words) at i f
 
-  abbrev pub PortIs : ℕ → ℕ → Type 0
-  PortIs i place = (limits : Limits) → PortsIn limits → place ≡ end_at (port_end words) i at
+  abbrev pub PortIs : ℕ → Fields → Type 0
+  PortIs i f = (limits : Limits) → PortsIn limits → Stands words (port_end words) at i f
 
   pub cells_start : CellsLoop r₀ 0
   cells_start = loop_start (cells_each (cells_at words at n) (map_in r₀) 0)
