@@ -11,7 +11,7 @@ use Rattle.netlist.specs.Fields.{cells_at}
 use Rattle.netlist.specs.Shape.{Each, FitsWire}
 use Rattle.refusal.specs.declared.Refusal.{Refusal}
 use Rattle.behaviour.specs.Banks.{Member, Bank, outputs_of, collect_flip_flop_banks}
-use Rattle.recorder.specs.Writer.{Writer, pure, ◌>>=◌}
+use Rattle.recorder.specs.Writer.{Writer, ◌>>=◌}
 use Rattle.wires.specs.Wires.{Wires}
 use Rattle.lowering.specs.Reserve.{reserve_vector, reserve_flip_flop_banks}
 use Rattle.converter.specs.declared.Reserver.{Reserver}

@@ -25,7 +25,7 @@ use Rattle.address_mux.specs.declared.Works.{Works}
 use Rattle.address_mux.specs.Candidates.{SameWorks}
 use Rattle.lowering.specs.Emit.{emit_cell, emit_cells, emit_outputs}
 use Rattle.converter.proofs.Reserving.{Stands, stands_is}
-use Rattle.converter.specs.Emits.{Emits, emit_output, SameEmitter, Old, OldAfter, cell_writer, CellFits, CellsFit, PortsFit, EmitsCell, EmitsCells, EmitsPort, EmitsPorts}
+use Rattle.converter.specs.Emits.{emit_output, SameEmitter, Old, cell_writer, CellFits, CellsFit, PortsFit, EmitsCell, EmitsCells, EmitsPort, EmitsPorts}
 
 unfoldable pub each_of : {A : Type 0} → (ℕ → A → Writer (Unit {0})) → ℕ → List A → Writer (Unit {0})
 each_of f i [] = pure tt

@@ -1,15 +1,13 @@
 -- The judgement. Assumes nothing.
 use Prim.Native.Nat.{ℕ}
-use mathlib.Core.Path.{◌≡◌, refl, sym, ◌∙◌, ap, ap₂}
-use mathlib.Core.Bool.{Bool, true, false}
-use mathlib.Core.List.{List, [], ◌∷◌}
+use mathlib.Core.Path.{◌≡◌, ◌∙◌, ap, ap₂}
+use mathlib.Core.List.{List}
 use Rattle.std.specs.Prelude.{Option, Result, Ok, Err}
 use native.Mathlib.Omega.{arith}
-use Rattle.bits.specs.Bits.{pick}
 use Rattle.refusal.specs.Refusal.{number_of, place_of}
 use Rattle.refusal.specs.declared.Refusal as x
 use Rattle.recorder.specs.declared.Tapes.{Tapes}
-use Rattle.recorder.specs.Lists.{Lists, lists}
+use Rattle.recorder.specs.Lists.{Lists}
 use Rattle.lowering.specs.Lower.{Refused, judged}
 use Rattle.conflict.specs.Counting.{counted, lowest_from, restored}
 use Rattle.conflict.proofs.Marked.{judges}
@@ -33,4 +31,3 @@ module _ (s m : List ℕ) {p : Result Tapes x.Refusal} where
     recorded = λ u e k n xs ts g h l. let z : ◌≡◌ {A = ℕ} 0 1 = cc in absurd (omega arith);
     same = λ u e k n xs ts g h. let z : ◌≡◌ {A = ℕ} 0 1 = cc in absurd (omega arith);
   }
-

@@ -26,7 +26,7 @@ use Rattle.behaviour.proofs.BankLaws.{same_bit_self, same_bit_is, bank_end}
 use Rattle.netlist.specs.declared.Kind.{Kind}
 use Rattle.netlist.specs.declared.Kind.TheVariants as K
 use Rattle.netlist.proofs.WordLaws.{cell_is}
-use Rattle.converter.specs.Banked.{word_of, clock_key, control_key, reset_key, flop_at, KeyOf, key_is, first_with, find_key, larger, Keyed, number_of, number_in, with_cell, JoinedBank}
+use Rattle.converter.specs.Banked.{word_of, clock_key, control_key, reset_key, flop_at, KeyOf, first_with, find_key, larger, Keyed, number_of, number_in, with_cell, JoinedBank}
 
 -- WORDS
 

@@ -22,9 +22,7 @@ use Rattle.netlist.specs.declared.records.Io.{Io}
 use Rattle.netlist.specs.Netlist.{Cell}
 use Rattle.netlist.specs.Fields.{word_at, bits_at, wires_at, kind_at, cell_as, lut4_at, pfumx_at, l6mux21_at, ccu2c_at, multiplier_at, flip_flop_at, block_ram_at, distributed_ram_at, io_at, jtagg_at, pll_at, cell_at, ram_at, first_size}
 use Rattle.netlist.specs.Records.{pfumx_of, l6mux21_of, io_of, ccu2c_with}
-use Rattle.netlist.specs.Shape.{FitsCell}
 use Rattle.netlist.proofs.WordLaws.{cell_is}
-use Rattle.recorder.specs.declared.Recorder.{Recorder}
 use Rattle.recorder.specs.Writer.{Writer, End, End.ok, End.no, refuse}
 use Rattle.recorder.specs.Calls.{SameLists, Writes}
 use Rattle.recorder.proofs.Calls.{writes_as, writes_pure, writes_refuse}
@@ -32,7 +30,7 @@ use Rattle.wires.specs.declared.Constants.{Constants}
 use Rattle.wires.specs.declared.Emitter.{Emitter}
 use Rattle.wires.specs.Wires.{Wires, wires_in}
 use Rattle.wires.specs.Seen.{Seen, nothing_seen, Reading, forgetting}
-use Rattle.wires.specs.Once.{seen_in, seen_of, Leaves, Once, CellOnce}
+use Rattle.wires.specs.Once.{seen_in, seen_of, Leaves, CellOnce}
 use Rattle.wires.proofs.Laws.{roomy_yes}
 use Rattle.wires.proofs.OnceLaws.{seen_nothing, once_forget}
 use Rattle.cells.specs.Cells.{emit_lut4, emit_pfumx, emit_l6mux21, emit_ccu2c, emit_multiplier, emit_io, emit_idle_jtagg, emit_cycle_pll}
@@ -44,7 +42,7 @@ use Rattle.memories.specs.Memories.{emit_distributed_ram}
 use Rattle.memories.specs.Rams.{dram_at, dram_addressed, addressed, work_of, block_ram_in}
 use Rattle.memories.proofs.PortLaws.{addressed_same}
 use Rattle.lowering.specs.Emit.{emit_cell}
-use Rattle.converter.specs.Emits.{Work, SameEmitter, Old, OldAfter, Shares, cell_writer, EmitsCell, EmitsBlockRam, EmitsAlone, EmitsKind}
+use Rattle.converter.specs.Emits.{Work, SameEmitter, Old, OldAfter, Shares, EmitsCell, EmitsBlockRam, EmitsAlone, EmitsKind}
 
 module _ {e : Emitter} {r : End (Unit {0})} {e' : Emitter} where
   -- one that reads nothing, or shares nothing

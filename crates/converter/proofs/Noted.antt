@@ -8,7 +8,6 @@ use Rattle.std.specs.Prelude.{Option, None}
 use Prim.Native.Nat.{ℕ, zero, suc, ◌+◌, ◌-◌, ◌≤◌, ◌<◌}
 use native.Mathlib.Nat.{add-zero}
 use native.Mathlib.Numerals.{add-one}
-use native.Mathlib.Decide.{ℕ_discrete}
 use native.Mathlib.Omega.{arith}
 use lib.Dec.{eqb}
 use lib.ListN.{length, get_or, drop}
@@ -18,7 +17,7 @@ use Rattle.netlist.specs.declared.Limits.{Limits}
 use Rattle.netlist.specs.Netlist.{FlipFlop, Cell, flip_flop}
 use Rattle.netlist.specs.declared.Kind.{Kind}
 use Rattle.netlist.specs.declared.Kind.TheVariants as K
-use Rattle.netlist.specs.Fields.{records_at, end_at, word_at, kind_at, cell_at, cell_end, cells_at}
+use Rattle.netlist.specs.Fields.{records_at, end_at, kind_at, cell_at, cell_end, cells_at}
 use Rattle.netlist.specs.Shape.{Each, each_at, FitsWire, FitsCell}
 use Rattle.netlist.proofs.RecordLaws.{records_length, records_get}
 use Rattle.behaviour.specs.Banks.{Member, Bank, flip_flop_of, also, flip_flops_from, flip_flops_of, bank_in, kept, members_of, leaders_of, collect_flip_flop_banks, outputs_of}

@@ -1,36 +1,23 @@
 -- The signals of a block RAM.
-use mathlib.Core.Path.{◌≡◌, refl, ap, ap₂, sym, ◌∙◌, subst, fun_ext}
-use mathlib.Core.Bool.{Bool}
-use mathlib.Core.List.{List, [], ◌∷◌, ◌++◌}
+use mathlib.Core.Path.{◌≡◌, refl, ap, sym, ◌∙◌, subst}
+use mathlib.Core.List.{List}
 use Prim.Native.Nat.{ℕ, zero, suc, ◌+◌, ◌≤◌, ◌<◌, min}
-use native.Mathlib.Nat.{add-zero}
 use native.Mathlib.Omega.{arith}
-use lib.ListN.{length, get_or}
-use borrow.Author.Tests.{eq-eqb, ne_eqb}
+use lib.ListN.{length}
 use Rattle.std.specs.Prelude.{Result, Ok, Err, Option, Some, IsErrAnd}
-use Rattle.bits.specs.Bits.{pick}
 use Rattle.netlist.specs.declared.Limits.{Limits}
-use Rattle.netlist.specs.declared.Bit.{Bit}
-use Rattle.netlist.specs.declared.Kind.{Kind}
 use Rattle.netlist.specs.declared.fields.Fields.{Fields}
-use Rattle.netlist.specs.Netlist.{Cell, Port, SecondPort, lut4, pfumx, l6mux21, io}
-use Rattle.netlist.specs.Fields.{records_at, word_at, bit_at, bits_at, wires_at, when_set, kind_at, cell_as, lut4_at, pfumx_at, l6mux21_at, ccu2c_at, multiplier_at, flip_flop_at, block_ram_at, distributed_ram_at, io_at, jtagg_at, pll_at, first_size, second_port_at, cell_at, port_at}
-use Rattle.netlist.specs.Shape.{Each, FitsBit, FitsWire, FitsCell, FitsPort, FitsOption, FitsSecond}
-use Rattle.netlist.proofs.RecordLaws.{bits_length}
-use Rattle.netlist.proofs.WordLaws.{cell_is}
+use Rattle.netlist.specs.Netlist.{SecondPort}
+use Rattle.netlist.specs.Fields.{word_at, wires_at, when_set, block_ram_at, first_size, second_port_at}
+use Rattle.netlist.specs.Shape.{Each, FitsWire, FitsCell, FitsOption, FitsSecond}
 use Rattle.refusal.specs.declared.Refusal.{Refusal}
-use Rattle.refusal.specs.Refusal.{number_of, place_of}
-use Rattle.recorder.specs.Writer.{Writer, End, End.ok, End.no, pure, declare, ◌>>=◌}
-use Rattle.recorder.proofs.Events.{bind_pure, bind_assoc}
-use Rattle.recorder.proofs.Calls.{writes_as, writes_pure}
-use Rattle.wires.specs.Wires.{Wires, entry, wires_of}
-use Rattle.lowering.specs.Reserve.{signal_of, insert_bits, reserve_scalar, reserve_scalars, reserve_vector, reserve_unless, reserve_absent, reserve_second, reserve_cell_output, reserve_port}
+use Rattle.recorder.specs.Writer.{◌>>=◌}
+use Rattle.wires.specs.Wires.{Wires}
+use Rattle.lowering.specs.Reserve.{reserve_vector, reserve_second, reserve_cell_output}
 use Rattle.converter.specs.declared.Reserver.{Reserver}
-use Rattle.converter.specs.declared.Content.{Content}
 use Rattle.converter.specs.declared.Content.TheVariants as C
-use Rattle.converter.specs.Tables.{map_in, Room, Reserves, Declares, held_bits, reserve_bits}
-use Rattle.converter.proofs.Reserving.{Under, reserves_none, reserves_as, reserves_under, reserves_then, reserves_err, declared_then, declared_err, tables_themselves}
-use Rattle.converter.proofs.Rows.{wires_from, held_from, each_bits, vector_as}
+use Rattle.converter.specs.Tables.{map_in, Reserves, held_bits}
+use Rattle.converter.proofs.Reserving.{reserves_none, reserves_as, reserves_then, reserves_err}
 use Rattle.converter.proofs.CellSignals.{From, CellDone, Vector, vector_wires}
 
 one_there : (n : ℕ) (x : SecondPort) → (n ≡ 0 → ⊥) → when_set n x ≡ Some x

@@ -1,11 +1,10 @@
 -- The register of a bank, and the loop over all banks.
 use mathlib.Core.Path.{◌≡◌, refl, ap, ap₂, sym, ◌∙◌, subst, fun_ext}
-use mathlib.Core.Bool.{Bool}
 use mathlib.Core.List.{List, [], ◌∷◌}
 use Prim.Native.Nat.{ℕ, ◌+◌, ◌≤◌, ◌<◌}
 use native.Mathlib.Omega.{arith}
 use lib.ListN.{length, drop, drop_of_length-le}
-use Rattle.std.specs.Prelude.{Option, None, Some, Result, IsErrAnd}
+use Rattle.std.specs.Prelude.{Option, None, Result, IsErrAnd}
 use Rattle.refusal.specs.declared.Refusal.{Refusal}
 use Rattle.refusal.specs.Refusal.{number_of, place_of}
 use Rattle.netlist.specs.declared.Bit.{Bit}
@@ -15,7 +14,7 @@ use Rattle.netlist.specs.Fields.{word_at, bit_at, cells_at}
 use Rattle.behaviour.specs.Banks.{Member, Bank, async_reset, collect_flip_flop_banks}
 use Rattle.recorder.specs.declared.Recorder.{Recorder}
 use Rattle.recorder.specs.Record.{RegReset, Stmt.reg}
-use Rattle.recorder.specs.Writer.{Writer, End, End.ok, End.no, pure, state, ◌>>=◌}
+use Rattle.recorder.specs.Writer.{Writer, End, End.ok, End.no, state, ◌>>=◌}
 use Rattle.recorder.specs.Calls.{SameLists, Writes, ended}
 use Rattle.recorder.proofs.Events.{bind_assoc}
 use Rattle.recorder.proofs.Calls.{same_lists, handed, writes_as, writes_pure, Underway, underway_start, underway_step, underway_stop, underway_end}

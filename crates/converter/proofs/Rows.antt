@@ -1,16 +1,15 @@
 -- Rows of fields, and the loops over them: bits, wires, cells, ports.
 use mathlib.Core.Path.{◌≡◌, refl, ap, ap₂, sym, ◌∙◌, subst, fun_ext}
-use mathlib.Core.List.{List, [], ◌∷◌}
-use Prim.Native.Nat.{ℕ, zero, suc, ◌+◌, ◌≤◌, ◌<◌, min}
+use mathlib.Core.List.{List, ◌∷◌}
+use Prim.Native.Nat.{ℕ, zero, suc, ◌+◌, ◌<◌, min}
 use native.Mathlib.Nat.{add-zero}
 use native.Mathlib.Omega.{arith}
-use lib.ListN.{length, get_or}
+use lib.ListN.{length}
 use Rattle.netlist.specs.declared.Limits.{Limits}
-use Rattle.netlist.specs.declared.Bit.{Bit}
-use Rattle.netlist.specs.declared.Bit.TheVariants.{Zero, Wire}
+use Rattle.netlist.specs.declared.Bit.TheVariants.{Wire}
 use Rattle.netlist.specs.declared.fields.Fields.{Fields}
 use Rattle.netlist.specs.Netlist.{bit_of}
-use Rattle.netlist.specs.Fields.{records_at, end_at, after, word_at, bit_at, bits_at, wires_at, cell_at, cell_end, cells_at, port_at, port_end, ports_at}
+use Rattle.netlist.specs.Fields.{records_at, end_at, after, word_at, bit_at, wires_at, cell_at, cell_end, cells_at, port_at, port_end, ports_at}
 use Rattle.netlist.specs.Shape.{Each, each_at, FitsBit, FitsWire, FitsCell, FitsPort}
 use Rattle.netlist.proofs.RecordLaws.{records_length, records_get, end_after, wires_length}
 use Rattle.netlist.proofs.WordLaws.{word_ahead}
@@ -20,9 +19,9 @@ use Rattle.lowering.specs.Reserve.{signal_of, insert_wire, insert_bits, insert_w
 use Rattle.converter.specs.declared.Reserver.{Reserver}
 use Rattle.converter.specs.declared.Content.{Content}
 use Rattle.converter.specs.declared.Content.TheVariants as C
-use Rattle.converter.specs.Tables.{map_in, Small, Reserves, held_bit, held_bits, reserve_bits}
+use Rattle.converter.specs.Tables.{map_in, held_bit, held_bits, reserve_bits}
 use Rattle.converter.specs.Reserves.{Fitting}
-use Rattle.converter.proofs.Reserving.{Under, Stands, Loop, loop_start, held_one, bits_each, scalars_each, absent_each, cells_each, ports_each}
+use Rattle.converter.proofs.Reserving.{Stands, Loop, loop_start, held_one, bits_each, scalars_each, absent_each, cells_each, ports_each}
 
 -- a field of a row
 module _ {A : Type 0} (value : ℕ → A) (n at i : ℕ) {x : A} (is : x ≡ value (at + i)) where

@@ -1,7 +1,7 @@
 -- The steps one after another.
 use mathlib.Core.Path.{◌≡◌, refl, ap, sym, ◌∙◌, subst}
-use mathlib.Core.List.{List, []}
-use Prim.Native.Nat.{ℕ, zero, suc, ◌≤◌, ◌<◌, min}
+use mathlib.Core.List.{List}
+use Prim.Native.Nat.{ℕ, zero, suc, ◌≤◌, min}
 use native.Mathlib.Omega.{arith}
 use lib.ListN.{length, take, get_or, replicate, length-replicate}
 use lib.Seq.{length-take-le}
@@ -14,19 +14,18 @@ use Rattle.refusal.specs.declared.Refusal.{Refusal}
 use Rattle.refusal.specs.Refusal.{number_of, place_of}
 use Rattle.behaviour.specs.Banks.{collect_flip_flop_banks}
 use Rattle.recorder.specs.declared.Recorder.{Recorder}
-use Rattle.recorder.specs.Writer.{Writer, End, End.ok, End.no, ◌>>=◌, ◌>>◌}
+use Rattle.recorder.specs.Writer.{Writer, End, End.ok, End.no, ◌>>=◌}
 use Rattle.recorder.specs.declared.Tapes.{Tapes}
 use denote.Ref.{Bor}
 use Rattle.netlist.specs.declared.Layout.{Layout}
 use Rattle.converter.specs.Banked.{Collects}
 use Rattle.recorder.specs.Lists.{Lists, Wrote}
-use Rattle.recorder.specs.Calls.{lists_in, tapes_in, SameLists, Writes, ended}
+use Rattle.recorder.specs.Calls.{lists_in, tapes_in, Writes, ended}
 use Rattle.recorder.proofs.Calls.{same_lists, writes_as, writes_then, writes_stop, writes_err}
 use Rattle.wires.specs.declared.Constants.{Constants}
 use Rattle.wires.specs.declared.Emitter.{Emitter}
 use Rattle.wires.specs.declared.WireMap.{WireMap}
 use Rattle.wires.specs.Wires.{Wires, wires_in, wires_of}
-use Rattle.wires.specs.Expressions.{roomy}
 use Rattle.wires.proofs.Laws.{roomy_yes}
 use Rattle.address_mux.specs.declared.Works.{Works}
 use Rattle.lowering.specs.Reserve.{reserve_ports, reserve_cells, reserve_flip_flop_banks}
@@ -34,11 +33,11 @@ use Rattle.lowering.specs.Emit.{emit_cells, emit_banks, emit_outputs}
 use Rattle.lowering.specs.Lower.{start, emit_constants, reserve_netlist, emit_netlist, lower_netlist}
 use Rattle.converter.specs.declared.Reserver.{Reserver}
 use Rattle.converter.specs.declared.members.Banks.{Banks}
-use Rattle.converter.specs.Tables.{map_in, Room, Reserves}
+use Rattle.converter.specs.Tables.{map_in, Reserves}
 use Rattle.converter.specs.Reserved.{BanksFit}
 use Rattle.converter.specs.BankEmits.{EmitsBanks}
-use Rattle.converter.specs.Emits.{Work, Old, CellsFit, PortsFit, EmitsCells, EmitsAll, EmitsPorts}
-use Rattle.converter.specs.Steps.{Within, Ordered, Unmapped, netlist_of, netlist_by, recorded, ReservesNetlist, EmitsNetlist, RecordsParts, RecordsNetlist}
+use Rattle.converter.specs.Emits.{Work, Old, EmitsCells, EmitsAll, EmitsPorts}
+use Rattle.converter.specs.Steps.{Ordered, Unmapped, netlist_of, netlist_by, recorded, ReservesNetlist, EmitsNetlist, RecordsParts, RecordsNetlist}
 use Rattle.converter.proofs.Reserving.{reserves_then, reserves_err}
 use Rattle.converter.proofs.Rows.{CellsIn, PortsIn}
 
@@ -201,6 +200,7 @@ module _ (words numbers : Bor (List ℕ)) (l : Layout) (count : ℕ) where
         subst (λ (t : Tapes). Wrote (lists_in r) t (lower_netlist shared (netlist_by words.now l)) (recorded q) (lists_in r')) begun
         (h.so few limits (record { within = c.within; ports_fit = c.ports; cells_fit = c.cells; few = c.few; noted = noted }) u (omega (arith, lp, room.parts_long)) (omega (arith, lv, room.values_long)));
   }
+
 -- the lists by other names
 pub by_lists : {l₀ : Lists} {wires places parts values banks words : List ℕ} {l : Layout} {shared : ℕ} {q : Result Tapes Refusal} {l₁ l₂ : Lists} → RecordsNetlist l₀ wires places parts values banks words l shared q l₁ → l₂.signals ≡ l₁.signals → l₂.exprs ≡ l₁.exprs → l₂.stmts ≡ l₁.stmts
     → RecordsNetlist l₀ wires places parts values banks words l shared q l₂

@@ -1,25 +1,19 @@
 -- Laws of the tables that hold the wire map.
-use mathlib.Core.Path.{◌≡◌, refl, ap, ap₂, sym, ◌∙◌, subst, fun_ext}
+use mathlib.Core.Path.{◌≡◌, refl, ap, ap₂, sym, ◌∙◌, fun_ext}
 use mathlib.Core.Bool.{Bool}
-use mathlib.Core.List.{List, [], ◌∷◌}
+use mathlib.Core.List.{List}
 use Rattle.std.specs.Prelude.{Option, None, Some}
-use Prim.Native.Nat.{ℕ, zero, suc, ◌+◌, ◌*◌, ◌/◌, ◌%◌, ◌≤◌, ◌<◌}
+use Prim.Native.Nat.{ℕ, zero, suc, ◌+◌, ◌*◌, ◌/◌, ◌%◌, ◌<◌}
 use native.Mathlib.Omega.{arith}
 use native.Mathlib.Decide.{ℕ_discrete}
-use native.Mathlib.Numerals.{add-one}
-use lib.ListN.{length, get_or, set, drop, drop_of_length-le}
-use lib.Seq.{get_or-set_same, get_or-set_other, drop-cons}
+use lib.ListN.{length, get_or, set}
+use lib.Seq.{get_or-set_same, get_or-set_other}
 use borrow.Author.Tests.{eq-eqb, ne_eqb}
 use Rattle.bits.specs.Bits.{pick}
-use Rattle.netlist.specs.declared.Bit.{Bit}
-use Rattle.netlist.specs.declared.Bit.TheVariants.{Zero, One, Wire}
-use Rattle.netlist.specs.Fields.{word_at, bit_at, after}
-use Rattle.recorder.specs.Writer.{Writer, pure, refuse, ◌>>=◌}
-use Rattle.recorder.proofs.Events.{bind_pure, bind_refuse}
+use Rattle.netlist.specs.declared.Bit.TheVariants.{Wire}
+use Rattle.recorder.specs.Writer.{pure, refuse}
 use Rattle.wires.specs.Wires.{WireRef, Wires, put, entry, wires_of}
-use Rattle.lowering.specs.Reserve.{insert_at, insert_wire, insert_bits}
-use Rattle.converter.specs.declared.Content.{Content}
-use Rattle.converter.specs.Tables.{held_bit, held_bits}
+use Rattle.lowering.specs.Reserve.{insert_at, insert_wire}
 
 -- AN ENTRY
 

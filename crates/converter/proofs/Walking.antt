@@ -6,14 +6,14 @@ use Rattle.std.specs.Prelude.{None}
 use Prim.Native.Nat.{ℕ, zero, suc, ◌+◌, ◌-◌, ◌≤◌, ◌<◌, min}
 use native.Mathlib.Numerals.{add-one}
 use native.Mathlib.Omega.{arith}
-use lib.Dec.{eqb, leb, ltb}
+use lib.Dec.{eqb, leb}
 use lib.ListN.{length, get_or}
-use borrow.Author.Tests.{eq-eqb, ne_eqb, leb-true, leb-false, ltb-true, ltb-false}
+use borrow.Author.Tests.{eq-eqb, ne_eqb, leb-true, leb-false}
 use Rattle.netlist.specs.Netlist.{FlipFlop, bit_of}
 use Rattle.netlist.specs.declared.fields.Fields.{Fields}
 use Rattle.netlist.specs.Fields.{word_at, when_set, control_at, reset_at, cell_size, cell_end}
 use Rattle.netlist.proofs.WordLaws.{word_past}
-use Rattle.behaviour.specs.Banks.{Member, kept, outputs_of}
+use Rattle.behaviour.specs.Banks.{Member, kept}
 use Rattle.converter.specs.Banked.{flop_at}
 use Rattle.converter.specs.declared.members.Members.{Members}
 use Rattle.converter.specs.Members.{noted, member_of, members_left}

@@ -6,12 +6,11 @@ use Rattle.std.specs.Prelude.{Option, None, Some, Result, Ok, Err, IsErrAnd}
 use Rattle.std.proofs.lemmas.Result.{err_from_is_err_and}
 use native.Mathlib.Omega.{arith}
 use lib.ListN.{length, get_or, replicate}
-use Rattle.refusal.specs.Refusal.{number_of, place_of}
 use Rattle.refusal.specs.declared.Refusal as x
 use Rattle.netlist.specs.declared.Limits.{Limits}
 use Rattle.netlist.specs.declared.Layout.{Layout}
 use Rattle.netlist.specs.Netlist.{Netlist}
-use Rattle.netlist.specs.Reader.{Read, netlist, refused, read_words}
+use Rattle.netlist.specs.Reader.{Read, netlist, read_words}
 use Rattle.netlist.specs.Fields.{layout_of, netlist_at}
 use Rattle.reader.specs.Checks.{Checks}
 use Rattle.netlist.proofs.FieldLaws.{laid, port_placed, cell_placed}

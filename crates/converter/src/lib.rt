@@ -133,7 +133,13 @@ fn lower_works(
     signals.fill(0);
     exprs.fill(0);
     stmts.fill(0);
-    if short_work(&[wires.len(), places.len(), parts.len(), values.len(), banks.len()]) {
+    if short_work(&[
+        wires.len(),
+        places.len(),
+        parts.len(),
+        values.len(),
+        banks.len(),
+    ]) {
         return Err(Refusal::BufferTooShort(WORK));
     }
     wires.fill(0);

@@ -9,5 +9,5 @@ pub returns : goal.returns
 returns c =
     let n = c.collect_flip_flop_banks-count in
     let w : RecordsNetlist (lists c.args.signals.now c.args.exprs.now c.args.stmts.now) c.args.wires.now c.args.places.now c.args.parts.now c.args.values.now c.args.banks.now c.args.words.now c.args.layout c.args.shared c.record_parts.result (lists_in c.record_parts.new.recorder) =
-      recorded_netlist c.args.words _ c.args.layout n.result _ c.args.wires.now c.args.places.now c.args.parts.now c.args.values.now c.args.banks.now _ c.args.shared refl n.ensures n.auto.parts n.auto.values c.record_parts.ensures.wrote in
+    recorded_netlist c.args.words _ c.args.layout n.result _ c.args.wires.now c.args.places.now c.args.parts.now c.args.values.now c.args.banks.now _ c.args.shared refl n.ensures n.auto.parts n.auto.values c.record_parts.ensures.wrote in
     by_lists w (search rules) (search rules) (search rules)
