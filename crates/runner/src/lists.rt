@@ -8,11 +8,11 @@ ghost use Rattle.evaluation.specs.Late.{Among, Asks, Registers};
 ghost use Rattle.runner.specs.Plan.{Listing, Controls, Outputs};
 
 use crate::commit::enable_at;
-use crate::tables::Model;
+use crate::tables::CheckedModel;
 use simulation::index::{size, wide};
 
 // The words at which registers begin.
-pub fn list_registers(m: &Model, order: &mut [u32], from: usize, room: usize) -> Option<usize>
+pub fn list_registers(m: &CheckedModel, order: &mut [u32], from: usize, room: usize) -> Option<usize>
     requires { from + room ≤ length order.old }
     ensures kept { take from order.new ≡ take from order.old }
     ensures few { IfSome result (λ r. r ≤ room) }
@@ -89,7 +89,7 @@ fn list_control(
 
 // The signals that the statement at a word asks for.
 fn list_asked(
-    m: &Model,
+    m: &CheckedModel,
     at: usize,
     order: &mut [u32],
     from: usize,
@@ -112,7 +112,7 @@ fn list_asked(
 
 // The signals whose levels the registers ask for that begin at `count` words from `loads` on. Marks are work.
 pub fn list_controls(
-    m: &Model,
+    m: &CheckedModel,
     order: &mut [u32],
     loads: usize,
     count: usize,
@@ -135,7 +135,7 @@ pub fn list_controls(
 }
 
 // The numbers of the outputs.
-pub fn list_outputs(m: &Model, order: &mut [u32], from: usize, room: usize) -> Option<usize>
+pub fn list_outputs(m: &CheckedModel, order: &mut [u32], from: usize, room: usize) -> Option<usize>
     requires { from + room ≤ length order.old }
     ensures kept { take from order.new ≡ take from order.old }
     ensures few { IfSome result (λ r. r ≤ room) }
