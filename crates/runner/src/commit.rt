@@ -15,7 +15,8 @@ ghost use Rattle.evaluation.specs.Loads.{stmt_in, Stated, Begins, Control, contr
 use crate::store::store;
 use crate::tables::CheckedModel;
 use simulation::Edge;
-use simulation::index::{size, wide};
+use simulation::index::wide;
+use simulation::records::Records;
 
 // An edge (0 rises, 1 falls) of signal c fires.
 fn fires(fired: Option<Edge>, c: u32, edge: u32) -> bool
@@ -98,13 +99,9 @@ fn note_loads(m: &CheckedModel, fired: Option<Edge>, bytes: &[u8], marks: &mut [
     ensures { Noted m.now.signals.now m.now.stmts.now (firing (fired_of fired)) bytes.now (length (records_in m.now.stmts.now)) marks.new }
 {
     let mut at: usize = 0;
-    while at < m.stmts.len() {
-        let size = size(m.stmts, at);
-        if size == 0 {
-            return;
-        }
+    for fields in Records::new(m.stmts) {
         note_load(m, at, fired, bytes, marks);
-        at += size;
+        at += fields.len() + 1;
     }
 }
 
@@ -146,13 +143,9 @@ fn store_loads(m: &CheckedModel, values: &[u8], marks: &[u8], bytes: &mut [u8])
     ensures { StoresMarked m.now.signals.now m.now.exprs.now m.now.stmts.now values.now marks.now bytes.old bytes.new }
 {
     let mut at: usize = 0;
-    while at < m.stmts.len() {
-        let size = size(m.stmts, at);
-        if size == 0 {
-            return;
-        }
+    for fields in Records::new(m.stmts) {
         store_load(m, values, marks, at, bytes);
-        at += size;
+        at += fields.len() + 1;
     }
 }
 
