@@ -1,4 +1,4 @@
-use Rattle.std.proofs.Common.{arith, ap, sym, ◌∙◌}
+use Rattle.std.proofs.Common.{arith, ◌∙◌}
 use Rattle.runner.proofs.Listing.{registers_start, registers_end, registers_three, registers_other, registers_taken}
 use Rattle.runner.proofs.Models.{stated_of}
 use Rattle.runner.proofs.Turns.{turns_start}

@@ -1,4 +1,4 @@
-use Rattle.std.proofs.Common.{arith, ◌∙◌}
+use Rattle.std.proofs.Common.{arith}
 use Rattle.runner.proofs.Showing.{summing_start, summing_end, summing_three, sum_fits, summing_so, summing_not}
 use Rattle.runner.proofs.Turns.{turns_start}
 use Rattle.runner.proofs.show.output_total.Goals as goal

@@ -1,4 +1,4 @@
-use Rattle.std.proofs.Common.{arith, refl, sym, ◌∙◌}
+use Rattle.std.proofs.Common.{arith, refl}
 use Rattle.simulation.proofs.Steps.{walked_out}
 use Rattle.runner.proofs.Showing.{ending_start, ending_end, ending_port, ending_other}
 use Rattle.runner.proofs.Turns.{turns_start, turns_out, turn_size, turn_some, turn_next, signal_turn, signal_first}
