@@ -16,8 +16,9 @@ ghost use Rattle.coding.specs.Coded.{bits_in, Computable, Coded};
 ghost use Rattle.coding.specs.Emitting.{Unplaced, Placed, Places, MarksLoaded, MarksDrivers, Emitting, Emits, EmitsAll};
 ghost use Rattle.runner.specs.Plan.{Planned};
 
+use crate::kinds::{CONST, READ, REG};
 use crate::lists::{list_controls, list_outputs, list_registers};
-use crate::marks::{driver_marked, is_marked, ready};
+use crate::marks::{MARK, driver_marked, is_marked, ready};
 use crate::tables::CheckedModel;
 use fusing::fill_forms;
 use simulation::index;
@@ -43,14 +44,19 @@ pub struct Plan {
     pub used: usize,
 }
 
-// WHAT IS WANTED: 2 at a position of an expression
+// What is known of a position, in a byte of a lent buffer: its value is, or it is wanted.
+const KNOWN: u8 = 1;
+
+const WANTED: u8 = 2;
+
+// WHAT IS WANTED
 
 fn want(values: &mut [u8], p: usize)
     requires { Unplaced values.old }
     ensures { Unplaced values.new }
 {
     if p < values.len() {
-        values[p] = 2;
+        values[p] = WANTED;
     }
 }
 
@@ -69,7 +75,7 @@ fn wanted(m: &CheckedModel, values: &[u8], e: usize) -> bool {
         if p >= values.len() {
             return false;
         }
-        if values[p] == 2 {
+        if values[p] == WANTED {
             return true;
         }
     }
@@ -82,7 +88,7 @@ fn want_stmt(m: &CheckedModel, at: usize, size: usize, values: &mut [u8])
     ensures { Unplaced values.new }
 {
     want_expr(m, field(m.stmts, at, size, 2), values);
-    if field(m.stmts, at, size, 0) != 1 {
+    if field(m.stmts, at, size, 0) != REG {
         return;
     }
     if field(m.stmts, at, size, 5) == 0 {
@@ -133,10 +139,10 @@ fn want_operands(m: &CheckedModel, e: usize, values: &mut [u8])
     let at = index::start(m.exprs, m.starts, e);
     let size = size(m.exprs, at);
     let kind = field(m.exprs, at, size, 0);
-    if kind == 0 {
+    if kind == CONST {
         return;
     }
-    if kind == 1 {
+    if kind == READ {
         let s = wide(field(m.exprs, at, size, 2));
         want_driver(m, s, values);
         return;
@@ -195,7 +201,7 @@ fn placed(values: &[u8], p: usize, base: usize, top: usize) -> bool
         return p < top;
     }
     if p < values.len() {
-        return values[p] == 1;
+        return values[p] == KNOWN;
     }
     false
 }
@@ -234,7 +240,7 @@ fn place(values: &mut [u8], from: usize, end: usize)
     ensures { Places from end values.old values.new }
 {
     for p in from..end {
-        values[p] = 1;
+        values[p] = KNOWN;
     }
 }
 
@@ -259,7 +265,7 @@ fn put(
     let begin = m.expr_offset(x);
     let end = m.expr_offset(x + 1);
     place(values, begin, end);
-    marks[x] = 1;
+    marks[x] = MARK;
 }
 
 // Number i of the order becomes code word k, if it is wanted: how many code words there are then. None where it can't be computed.
@@ -320,7 +326,7 @@ fn named(m: &CheckedModel, at: usize, marks: &[u8]) -> bool
     if !is_marked(marks, wide(m.stmts[at + 3])) {
         return false;
     }
-    if m.stmts[at + 1] != 1 {
+    if m.stmts[at + 1] != REG {
         return true;
     }
     if m.stmts[at + 6] == 0 {

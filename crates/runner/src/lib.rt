@@ -8,6 +8,7 @@ mod coded; // coded.rt: the values of expressions along code
 mod commit; // commit.rt: the registers load
 mod cut; // cut.rt: the checks of a model and of a call, on parts of the tables
 mod expression; // expression.rt: the value of one expression
+mod kinds; // kinds.rt: the numbers of kinds
 mod late; // late.rt: one tick by a plan
 mod list; // list.rt: a list of ticks
 mod lists; // lists.rt: what a plan lists
@@ -37,8 +38,8 @@ use list::TickList;
 use prepare::{fill_tables, prepare};
 use refusal::Refusal;
 use show::ports_end;
-use simulation::{Edge, Model};
 use simulation::index::count;
+use simulation::{Edge, Model};
 use tables::CheckedModel;
 use ticks::tick;
 use whole::{run_list_with, zero_tables, zero_works};
@@ -64,13 +65,7 @@ fn run_checked(
     requires { Unrefused (lists_of m) bytes.old ticks.now (fired_of fired) work_bits.old work_exprs.old work_signals.old }
     ensures { Tries (lists_of m.entry) bytes.old ticks.now (fired_of fired) result bytes.new }
 {
-    fill_tables(
-        m,
-        starts,
-        expr_table,
-        signal_table,
-        driver_table,
-    );
+    fill_tables(m, starts, expr_table, signal_table, driver_table);
     let checked = CheckedModel {
         signals: m.signals,
         exprs: m.exprs,

@@ -15,8 +15,8 @@ ghost use Rattle.runner.specs.Whole.{among, Stopped};
 use crate::list::{TickList, head_fault};
 use crate::show::{end_of, fired_by, ports_end, put_answer, show};
 use refusal::Refusal;
-use simulation::{Edge, Model};
 use simulation::index::wide;
+use simulation::{Edge, Model};
 
 // What refuses a tick: what stands ahead of its own causes, those, or what stands behind them.
 fn tick_refusal(
@@ -59,7 +59,15 @@ pub fn refuse_ticks(
         let asked = wide(list.heads[at]);
         let end = end_of(list.bits, pos, asked);
         let fired = fired_by(list.heads[at + 1], list.heads[at + 2]);
-        let r = tick_refusal(ahead, count, inputs, asked, &list.bits[pos..end], fired, behind);
+        let r = tick_refusal(
+            ahead,
+            count,
+            inputs,
+            asked,
+            &list.bits[pos..end],
+            fired,
+            behind,
+        );
         put_answer(answers, 2 * i, r);
         to = show(m.signals, bytes, shown, to, ports);
         at += 3;

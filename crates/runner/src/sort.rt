@@ -6,7 +6,8 @@ ghost use Rattle.ordering.specs.Marks.{adds, Sorting};
 ghost use Rattle.ordering.specs.Words.{model_in, Tabled};
 ghost use Rattle.ordering.specs.Sorts.{Step, Sorts, SortsAll};
 
-use crate::marks::{is_marked, ready};
+use crate::kinds::{CONST, READ};
+use crate::marks::{MARK, is_marked, ready};
 use crate::tables::CheckedModel;
 use simulation::index;
 use simulation::index::{clip, field, size, wide};
@@ -40,7 +41,7 @@ fn sort_one(m: &CheckedModel, marks: &mut [u8], order: &mut [u32], k: usize, e: 
     if !adds_one(m, marks, e) {
         return k;
     }
-    marks[e] = 1;
+    marks[e] = MARK;
     note(order, k, e);
     k + 1
 }
@@ -62,11 +63,11 @@ fn sort_pass(m: &CheckedModel, marks: &mut [u8], order: &mut [u32], k: usize) ->
 // The expression that field j of the record at a word names as needed.
 fn need(m: &CheckedModel, at: usize, size: usize, j: usize) -> Option<usize> {
     let kind = field(m.exprs, at, size, 0);
-    if kind == 0 {
+    if kind == CONST {
         return None;
     }
     let x = wide(field(m.exprs, at, size, j));
-    if kind != 1 {
+    if kind != READ {
         return Some(x);
     }
     if j != 2 {
@@ -123,7 +124,7 @@ fn enter(marks: &mut [u8], order: &mut [u32], n: usize, depth: usize, e: usize) 
     if marks[e] != 0 {
         return depth;
     }
-    marks[e] = 1;
+    marks[e] = MARK;
     order[2 * n + depth] = clip(e);
     order[3 * n + depth] = 0;
     depth + 1

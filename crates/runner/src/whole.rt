@@ -100,13 +100,7 @@ fn check_list(
 ) -> Result<(), Refusal>
     ensures { answer_of result ≡ list_answer largest (list_call (lists_of m.entry) list.entry.heads.now list.entry.bits.now bytes.now work_bits.now work_exprs.now work_signals.old answers.now shown.now) }
 {
-    let f = malformed(
-        m,
-        signal_table,
-        expr_table,
-        work_signals,
-        WIDEST,
-    );
+    let f = malformed(m, signal_table, expr_table, work_signals, WIDEST);
     match f {
         Some(n) => Err(Refusal::MalformedModel(n)),
         None => list_fault(
@@ -141,13 +135,7 @@ fn run_unrefused(
     requires { ListUnrefused (lists_of m) list.heads.now bytes.old work_bits.old work_exprs.old work_signals.old answers.old shown.old }
     ensures { RunsTicks (lists_of m.entry) list.entry.heads.now list.entry.bits.now bytes.old bytes.new answers.old answers.new shown.old shown.new }
 {
-    fill_tables(
-        m,
-        starts,
-        expr_table,
-        signal_table,
-        driver_table,
-    );
+    fill_tables(m, starts, expr_table, signal_table, driver_table);
     let checked = CheckedModel {
         signals: m.signals,
         exprs: m.exprs,
@@ -174,7 +162,14 @@ fn run_unrefused(
             shown,
         ),
         Ok(ordered) => {
-            let plan = encode(&checked, ordered, order, work_bits, work_exprs, work_signals);
+            let plan = encode(
+                &checked,
+                ordered,
+                order,
+                work_bits,
+                work_exprs,
+                work_signals,
+            );
             let used = plan.used;
             work_bits.fill(0);
             run_ticks(
