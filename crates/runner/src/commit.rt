@@ -157,7 +157,8 @@ fn store_loads(m: &CheckedModel, values: &[u8], marks: &[u8], bytes: &mut [u8])
     }
 }
 
-// BY A LIST of the words at which registers begin: the others load nothing
+// BY A LIST of the words at which registers begin: the others load nothing. One function for these and those above would have to take an
+// iterator of words, and two of them would be written only for that.
 
 fn note_listed(
     m: &CheckedModel,

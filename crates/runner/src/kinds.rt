@@ -1,4 +1,4 @@
-// The numbers by which a model's words say what a record is.
+// The numbers by which a model's words say what a record is. No enum, as they are words of lent lists.
 
 // An expression.
 pub const CONST: u32 = 0;

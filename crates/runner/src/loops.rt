@@ -44,7 +44,7 @@ fn touch_pass(m: &CheckedModel, marks: &mut [u8], s: usize) -> bool
     any
 }
 
-// Marks all expressions that lead to signal s.
+// Marks all expressions that lead to signal s: passes until one adds none, and how many are needed is not known before, so no `for`.
 fn mark_leading(m: &CheckedModel, marks: &mut [u8], s: usize)
     requires { m.now.expr_count ≤ length marks.old }
     ensures { Found (model_with m.now.signals.now m.now.exprs.now m.now.stmts.now) s marks.new }

@@ -53,7 +53,7 @@ fn settle_pass(m: &CheckedModel, bytes: &[u8], values: &mut [u8], marks: &mut [u
     any
 }
 
-// In passes, of a model without a loop.
+// In passes until one evaluates none, of a model without a loop; how many are needed is not known before, so no `for`.
 fn settle_marked(m: &CheckedModel, bytes: &[u8], values: &mut [u8], marks: &mut [u8])
     requires { Room m.now.signals.now m.now.exprs.now bytes.now values.old × (m.now.expr_count ≤ length marks.old) × (looped (model_in m.now.signals.now m.now.exprs.now m.now.stmts.now) ≡ None) × Filled (widths_in m.now.exprs.now) values.old }
     ensures { Settles m.now.signals.now m.now.exprs.now m.now.stmts.now bytes.now values.new }

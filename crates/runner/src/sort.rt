@@ -222,7 +222,8 @@ fn sort_along(m: &CheckedModel, marks: &mut [u8], order: &mut [u32]) -> usize
     k
 }
 
-// A pass along a guess, then passes until one adds nothing: how many expressions were marked.
+// A pass along a guess, then passes until one adds nothing: how many expressions were marked. How many passes are needed is not known
+// before, so no `for`.
 pub fn sort(m: &CheckedModel, marks: &mut [u8], order: &mut [u32]) -> usize
     requires { (m.now.expr_count ≤ length marks.old) × (m.now.expr_count < 4294967296) × Sorting (model_in m.now.exprs.now m.now.stmts.now) m.now.expr_count marks.old order.old 0 }
     ensures { SortsAll (model_in m.now.exprs.now m.now.stmts.now) m.now.expr_count result marks.new order.new }
