@@ -214,18 +214,6 @@ module _ {signals bytes : List ℕ} (h : ReadSignals signals) {shown₀ shown : 
         labelled : (signal_at signals g.count).label ≡ 1 → ⊥
         labelled q = l (label_is h g.walked e d ∙ q)
 
--- A PRODUCT THAT STOPS
-
-pub times_none : (a b : ℕ) → a ≡ 0 → 0 ≡ min (a * b) 18446744073709551615
-times_none a b e = let z : a * b ≡ 0 = ap (λ (n : ℕ). n * b) e ∙ zero-mul b in omega (arith, z)
-
-module _ (a b : ℕ) (d : a ≡ 0 → ⊥) where
-  pub times_fits : b ≤ 18446744073709551615 / a → a * b ≤ 18446744073709551615
-  times_fits h = le_trans (le_of_eq (mul_comm a b)) ((le-div_iff_mul-le (omega (arith, d))).0 h)
-
-  pub times_stops : 18446744073709551615 / a < b → 18446744073709551615 ≤ a * b
-  times_stops h = le_trans (le_of_lt ((div-lt_iff_lt-mul (omega (arith, d))).0 h)) (le_of_eq (mul_comm b a))
-
 -- WHAT FIRES
 
 pub fired_edge : (f s : ℕ) → (f ≡ 0 → ⊥) → Some (s, f - 1) ≡ fired_by f s

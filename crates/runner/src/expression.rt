@@ -1,5 +1,4 @@
-// The value of one expression, from its operands' values. `table` holds the first expressions' offsets among the values; the record of
-// expression e begins at word `at`: its length, kind, width, operands.
+// The value of one expression, from its operands' values. The record of expression e begins at word `at`: its length, kind, width, operands.
 ghost use Rattle.std.specs.Prelude.{◌≡◌, Bool, ℕ, ◌+◌, ◌≤◌, ◌<◌, length, get_or, set};
 ghost use Rattle.bits.specs.Bits.{digit};
 ghost use Rattle.simulation.specs.Index.{records_in, widths_in, offset as sum_to, start_of, Indexed, Starts, Driven};

@@ -78,7 +78,7 @@ pub fn head_fault(
     tick_fault(count, inputs, ticks, fired)
 }
 
-// One tick of a model of n expressions, `count` signals and `inputs` input bits, unless it is refused.
+// One tick of a model of `inputs` input bits, unless it is refused.
 fn run_tick(
     m: &CheckedModel,
     order: &[u32],

@@ -31,7 +31,7 @@ fn touch_one(m: &CheckedModel, marks: &mut [u8], s: usize, e: usize) -> bool
     true
 }
 
-// One pass over the first n expressions: whether one was added.
+// One pass over all expressions: whether one was added.
 fn touch_pass(m: &CheckedModel, marks: &mut [u8], s: usize) -> bool
     requires { (m.now.expr_count ≤ length marks.old) × Backed (model_with m.now.signals.now m.now.exprs.now m.now.stmts.now) s marks.old }
     ensures { Touches (model_with m.now.signals.now m.now.exprs.now m.now.stmts.now) m.now.expr_count s marks.old result marks.new }
@@ -61,7 +61,7 @@ fn on_loop(m: &CheckedModel, marks: &mut [u8], s: usize) -> bool
     driver_marked(m, marks, s, false)
 }
 
-// The lowest of the first `count` signals that is on a loop.
+// The lowest signal that is on a loop.
 pub fn lowest_on_loop(m: &CheckedModel, marks: &mut [u8]) -> Option<usize>
     requires { m.now.expr_count ≤ length marks.old }
     ensures { result ≡ looped (model_with m.now.signals.now m.now.exprs.now m.now.stmts.now) }

@@ -14,7 +14,7 @@ use crate::store::store_assigned;
 use crate::tables::CheckedModel;
 use simulation::index::wide;
 
-// Along an order of all n expressions.
+// Along an order of all expressions.
 fn settle_ordered(m: &CheckedModel, order: &[u32], bytes: &[u8], values: &mut [u8])
     requires { Room m.now.signals.now m.now.exprs.now bytes.now values.old × (m.now.expr_count ≤ length order.now) × Ordered (model_in m.now.signals.now m.now.exprs.now m.now.stmts.now) m.now.expr_count order.now × Filled (widths_in m.now.exprs.now) values.old }
     ensures { Settles m.now.signals.now m.now.exprs.now m.now.stmts.now bytes.now values.new }
@@ -40,7 +40,7 @@ fn settle_one(m: &CheckedModel, e: usize, bytes: &[u8], values: &mut [u8], marks
     true
 }
 
-// One pass over the n expressions: whether one was evaluated.
+// One pass over all expressions: whether one was evaluated.
 fn settle_pass(m: &CheckedModel, bytes: &[u8], values: &mut [u8], marks: &mut [u8]) -> bool
     requires { Room m.now.signals.now m.now.exprs.now bytes.now values.old × (m.now.expr_count ≤ length marks.old) × RightOn m.now.signals.now m.now.exprs.now m.now.stmts.now (InMarks marks.old) bytes.now values.old }
     ensures { SettlesPass m.now.signals.now m.now.exprs.now m.now.stmts.now m.now.expr_count bytes.now marks.old result values.new marks.new }
@@ -74,7 +74,7 @@ fn settle_plain(m: &CheckedModel, order: &[u32], bytes: &[u8], values: &mut [u8]
     }
 }
 
-// The values of the n expressions, and in each assigned one of the `count` signals its expression's.
+// The values of all expressions, and in each assigned signal its expression's.
 pub fn settle(
     m: &CheckedModel,
     order: &[u32],

@@ -46,20 +46,6 @@ pub fn ports_end(signals: &[u32]) -> usize
     end
 }
 
-// A product that stops at the largest number.
-pub fn times(a: usize, b: usize) -> usize
-    ensures { result ≡ min (a * b) 18446744073709551615 }
-{
-    if a == 0 {
-        return 0;
-    }
-    if b <= 18446744073709551615 / a {
-        a * b
-    } else {
-        18446744073709551615
-    }
-}
-
 // The output signals' bytes, one after the other, from an index on; the index behind them. All of them begin before a word.
 pub fn show(signals: &[u32], bytes: &[u8], shown: &mut [u8], from: usize, until: usize) -> usize
     requires { ReadSignals signals.now × (sum_to (widths_in signals.now) (length (records_in signals.now)) ≤ length bytes.now) × (from + total output_width (signals_in signals.now) ≤ length shown.old) × PortsBefore signals.now until }
@@ -120,9 +106,5 @@ pub fn end_of(bits: &[u8], pos: usize, n: usize) -> usize
     requires { pos ≤ length bits.now }
     ensures { result ≡ min (pos + n) (length bits.now) }
 {
-    if n <= bits.len() - pos {
-        pos + n
-    } else {
-        bits.len()
-    }
+    pos.saturating_add(n).min(bits.len())
 }

@@ -46,7 +46,7 @@ fn sort_one(m: &CheckedModel, marks: &mut [u8], order: &mut [u32], k: usize, e: 
     k + 1
 }
 
-// One pass over the first n expressions: marks those that are ready, k are marked so far.
+// One pass over all expressions: marks those that are ready, k are marked so far.
 fn sort_pass(m: &CheckedModel, marks: &mut [u8], order: &mut [u32], k: usize) -> usize
     requires { (m.now.expr_count ≤ length marks.old) × (m.now.expr_count < 4294967296) × Sorting (model_in m.now.exprs.now m.now.stmts.now) m.now.expr_count marks.old order.old k }
     ensures { Sorts (model_in m.now.exprs.now m.now.stmts.now) m.now.expr_count k result marks.new order.new }

@@ -36,7 +36,7 @@ fn store_driven(m: &CheckedModel, values: &[u8], s: usize, bytes: &mut [u8])
     }
 }
 
-// Every assigned signal takes its expression's value. There are `count` signals.
+// Every assigned signal takes its expression's value.
 pub fn store_assigned(m: &CheckedModel, values: &[u8], bytes: &mut [u8])
     requires { Room m.now.signals.now m.now.exprs.now bytes.old values.now }
     ensures { Stores m.now.signals.now m.now.exprs.now m.now.stmts.now values.now bytes.old bytes.new }
@@ -49,7 +49,7 @@ pub fn store_assigned(m: &CheckedModel, values: &[u8], bytes: &mut [u8])
     }
 }
 
-// k signals of a list take the values of what is assigned to them. There are `count` signals.
+// k signals of a list take the values of what is assigned to them.
 pub fn store_listed(
     m: &CheckedModel,
     order: &[u32],

@@ -15,7 +15,7 @@ use crate::cut::malformed;
 use crate::list::{TickList, run_ticks};
 use crate::prepare::{fill_tables, prepare};
 use crate::refused::refuse_ticks;
-use crate::show::{output_total, ports_end, times};
+use crate::show::{output_total, ports_end};
 use crate::tables::CheckedModel;
 use model_check::call::{byte_fault, call_lengths, input_total};
 use refusal::Refusal;
@@ -60,7 +60,7 @@ fn shown_lengths(
     if answers.len() < 2 * k {
         return Err(Refusal::BufferTooShort(2 * k));
     }
-    let needed = times(output_total(signals), k);
+    let needed = output_total(signals).saturating_mul(k);
     if shown.len() < needed {
         return Err(Refusal::BufferTooShort(needed));
     }
