@@ -1,5 +1,5 @@
 -- What a list of ticks shows: the outputs' bytes one after the other, and a tick's answer as two numbers. Assumes nothing.
-use Prim.Native.Nat.{ℕ, zero, suc, ◌+◌, ◌-◌, ◌*◌, ◌/◌, ◌≤◌, ◌<◌, min}
+use Prim.Native.Nat.{ℕ, zero, suc, ◌+◌, ◌-◌, ◌≤◌, ◌<◌}
 use mathlib.Core.Path.{◌≡◌, refl, sym, ◌∙◌, ap, ap₂}
 use mathlib.Core.Bool.{Bool}
 use mathlib.Core.List.{List, [], ◌∷◌, ◌++◌, map}
@@ -7,7 +7,6 @@ use Rattle.std.specs.Prelude.{Some}
 use native.Mathlib.Omega.{arith}
 use native.Mathlib.Decide.{ℕ_discrete}
 use native.Mathlib.Numerals.{add-one}
-use native.Mathlib.Nat.{le_trans, le_of_eq, le_of_lt, zero-mul, mul_comm, le-div_iff_mul-le, div-lt_iff_lt-mul}
 use lib.ListN.{length, get_or, take, drop, set, length-drop, drop_of_length-le}
 use lib.Seq.{drop-drop, get_or-drop}
 use borrow.Author.Tests.{eq-eqb, ne_eqb}

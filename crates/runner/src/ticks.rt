@@ -14,6 +14,7 @@ use crate::tables::CheckedModel;
 use simulation::Edge;
 
 // Inputs, settle, commit, settle.
+// The model and its order are two parameters: an invariant of one type for both would have to be a proposition, and `Ordered` is none.
 pub fn tick(
     m: &CheckedModel,
     order: &[u32],
