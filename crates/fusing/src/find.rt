@@ -8,6 +8,18 @@ ghost use Rattle.fusing.specs.Finding.{Entry, Spotted, OneBit, OneSpot, Fuses, C
 use crate::join::{Lut, alone, joined, no_table};
 use simulation::index::{driver, wide};
 
+// A model's expressions and statements with what says where they stand: where each expression begins, the positions of expressions and of
+// signals, what is assigned to each signal.
+#[derive(Clone, Copy)]
+pub struct Tables<'a> {
+    pub exprs: &'a [u32],
+    pub stmts: &'a [u32],
+    pub starts: &'a [u32],
+    pub expr_table: &'a [u32],
+    pub signal_table: &'a [u32],
+    pub driver_table: &'a [u32],
+}
+
 // A word of a list, 0 behind it.
 fn word(list: &[u32], at: usize, j: usize) -> u32
     ensures { result ≡ get_or list.now (at + j) 0 }
@@ -42,23 +54,15 @@ fn plus(a: u32, b: u32) -> u32
 }
 
 // Where bit l of signal s stands: in the value of what is assigned to it, or behind all values.
-fn spot(
-    stmts: &[u32],
-    expr_table: &[u32],
-    signal_table: &[u32],
-    driver_table: &[u32],
-    base: u32,
-    s: usize,
-    l: u32,
-) -> u32
-    ensures { Spotted stmts.now expr_table.now signal_table.now driver_table.now base s l result }
+fn spot(m: Tables, base: u32, s: usize, l: u32) -> u32
+    ensures { Spotted m.entry.stmts.now m.entry.expr_table.now m.entry.signal_table.now m.entry.driver_table.now base s l result }
 {
-    if s >= driver_table.len() {
+    if s >= m.driver_table.len() {
         return 4294967295;
     }
-    match driver(stmts, driver_table, s) {
-        Some(d) => plus(entry(expr_table, wide(d)), l),
-        None => plus(plus(base, entry(signal_table, s)), l),
+    match driver(m.stmts, m.driver_table, s) {
+        Some(d) => plus(entry(m.expr_table, wide(d)), l),
+        None => plus(plus(base, entry(m.signal_table, s)), l),
     }
 }
 
@@ -86,23 +90,15 @@ fn const_form(exprs: &[u32], at: usize, base: u32) -> Lut
     }
 }
 
-fn read_form(
-    exprs: &[u32],
-    stmts: &[u32],
-    expr_table: &[u32],
-    signal_table: &[u32],
-    driver_table: &[u32],
-    base: u32,
-    at: usize,
-) -> Lut
-    ensures { result.table < 65536 → OneSpot exprs.now stmts.now expr_table.now signal_table.now driver_table.now base at result }
+fn read_form(m: Tables, base: u32, at: usize) -> Lut
+    ensures { result.table < 65536 → OneSpot m.entry.exprs.now m.entry.stmts.now m.entry.expr_table.now m.entry.signal_table.now m.entry.driver_table.now base at result }
 {
-    if word(exprs, at, 2) != 1 {
+    if word(m.exprs, at, 2) != 1 {
         return no_table();
     }
-    let s = wide(word(exprs, at, 3));
-    let l = word(exprs, at, 4);
-    let p = spot(stmts, expr_table, signal_table, driver_table, base, s, l);
+    let s = wide(word(m.exprs, at, 3));
+    let l = word(m.exprs, at, 4);
+    let p = spot(m, base, s, l);
     if p == 4294967295 {
         return no_table();
     }
@@ -193,92 +189,67 @@ fn matching(w: u32, v: u32, p: u32) -> Lut
 }
 
 // Whether a has the value of b, a constant of up to four bits.
-fn compared(exprs: &[u32], starts: &[u32], expr_table: &[u32], a: u32, b: u32) -> Lut
-    ensures { result.table < 65536 → Compared exprs.now starts.now expr_table.now a b result }
+fn compared(m: Tables, a: u32, b: u32) -> Lut
+    ensures { result.table < 65536 → Compared m.entry.exprs.now m.entry.starts.now m.entry.expr_table.now a b result }
 {
-    let begin = entry(starts, wide(b));
+    let begin = entry(m.starts, wide(b));
     if begin == 4294967295 {
         return no_table();
     }
     let at = wide(begin);
-    if word(exprs, at, 1) != 0 {
+    if word(m.exprs, at, 1) != 0 {
         return no_table();
     }
-    let own = entry(expr_table, wide(a));
+    let own = entry(m.expr_table, wide(a));
     if own >= 4294967292 {
         return no_table();
     }
-    let w = word(exprs, at, 2);
-    let v = word(exprs, at, 3);
+    let w = word(m.exprs, at, 2);
+    let v = word(m.exprs, at, 3);
     matching(w, v, own)
 }
 
-fn equal_form(
-    exprs: &[u32],
-    starts: &[u32],
-    expr_table: &[u32],
-    forms: &[u32],
-    a: u32,
-    b: u32,
-) -> Lut
-    ensures { Equates exprs.now starts.now expr_table.now forms.now a b result }
+fn equal_form(m: Tables, forms: &[u32], a: u32, b: u32) -> Lut
+    ensures { Equates m.entry.exprs.now m.entry.starts.now m.entry.expr_table.now forms.now a b result }
 {
     let z = fused(forms, 8, a, b, b);
     if z.table < 65536 {
         return z;
     }
-    compared(exprs, starts, expr_table, a, b)
+    compared(m, a, b)
 }
 
 // The form of expression e, whose operands have theirs. `base` is the position behind all values.
-pub fn form_of(
-    exprs: &[u32],
-    stmts: &[u32],
-    starts: &[u32],
-    expr_table: &[u32],
-    signal_table: &[u32],
-    driver_table: &[u32],
-    base: u32,
-    e: usize,
-    forms: &[u32],
-) -> Lut
-    ensures { (signals : List ℕ) → Known signals exprs.now stmts.now starts.now expr_table.now signal_table.now driver_table.now → e < length (records_in exprs.now) → base ≡ clipped (offset (widths_in exprs.now) (length (records_in exprs.now))) → Finds signals exprs.now stmts.now forms.now e result }
+pub fn form_of(m: Tables, base: u32, e: usize, forms: &[u32]) -> Lut
+    ensures { (signals : List ℕ) → Known signals m.entry.exprs.now m.entry.stmts.now m.entry.starts.now m.entry.expr_table.now m.entry.signal_table.now m.entry.driver_table.now → e < length (records_in m.entry.exprs.now) → base ≡ clipped (offset (widths_in m.entry.exprs.now) (length (records_in m.entry.exprs.now))) → Finds signals m.entry.exprs.now m.entry.stmts.now forms.now e result }
 {
-    let begin = entry(starts, e);
+    let begin = entry(m.starts, e);
     if begin == 4294967295 {
         return no_table();
     }
     let at = wide(begin);
-    let kind = word(exprs, at, 1);
+    let kind = word(m.exprs, at, 1);
     match kind {
-        0 => const_form(exprs, at, base),
-        1 => read_form(
-            exprs,
-            stmts,
-            expr_table,
-            signal_table,
-            driver_table,
-            base,
-            at,
-        ),
+        0 => const_form(m.exprs, at, base),
+        1 => read_form(m, base, at),
         3 => {
-            let a = word(exprs, at, 3);
+            let a = word(m.exprs, at, 3);
             fused(forms, kind, a, a, a)
         }
         4 | 5 | 6 => {
-            let a = word(exprs, at, 3);
-            let b = word(exprs, at, 4);
+            let a = word(m.exprs, at, 3);
+            let b = word(m.exprs, at, 4);
             fused(forms, kind, a, b, b)
         }
         8 => {
-            let a = word(exprs, at, 3);
-            let b = word(exprs, at, 4);
-            equal_form(exprs, starts, expr_table, forms, a, b)
+            let a = word(m.exprs, at, 3);
+            let b = word(m.exprs, at, 4);
+            equal_form(m, forms, a, b)
         }
         7 => {
-            let a = word(exprs, at, 3);
-            let b = word(exprs, at, 4);
-            let c = word(exprs, at, 5);
+            let a = word(m.exprs, at, 3);
+            let b = word(m.exprs, at, 4);
+            let c = word(m.exprs, at, 5);
             fused(forms, kind, a, b, c)
         }
         _ => no_table(),

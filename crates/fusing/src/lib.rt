@@ -10,7 +10,7 @@ ghost use Rattle.simulation.specs.Index.{records_in};
 ghost use Rattle.fusing.specs.Form.{Formed};
 ghost use Rattle.fusing.specs.Finding.{Known, Puts, Behind, Fills};
 
-use find::{entry, form_of};
+use find::{Tables, entry, form_of};
 use join::Lut;
 use simulation::index::{clip, sum_to};
 
@@ -39,34 +39,15 @@ fn put(forms: &mut [u32], e: usize, own: u32, f: Lut)
 }
 
 // One expression after the other, as operands come first.
-fn fill(
-    exprs: &[u32],
-    stmts: &[u32],
-    starts: &[u32],
-    expr_table: &[u32],
-    signal_table: &[u32],
-    driver_table: &[u32],
-    n: usize,
-    forms: &mut [u32],
-)
+fn fill(m: Tables, n: usize, forms: &mut [u32])
     requires { 6 * n ≤ length forms.old }
     ensures behind { Behind (6 * n) forms.old forms.new }
-    ensures formed { (signals : List ℕ) → Known signals exprs.now stmts.now starts.now expr_table.now signal_table.now driver_table.now → n ≡ length (records_in exprs.now) → Formed signals exprs.now stmts.now forms.new n }
+    ensures formed { (signals : List ℕ) → Known signals m.entry.exprs.now m.entry.stmts.now m.entry.starts.now m.entry.expr_table.now m.entry.signal_table.now m.entry.driver_table.now → n ≡ length (records_in m.entry.exprs.now) → Formed signals m.entry.exprs.now m.entry.stmts.now forms.new n }
 {
-    let base = clip(sum_to(exprs, n));
+    let base = clip(sum_to(m.exprs, n));
     for e in 0..n {
-        let own = entry(expr_table, e);
-        let f = form_of(
-            exprs,
-            stmts,
-            starts,
-            expr_table,
-            signal_table,
-            driver_table,
-            base,
-            e,
-            forms,
-        );
+        let own = entry(m.expr_table, e);
+        let f = form_of(m, base, e, forms);
         put(forms, e, own, f);
     }
 }
@@ -92,14 +73,13 @@ pub fn fill_forms(
     if n > (forms.len() - from) / 6 {
         return;
     }
-    fill(
+    let m = Tables {
         exprs,
         stmts,
         starts,
         expr_table,
         signal_table,
         driver_table,
-        n,
-        &mut forms[from..],
-    );
+    };
+    fill(m, n, &mut forms[from..]);
 }

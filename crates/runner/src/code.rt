@@ -16,9 +16,10 @@ ghost use Rattle.coding.specs.Coded.{bits_in, Computable, Coded};
 ghost use Rattle.coding.specs.Emitting.{Unplaced, Placed, Places, MarksLoaded, MarksDrivers, Emitting, Emits, EmitsAll};
 ghost use Rattle.runner.specs.Plan.{Planned};
 
+use crate::kinds::{CONST, READ, REG};
 use crate::lists::{list_controls, list_outputs, list_registers};
-use crate::marks::{driver_marked, is_marked, ready};
-use crate::tables::Model;
+use crate::marks::{MARK, driver_marked, is_marked, ready};
+use crate::tables::CheckedModel;
 use fusing::fill_forms;
 use simulation::index;
 use simulation::index::{field, plus, size, wide};
@@ -43,18 +44,23 @@ pub struct Plan {
     pub used: usize,
 }
 
-// WHAT IS WANTED: 2 at a position of an expression
+// What is known of a position, in a byte of a lent buffer: its value is, or it is wanted.
+const KNOWN: u8 = 1;
+
+const WANTED: u8 = 2;
+
+// WHAT IS WANTED
 
 fn want(values: &mut [u8], p: usize)
     requires { Unplaced values.old }
     ensures { Unplaced values.new }
 {
     if p < values.len() {
-        values[p] = 2;
+        values[p] = WANTED;
     }
 }
 
-fn want_expr(m: &Model, e: u32, values: &mut [u8])
+fn want_expr(m: &CheckedModel, e: u32, values: &mut [u8])
     requires { Unplaced values.old }
     ensures { Unplaced values.new }
 {
@@ -62,28 +68,27 @@ fn want_expr(m: &Model, e: u32, values: &mut [u8])
 }
 
 // Some position of expression e is wanted.
-fn wanted(m: &Model, values: &[u8], e: usize) -> bool {
+fn wanted(m: &CheckedModel, values: &[u8], e: usize) -> bool {
     let end = index::offset(m.exprs, m.expr_table, plus(e, 1));
-    let mut p = index::offset(m.exprs, m.expr_table, e);
-    while p < end {
+    let from = index::offset(m.exprs, m.expr_table, e);
+    for p in from..end {
         if p >= values.len() {
             return false;
         }
-        if values[p] == 2 {
+        if values[p] == WANTED {
             return true;
         }
-        p += 1;
     }
     false
 }
 
 // What a statement names.
-fn want_stmt(m: &Model, at: usize, size: usize, values: &mut [u8])
+fn want_stmt(m: &CheckedModel, at: usize, size: usize, values: &mut [u8])
     requires { Unplaced values.old }
     ensures { Unplaced values.new }
 {
     want_expr(m, field(m.stmts, at, size, 2), values);
-    if field(m.stmts, at, size, 0) != 1 {
+    if field(m.stmts, at, size, 0) != REG {
         return;
     }
     if field(m.stmts, at, size, 5) == 0 {
@@ -93,7 +98,7 @@ fn want_stmt(m: &Model, at: usize, size: usize, values: &mut [u8])
 }
 
 // What the statements name that begin at k words of a list.
-fn want_loads(m: &Model, order: &[u32], from: usize, k: usize, values: &mut [u8])
+fn want_loads(m: &CheckedModel, order: &[u32], from: usize, k: usize, values: &mut [u8])
     requires { (from + k ≤ length order.now) × Unplaced values.old }
     ensures { Unplaced values.new }
 {
@@ -105,7 +110,7 @@ fn want_loads(m: &Model, order: &[u32], from: usize, k: usize, values: &mut [u8]
 }
 
 // What is assigned to signal s.
-fn want_driver(m: &Model, s: usize, values: &mut [u8])
+fn want_driver(m: &CheckedModel, s: usize, values: &mut [u8])
     requires { Unplaced values.old }
     ensures { Unplaced values.new }
 {
@@ -116,7 +121,7 @@ fn want_driver(m: &Model, s: usize, values: &mut [u8])
 }
 
 // What is assigned to k signals of a list.
-fn want_drivers(m: &Model, order: &[u32], from: usize, k: usize, values: &mut [u8])
+fn want_drivers(m: &CheckedModel, order: &[u32], from: usize, k: usize, values: &mut [u8])
     requires { (from + k ≤ length order.now) × Unplaced values.old }
     ensures { Unplaced values.new }
 {
@@ -127,25 +132,23 @@ fn want_drivers(m: &Model, order: &[u32], from: usize, k: usize, values: &mut [u
 }
 
 // The operands of expression e; of a read what is assigned to its signal.
-fn want_operands(m: &Model, e: usize, values: &mut [u8])
+fn want_operands(m: &CheckedModel, e: usize, values: &mut [u8])
     requires { Unplaced values.old }
     ensures { Unplaced values.new }
 {
     let at = index::start(m.exprs, m.starts, e);
     let size = size(m.exprs, at);
     let kind = field(m.exprs, at, size, 0);
-    if kind == 0 {
+    if kind == CONST {
         return;
     }
-    if kind == 1 {
+    if kind == READ {
         let s = wide(field(m.exprs, at, size, 2));
         want_driver(m, s, values);
         return;
     }
-    let mut i: usize = 3;
-    while i < size {
+    for i in 3..size {
         want_expr(m, field(m.exprs, at, size, i - 1), values);
-        i += 1;
     }
 }
 
@@ -161,7 +164,7 @@ fn want_form(order: &[u32], at: usize, values: &mut [u8])
 }
 
 // What expression e is computed from, if it is wanted.
-fn want_inputs(m: &Model, order: &[u32], e: usize, values: &mut [u8])
+fn want_inputs(m: &CheckedModel, order: &[u32], e: usize, values: &mut [u8])
     requires { (7 * m.now.expr_count ≤ length order.now) × Unplaced values.old }
     ensures { Unplaced values.new }
 {
@@ -180,13 +183,11 @@ fn want_inputs(m: &Model, order: &[u32], e: usize, values: &mut [u8])
 }
 
 // Against the order: what wants others is met before them.
-fn want_needed(m: &Model, order: &[u32], values: &mut [u8])
+fn want_needed(m: &CheckedModel, order: &[u32], values: &mut [u8])
     requires { (7 * m.now.expr_count ≤ length order.now) × Unplaced values.old }
     ensures { Unplaced values.new }
 {
-    let mut i = m.expr_count;
-    while i > 0 {
-        i -= 1;
+    for i in (0..m.expr_count).rev() {
         want_inputs(m, order, wide(order[i]), values);
     }
 }
@@ -200,14 +201,14 @@ fn placed(values: &[u8], p: usize, base: usize, top: usize) -> bool
         return p < top;
     }
     if p < values.len() {
-        return values[p] == 1;
+        return values[p] == KNOWN;
     }
     false
 }
 
 // What expression e is computed from is known.
 fn computable(
-    m: &Model,
+    m: &CheckedModel,
     order: &[u32],
     base: usize,
     top: usize,
@@ -238,10 +239,8 @@ fn place(values: &mut [u8], from: usize, end: usize)
     requires { (from ≤ end) × (end ≤ length values.old) }
     ensures { Places from end values.old values.new }
 {
-    let mut p = from;
-    while p < end {
-        values[p] = 1;
-        p += 1;
+    for p in from..end {
+        values[p] = KNOWN;
     }
 }
 
@@ -249,7 +248,7 @@ fn place(values: &mut [u8], from: usize, end: usize)
 
 // Expression e becomes code word k.
 fn put(
-    m: &Model,
+    m: &CheckedModel,
     from: usize,
     k: usize,
     e: u32,
@@ -266,12 +265,12 @@ fn put(
     let begin = m.expr_offset(x);
     let end = m.expr_offset(x + 1);
     place(values, begin, end);
-    marks[x] = 1;
+    marks[x] = MARK;
 }
 
-// Number i of the order becomes code word k, if it is wanted. How many code words there are then, or one past n.
+// Number i of the order becomes code word k, if it is wanted: how many code words there are then. None where it can't be computed.
 fn emit(
-    m: &Model,
+    m: &CheckedModel,
     from: usize,
     base: usize,
     top: usize,
@@ -280,57 +279,54 @@ fn emit(
     order: &mut [u32],
     values: &mut [u8],
     marks: &mut [u8],
-) -> usize
+) -> Option<usize>
     requires { (m.now.expr_count ≤ length marks.old) × (base ≡ bits_in m.now.exprs.now) × (top ≡ bits_in m.now.exprs.now + bits_in m.now.signals.now) × (base ≤ length values.old) × Emitting m.now.signals.now m.now.exprs.now m.now.stmts.now m.now.expr_count from k order.old values.old marks.old × (k ≤ i) × (i < m.now.expr_count) }
     ensures { Emits m.now.signals.now m.now.exprs.now m.now.stmts.now m.now.expr_count from k result order.old order.new values.new marks.new }
 {
     let word = order[i];
     let e = wide(word);
     if e >= m.expr_count {
-        return k;
+        return Some(k);
     }
     if !wanted(m, values, e) {
-        return k;
+        return Some(k);
     }
     if !computable(m, order, base, top, values, marks, e) {
-        return m.expr_count + 1;
+        return None;
     }
     put(m, from, k, word, order, values, marks);
-    k + 1
+    Some(k + 1)
 }
 
-// All that are wanted: how many code words, or one past n.
+// All that are wanted: how many code words.
 fn emit_all(
-    m: &Model,
+    m: &CheckedModel,
     from: usize,
     base: usize,
     top: usize,
     order: &mut [u32],
     values: &mut [u8],
     marks: &mut [u8],
-) -> usize
+) -> Option<usize>
     requires { (m.now.expr_count ≤ length marks.old) × (base ≡ bits_in m.now.exprs.now) × (top ≡ bits_in m.now.exprs.now + bits_in m.now.signals.now) × (base ≤ length values.old) × Emitting m.now.signals.now m.now.exprs.now m.now.stmts.now m.now.expr_count from 0 order.old values.old marks.old }
     ensures { EmitsAll m.now.signals.now m.now.exprs.now m.now.stmts.now m.now.expr_count from result order.old order.new values.new marks.new }
 {
     let mut k: usize = 0;
     for i in 0..m.expr_count {
-        k = emit(m, from, base, top, i, k, order, values, marks);
-        if k > m.expr_count {
-            return k;
-        }
+        k = emit(m, from, base, top, i, k, order, values, marks)?;
     }
-    k
+    Some(k)
 }
 
 // What the statement at a word names is marked.
-fn named(m: &Model, at: usize, marks: &[u8]) -> bool
+fn named(m: &CheckedModel, at: usize, marks: &[u8]) -> bool
     requires { Begins m.now.stmts.now at }
     ensures { result ≡ true → (k : ℕ) → k < length (records_in m.now.stmts.now) → at ≡ start_of m.now.stmts.now k → (x : ℕ) → Names (stmt_in m.now.stmts.now k) x → marked marks.now x ≡ true }
 {
     if !is_marked(marks, wide(m.stmts[at + 3])) {
         return false;
     }
-    if m.stmts[at + 1] != 1 {
+    if m.stmts[at + 1] != REG {
         return true;
     }
     if m.stmts[at + 6] == 0 {
@@ -340,9 +336,9 @@ fn named(m: &Model, at: usize, marks: &[u8]) -> bool
 }
 
 // What the registers that begin at k words of a list load is marked.
-fn loads_marked(m: &Model, order: &[u32], from: usize, k: usize, marks: &[u8]) -> bool
-    requires { (from + k ≤ length order.now) × Registers m.now.stmts.now order.now from k }
-    ensures { result ≡ true → MarksLoaded m.now.stmts.now marks.now }
+fn loads_marked(m: &CheckedModel, order: &[u32], from: usize, k: usize, marks: &[u8]) -> bool
+    requires { (from + k ≤ length order.now) × ((j : ℕ) → j < k → Begins m.now.stmts.now (get_or order.now (from + j) 0)) }
+    ensures { result ≡ true → Registers m.now.stmts.now order.now from k → MarksLoaded m.now.stmts.now marks.now }
 {
     for j in 0..k {
         if !named(m, wide(order[from + j]), marks) {
@@ -353,7 +349,7 @@ fn loads_marked(m: &Model, order: &[u32], from: usize, k: usize, marks: &[u8]) -
 }
 
 // What is assigned to k signals of a list is marked.
-fn drivers_marked(m: &Model, order: &[u32], from: usize, k: usize, marks: &[u8]) -> bool
+fn drivers_marked(m: &CheckedModel, order: &[u32], from: usize, k: usize, marks: &[u8]) -> bool
     requires { from + k ≤ length order.now }
     ensures { result ≡ true → MarksDrivers m.now.stmts.now order.now from k marks.now }
 {
@@ -365,11 +361,11 @@ fn drivers_marked(m: &Model, order: &[u32], from: usize, k: usize, marks: &[u8])
     true
 }
 
-// THE TWO PIECES
+// ONE PIECE
 
 // Code for what the listed registers load and what is assigned to the listed signals, from a word on behind the lists: how many words. Values and marks are work.
-fn first_code(
-    m: &Model,
+fn piece(
+    m: &CheckedModel,
     from: usize,
     base: usize,
     top: usize,
@@ -381,11 +377,11 @@ fn first_code(
     values: &mut [u8],
     marks: &mut [u8],
 ) -> Option<usize>
-    requires { (m.now.expr_count ≤ length marks.old) × (base ≡ bits_in m.now.exprs.now) × (top ≡ bits_in m.now.exprs.now + bits_in m.now.signals.now) × (base ≤ length values.old) × (7 * m.now.expr_count ≤ from) × (from + m.now.expr_count ≤ length order.old) × Formed m.now.signals.now m.now.exprs.now m.now.stmts.now (drop m.now.expr_count order.old) m.now.expr_count × (loads + registers ≤ from) × Registers m.now.stmts.now order.old loads registers × (asked + controls ≤ from) }
+    requires { (m.now.expr_count ≤ length marks.old) × (base ≡ bits_in m.now.exprs.now) × (top ≡ bits_in m.now.exprs.now + bits_in m.now.signals.now) × (base ≤ length values.old) × (7 * m.now.expr_count ≤ from) × (from + m.now.expr_count ≤ length order.old) × Formed m.now.signals.now m.now.exprs.now m.now.stmts.now (drop m.now.expr_count order.old) m.now.expr_count × (loads + registers ≤ from) × ((j : ℕ) → j < registers → Begins m.now.stmts.now (get_or order.old (loads + j) 0)) × (asked + controls ≤ from) }
     ensures kept { take from order.new ≡ take from order.old }
     ensures few { IfSome result (λ k. k ≤ m.now.expr_count) }
     ensures coded { IfSome result (λ k. Coded m.now.signals.now m.now.exprs.now m.now.stmts.now m.now.expr_count from k order.new) }
-    ensures loaded { IfSome result (λ k. (e : ℕ) → Loaded m.now.stmts.now e → Among order.new from k e) }
+    ensures loaded { IfSome result (λ k. Registers m.now.stmts.now order.old loads registers → (e : ℕ) → Loaded m.now.stmts.now e → Among order.new from k e) }
     ensures driven { IfSome result (λ k. (x d : ℕ) → Among order.new asked controls x → given assigns (stmts_in m.now.stmts.now) x ≡ Some d → Among order.new from k d) }
 {
     values.fill(0);
@@ -393,10 +389,7 @@ fn first_code(
     want_drivers(m, order, asked, controls, values);
     want_needed(m, order, values);
     marks.fill(0);
-    let k = emit_all(m, from, base, top, order, values, marks);
-    if k > m.expr_count {
-        return None;
-    }
+    let k = emit_all(m, from, base, top, order, values, marks)?;
     if !loads_marked(m, order, loads, registers, marks) {
         return None;
     }
@@ -406,41 +399,9 @@ fn first_code(
     Some(k)
 }
 
-// Code for what is assigned to the listed signals alone.
-fn second_code(
-    m: &Model,
-    from: usize,
-    base: usize,
-    top: usize,
-    shown: usize,
-    outputs: usize,
-    order: &mut [u32],
-    values: &mut [u8],
-    marks: &mut [u8],
-) -> Option<usize>
-    requires { (m.now.expr_count ≤ length marks.old) × (base ≡ bits_in m.now.exprs.now) × (top ≡ bits_in m.now.exprs.now + bits_in m.now.signals.now) × (base ≤ length values.old) × (7 * m.now.expr_count ≤ from) × (from + m.now.expr_count ≤ length order.old) × Formed m.now.signals.now m.now.exprs.now m.now.stmts.now (drop m.now.expr_count order.old) m.now.expr_count × (shown + outputs ≤ from) }
-    ensures kept { take from order.new ≡ take from order.old }
-    ensures few { IfSome result (λ k. k ≤ m.now.expr_count) }
-    ensures coded { IfSome result (λ k. Coded m.now.signals.now m.now.exprs.now m.now.stmts.now m.now.expr_count from k order.new) }
-    ensures driven { IfSome result (λ k. (x d : ℕ) → Among order.new shown outputs x → given assigns (stmts_in m.now.stmts.now) x ≡ Some d → Among order.new from k d) }
-{
-    values.fill(0);
-    want_drivers(m, order, shown, outputs, values);
-    want_needed(m, order, values);
-    marks.fill(0);
-    let k = emit_all(m, from, base, top, order, values, marks);
-    if k > m.expr_count {
-        return None;
-    }
-    if !drivers_marked(m, order, shown, outputs, marks) {
-        return None;
-    }
-    Some(k)
-}
-
 // Forms, lists and code in a table with room for them. Values and both marks are work.
 fn encode_in(
-    m: &Model,
+    m: &CheckedModel,
     base: usize,
     state: usize,
     order: &mut [u32],
@@ -480,7 +441,7 @@ fn encode_in(
     let outputs = list_outputs(m, order, outputs_at, m.signal_count)?;
     let first_at = outputs_at + m.signal_count;
     let top = base + state;
-    let first = first_code(
+    let first = piece(
         m,
         first_at,
         base,
@@ -493,11 +454,13 @@ fn encode_in(
         values,
         marks,
     )?;
-    let second = second_code(
+    let second = piece(
         m,
         first_at + m.expr_count,
         base,
         top,
+        loads,
+        0,
         outputs_at,
         outputs,
         order,
@@ -517,7 +480,7 @@ fn encode_in(
 
 // The code of a model of which `ordered` expressions stand in the order.
 pub fn encode(
-    m: &Model,
+    m: &CheckedModel,
     ordered: usize,
     order: &mut [u32],
     values: &mut [u8],

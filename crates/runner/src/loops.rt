@@ -7,10 +7,10 @@ ghost use Rattle.ordering.specs.Marks.{Backed};
 ghost use Rattle.ordering.specs.Words.{model_in, model_with, Tabled, Faultless};
 ghost use Rattle.ordering.specs.Loops.{finds, Touch, Touches, Found, OnLoop};
 
-use crate::marks::{driver_marked, is_marked, touched};
-use crate::tables::Model;
+use crate::marks::{MARK, driver_marked, is_marked, touched};
+use crate::tables::CheckedModel;
 
-fn finds_one(m: &Model, marks: &[u8], s: usize, e: usize) -> bool
+fn finds_one(m: &CheckedModel, marks: &[u8], s: usize, e: usize) -> bool
     requires { e < length (records_in m.now.exprs.now) }
     ensures { result ≡ finds (model_in m.now.exprs.now m.now.stmts.now) s marks.now e }
 {
@@ -20,19 +20,19 @@ fn finds_one(m: &Model, marks: &[u8], s: usize, e: usize) -> bool
     touched(m, marks, s, e)
 }
 
-fn touch_one(m: &Model, marks: &mut [u8], s: usize, e: usize) -> bool
+fn touch_one(m: &CheckedModel, marks: &mut [u8], s: usize, e: usize) -> bool
     requires { (e < length (records_in m.now.exprs.now)) × (e < length marks.old) }
     ensures { Touch (model_in m.now.exprs.now m.now.stmts.now) s marks.old e result marks.new }
 {
     if !finds_one(m, marks, s, e) {
         return false;
     }
-    marks[e] = 1;
+    marks[e] = MARK;
     true
 }
 
-// One pass over the first n expressions: whether one was added.
-fn touch_pass(m: &Model, marks: &mut [u8], s: usize) -> bool
+// One pass over all expressions: whether one was added.
+fn touch_pass(m: &CheckedModel, marks: &mut [u8], s: usize) -> bool
     requires { (m.now.expr_count ≤ length marks.old) × Backed (model_with m.now.signals.now m.now.exprs.now m.now.stmts.now) s marks.old }
     ensures { Touches (model_with m.now.signals.now m.now.exprs.now m.now.stmts.now) m.now.expr_count s marks.old result marks.new }
 {
@@ -44,21 +44,16 @@ fn touch_pass(m: &Model, marks: &mut [u8], s: usize) -> bool
     any
 }
 
-// Marks all expressions that lead to signal s.
-fn mark_leading(m: &Model, marks: &mut [u8], s: usize)
+// Marks all expressions that lead to signal s: passes until one adds none, and how many are needed is not known before, so no `for`.
+fn mark_leading(m: &CheckedModel, marks: &mut [u8], s: usize)
     requires { m.now.expr_count ≤ length marks.old }
     ensures { Found (model_with m.now.signals.now m.now.exprs.now m.now.stmts.now) s marks.new }
 {
     marks.fill(0);
-    loop {
-        let more = touch_pass(m, marks, s);
-        if !more {
-            return;
-        }
-    }
+    while touch_pass(m, marks, s) {}
 }
 
-fn on_loop(m: &Model, marks: &mut [u8], s: usize) -> bool
+fn on_loop(m: &CheckedModel, marks: &mut [u8], s: usize) -> bool
     requires { m.now.expr_count ≤ length marks.old }
     ensures { OnLoop (model_with m.now.signals.now m.now.exprs.now m.now.stmts.now) s result }
 {
@@ -66,8 +61,8 @@ fn on_loop(m: &Model, marks: &mut [u8], s: usize) -> bool
     driver_marked(m, marks, s, false)
 }
 
-// The lowest of the first `count` signals that is on a loop.
-pub fn lowest_on_loop(m: &Model, marks: &mut [u8]) -> Option<usize>
+// The lowest signal that is on a loop.
+pub fn lowest_on_loop(m: &CheckedModel, marks: &mut [u8]) -> Option<usize>
     requires { m.now.expr_count ≤ length marks.old }
     ensures { result ≡ looped (model_with m.now.signals.now m.now.exprs.now m.now.stmts.now) }
 {

@@ -9,27 +9,23 @@ ghost use Rattle.evaluation.specs.Ticks.{ReadSignals, signals_in};
 ghost use Rattle.runner.specs.Calls.{fired_by, output_width, answer_words};
 
 use crate::bytes::copy;
+use crate::kinds::OUTPUT;
 use recorder::SignalId;
 use refusal::Refusal;
 use simulation::Edge;
-use simulation::index::{size, wide};
+use simulation::index::wide;
+use simulation::records::Records;
 
 // The widths of all outputs together.
 pub fn output_total(signals: &[u32]) -> usize
     requires { ReadSignals signals.now × (sum_to (widths_in signals.now) (length (records_in signals.now)) ≤ 18446744073709551615) }
     ensures { result ≡ total output_width (signals_in signals.now) }
 {
-    let mut at: usize = 0;
     let mut sum: usize = 0;
-    while at < signals.len() {
-        let size = size(signals, at);
-        if size == 0 {
-            return sum;
+    for fields in Records::new(signals) {
+        if fields[0] == OUTPUT {
+            sum += wide(fields[1]);
         }
-        if signals[at + 1] == 1 {
-            sum += wide(signals[at + 2]);
-        }
-        at += size;
     }
     sum
 }
@@ -41,32 +37,13 @@ pub fn ports_end(signals: &[u32]) -> usize
 {
     let mut at: usize = 0;
     let mut end: usize = 0;
-    while at < signals.len() {
-        let size = size(signals, at);
-        if size == 0 {
-            return end;
-        }
-        let label = signals[at + 1];
-        at += size;
-        if label <= 1 {
+    for fields in Records::new(signals) {
+        at += fields.len() + 1;
+        if fields[0] <= OUTPUT {
             end = at;
         }
     }
     end
-}
-
-// A product that stops at the largest number.
-pub fn times(a: usize, b: usize) -> usize
-    ensures { result ≡ min (a * b) 18446744073709551615 }
-{
-    if a == 0 {
-        return 0;
-    }
-    if b <= 18446744073709551615 / a {
-        a * b
-    } else {
-        18446744073709551615
-    }
 }
 
 // The output signals' bytes, one after the other, from an index on; the index behind them. All of them begin before a word.
@@ -78,18 +55,17 @@ pub fn show(signals: &[u32], bytes: &[u8], shown: &mut [u8], from: usize, until:
     let mut at: usize = 0;
     let mut pos: usize = 0;
     let mut to = from;
-    while at < until {
-        let size = size(signals, at);
-        if size == 0 {
+    for fields in Records::new(signals) {
+        if at >= until {
             return to;
         }
-        let width = wide(signals[at + 2]);
-        if signals[at + 1] == 1 {
+        let width = wide(fields[1]);
+        if fields[0] == OUTPUT {
             copy(shown, to, bytes, pos, width);
             to += width;
         }
         pos += width;
-        at += size;
+        at += fields.len() + 1;
     }
     to
 }
@@ -130,9 +106,5 @@ pub fn end_of(bits: &[u8], pos: usize, n: usize) -> usize
     requires { pos ≤ length bits.now }
     ensures { result ≡ min (pos + n) (length bits.now) }
 {
-    if n <= bits.len() - pos {
-        pos + n
-    } else {
-        bits.len()
-    }
+    pos.saturating_add(n).min(bits.len())
 }

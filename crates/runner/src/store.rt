@@ -6,11 +6,13 @@ ghost use Rattle.evaluation.specs.Late.{PortsBefore, StoresDriven, StoresListed}
 ghost use Rattle.evaluation.specs.Ticks.{ReadSignals, GoodTicks, Inputs, StoresOne, Stores};
 
 use crate::bytes::copy;
-use crate::tables::Model;
-use simulation::index::{size, wide};
+use crate::kinds::INPUT;
+use crate::tables::CheckedModel;
+use simulation::index::wide;
+use simulation::records::Records;
 
 // Signal t takes the value of expression d, which is as wide.
-pub fn store(m: &Model, values: &[u8], t: usize, d: usize, bytes: &mut [u8])
+pub fn store(m: &CheckedModel, values: &[u8], t: usize, d: usize, bytes: &mut [u8])
     requires { Room m.now.signals.now m.now.exprs.now bytes.old values.now × (t < length (records_in m.now.signals.now)) × (d < length (records_in m.now.exprs.now)) × (get_or (widths_in m.now.exprs.now) d 0 ≡ get_or (widths_in m.now.signals.now) t 0) }
     ensures { StoresOne m.now.signals.now m.now.exprs.now values.now t d bytes.old bytes.new }
 {
@@ -21,7 +23,7 @@ pub fn store(m: &Model, values: &[u8], t: usize, d: usize, bytes: &mut [u8])
 }
 
 // Signal s takes the value of what is assigned to it, if there is such a signal.
-fn store_driven(m: &Model, values: &[u8], s: usize, bytes: &mut [u8])
+fn store_driven(m: &CheckedModel, values: &[u8], s: usize, bytes: &mut [u8])
     requires { Room m.now.signals.now m.now.exprs.now bytes.old values.now }
     ensures { StoresDriven m.now.signals.now m.now.exprs.now m.now.stmts.now s values.now bytes.old bytes.new }
 {
@@ -34,8 +36,8 @@ fn store_driven(m: &Model, values: &[u8], s: usize, bytes: &mut [u8])
     }
 }
 
-// Every assigned signal takes its expression's value. There are `count` signals.
-pub fn store_assigned(m: &Model, values: &[u8], bytes: &mut [u8])
+// Every assigned signal takes its expression's value.
+pub fn store_assigned(m: &CheckedModel, values: &[u8], bytes: &mut [u8])
     requires { Room m.now.signals.now m.now.exprs.now bytes.old values.now }
     ensures { Stores m.now.signals.now m.now.exprs.now m.now.stmts.now values.now bytes.old bytes.new }
 {
@@ -47,9 +49,9 @@ pub fn store_assigned(m: &Model, values: &[u8], bytes: &mut [u8])
     }
 }
 
-// k signals of a list take the values of what is assigned to them. There are `count` signals.
+// k signals of a list take the values of what is assigned to them.
 pub fn store_listed(
-    m: &Model,
+    m: &CheckedModel,
     order: &[u32],
     from: usize,
     k: usize,
@@ -66,24 +68,23 @@ pub fn store_listed(
 }
 
 // The input signals take the tick's bits, in order.
-pub fn set_inputs(m: &Model, ticks: &[u8], bytes: &mut [u8])
+pub fn set_inputs(m: &CheckedModel, ticks: &[u8], bytes: &mut [u8])
     requires { GoodTicks m.now.signals.now ticks.now × (sum_to (widths_in m.now.signals.now) (length (records_in m.now.signals.now)) ≤ length bytes.old) }
     ensures { Inputs m.now.signals.now ticks.now bytes.old bytes.new }
 {
     let mut at: usize = 0;
     let mut to: usize = 0;
     let mut pos: usize = 0;
-    while at < m.ports {
-        let size = size(m.signals, at);
-        if size == 0 {
+    for fields in Records::new(m.signals) {
+        if at >= m.ports {
             return;
         }
-        let width = wide(m.signals[at + 2]);
-        if m.signals[at + 1] == 0 {
+        let width = wide(fields[1]);
+        if fields[0] == INPUT {
             copy(bytes, to, ticks, pos, width);
             pos += width;
         }
         to += width;
-        at += size;
+        at += fields.len() + 1;
     }
 }

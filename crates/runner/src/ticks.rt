@@ -10,12 +10,13 @@ ghost use Rattle.evaluation.specs.Ticks.{Filled, Ordered, GoodTicks, Ticks};
 use crate::commit::commit;
 use crate::settling::settle;
 use crate::store::set_inputs;
-use crate::tables::Model;
+use crate::tables::CheckedModel;
 use simulation::Edge;
 
 // Inputs, settle, commit, settle.
+// The model and its order are two parameters: an invariant of one type for both would have to be a proposition, and `Ordered` is none.
 pub fn tick(
-    m: &Model,
+    m: &CheckedModel,
     order: &[u32],
     ticks: &[u8],
     fired: Option<Edge>,
