@@ -144,6 +144,18 @@ said_inside [] k h = absurd (omega arith)
 said_inside (x ∷ t) zero h = omega arith
 said_inside (x ∷ t) (suc k) h = let r = said_inside t k h in omega arith
 
+-- what a table says is one of its entries, and less than the largest word
+pub entry_said : (t : List ℕ) (k w : ℕ) → Some w ≡ tabled t k Some None → (k < length t) × (w ≡ get_or t k 0) × (w < 4294967295)
+entry_said t k w = go (ltb (get_or t k 4294967295) 4294967295) refl
+  where
+    go : (b : Bool) → ltb (get_or t k 4294967295) 4294967295 ≡ b → Some w ≡ pick b (Some (get_or t k 4294967295)) None → (k < length t) × (w ≡ get_or t k 0) × (w < 4294967295)
+    go true l e =
+        let h = ltb-true (get_or t k 4294967295) 4294967295 l in
+        let i = said_inside t k h in
+        let z : w ≡ get_or t k 4294967295 = some_injective w (get_or t k 4294967295) e in
+        (i, z ∙ sym (entry_in t k i), omega arith)
+    go false l e = absurd (some_ne_none w e)
+
 -- what holds of what the table says, and of what is found, holds of what is read
 tabled_is : {A : Type 0} (t : List ℕ) (k : ℕ) (said : ℕ → A) (found v : A) → (k < length t → get_or t k 0 < 4294967295 → said (get_or t k 0) ≡ v) → found ≡ v → tabled t k said found ≡ v
 tabled_is {A} t k said found v s f = go (ltb (get_or t k 4294967295) 4294967295) refl
