@@ -13,3 +13,4 @@ pub mod Lagging
 pub mod Along
 pub mod Listing
 pub mod Planning
+pub mod Turns

@@ -36,6 +36,7 @@ use Rattle.evaluation.proofs.Held.{holds_length}
 use Rattle.evaluation.proofs.Whole.{read_length, driver_there, driver_wide}
 use Rattle.evaluation.proofs.Signals.{signals_long, label_is}
 use Rattle.evaluation.proofs.Committing.{stated, fields_inside, target_known, target_of, register_word, asks_word, count_some, alone}
+use Rattle.runner.proofs.Turns.{Ahead, turns_out, turn_size, turn_some, turn_next, turn_there, turn_first, signal_turn, stmt_turn}
 use Rattle.runner.specs.Plan.{Listing, Controls, Outputs}
 
 -- A WORD PUT BEHIND k OTHERS
@@ -55,63 +56,60 @@ module _ (order : List ℕ) (from k v : ℕ) where
 
 -- REGISTERS: those before word `at` are listed
 
-pub record ListsRegisters (stmts order₀ : List ℕ) (from room : ℕ) (order : List ℕ) (k at : ℕ) : Type 0 where
+pub record ListsRegisters (stmts order₀ : List ℕ) (from room : ℕ) (order : List ℕ) (k at : ℕ) (rest : List (List ℕ)) : Type 0 where
   pub number : ℕ
   pub walked : Walked stmts at number
+  pub ahead : Ahead stmts at rest
   pub few : k ≤ room
   pub as_long : length order ≡ length order₀
   pub kept : take from order ≡ take from order₀
   pub each : (j : ℕ) → j < k → Begins stmts (get_or order (from + j) 0)
   pub all : (i : ℕ) → i < number → is_register (stmt_in stmts i) ≡ true → Among order from k (start_of stmts i)
 
-pub registers_start : (stmts order : List ℕ) (from room : ℕ) → ListsRegisters stmts order from room order 0 0
-registers_start stmts order from room = record { number = 0; walked = walked_start stmts; few = omega arith; as_long = refl; kept = refl; each = λ j q. absurd (not-suc-le-zero q); all = λ i q h. absurd (not-suc-le-zero q) }
+pub registers_start : {stmts : List ℕ} (order : List ℕ) (from room : ℕ) {rest : List (List ℕ)} → Ahead stmts 0 rest → ListsRegisters stmts order from room order 0 0 rest
+registers_start {stmts} order from room a = record { number = 0; walked = walked_start stmts; ahead = a; few = omega arith; as_long = refl; kept = refl; each = λ j q. absurd (not-suc-le-zero q); all = λ i q h. absurd (not-suc-le-zero q) }
 
-module _ {stmts order₀ : List ℕ} {from room : ℕ} {order : List ℕ} {k at : ℕ} (g : ListsRegisters stmts order₀ from room order k at) where
-  all_registers : g.number ≡ length (records_in stmts) → Registers stmts order from k
-  all_registers e = record { each = g.each; all = λ i q h. g.all i (omega arith) h }
+module _ {stmts order₀ : List ℕ} {from room : ℕ} {order : List ℕ} {k at : ℕ} {rest : List (List ℕ)} (g : ListsRegisters stmts order₀ from room order k at rest) where
+  pub registers_end : rest ≡ [] → (take from order ≡ take from order₀) × Registers stmts order from k
+  registers_end n = let e = walked_out g.walked 0 (turns_out g.ahead n) refl in (g.kept, record { each = g.each; all = λ i q h. g.all i (omega arith) h })
 
-  pub registers_out : {size : ℕ} → size ≡ size_at stmts at → size ≡ 0 → (take from order ≡ take from order₀) × Registers stmts order from k
-  registers_out {size} e z = (g.kept, all_registers (walked_out g.walked size e z))
-
-  pub registers_end : length stmts ≤ at → (take from order ≡ take from order₀) × Registers stmts order from k
-  registers_end h = (g.kept, all_registers (walked_end g.walked h).0)
-
-  module _ {signals : List ℕ} (s : Stated signals stmts) {size : ℕ} (e : size ≡ size_at stmts at) (d : size ≡ 0 → ⊥) where
+  -- the next one
+  module _ {signals : List ℕ} (s : Stated signals stmts) {r : List ℕ} {rest' : List (List ℕ)} (q : rest ≡ r ∷ rest') where
     register_there : g.number < length (records_in stmts)
-    register_there = walked_there g.walked size e d
+    register_there = turn_there g.ahead q g.walked
 
     register_begins : Begins stmts at
     register_begins = record { number = g.number; there = register_there; begins = g.walked.begins }
 
-    pub registers_inside : at + 3 < length stmts
-    registers_inside = fields_inside s register_begins
+    pub registers_three : 3 ≤ length r
+    registers_three = stmt_turn g.ahead q s g.walked
 
-    pub registers_step : at + size ≤ length stmts
-    registers_step = walked_within g.walked size e d
+    stepped : Walked stmts (at + (length r + 1)) (g.number + 1)
+    stepped = walked_next g.walked (length r + 1) (turn_size g.ahead q) (turn_some g.ahead q)
 
-    registers_skip : (get_or stmts (at + 1) 0 ≡ 1 → ⊥) → ListsRegisters stmts order₀ from room order k (at + size)
-    registers_skip n = record { number = g.number + 1; walked = walked_next g.walked size e d; few = g.few; as_long = g.as_long; kept = g.kept; each = g.each; all = λ i q h. more i (dec_lt i g.number) q h }
+    pub registers_other : (get_or r 0 0 ≡ 1 → ⊥) → ListsRegisters stmts order₀ from room order k (at + (length r + 1)) rest'
+    registers_other n = record { number = g.number + 1; walked = stepped; ahead = turn_next g.ahead q; few = g.few; as_long = g.as_long; kept = g.kept; each = g.each; all = λ i q h. more i (dec_lt i g.number) q h }
       where
         more : (i : ℕ) → Dec (i < g.number) → i < g.number + 1 → is_register (stmt_in stmts i) ≡ true → Among order from k (start_of stmts i)
         more i (yes y) q h = g.all i y h
-        more i (no z) q h =
+        more i (no z) j h =
             let same : g.number ≡ i = omega arith in
-            absurd (n (register_word s (omega (arith, register_there, same)) (g.walked.begins ∙ ap (start_of stmts) same) h))
+            absurd (n (turn_first g.ahead q (omega (arith, registers_three)) ∙ register_word s (omega (arith, register_there, same)) (g.walked.begins ∙ ap (start_of stmts) same) h))
 
-    registers_put : k < room → from + room ≤ length order₀ → ListsRegisters stmts order₀ from room (set order (from + k) at) (k + 1) (at + size)
-    registers_put q r = record {
+    pub registers_taken : {order' : List ℕ} {k' : ℕ} → k' ≤ room → from + room ≤ length order₀ → (k' ≡ k + 1) × (order' ≡ set order (from + k) at) → ListsRegisters stmts order₀ from room order' k' (at + (length r + 1)) rest'
+    registers_taken {order'} {k'} u v p = subst (λ (l : List ℕ). ListsRegisters stmts order₀ from room l k' (at + (length r + 1)) rest') (sym p.1) (subst (λ (i : ℕ). ListsRegisters stmts order₀ from room (set order (from + k) at) i (at + (length r + 1)) rest') (sym p.0) record {
       number = g.number + 1;
-      walked = walked_next g.walked size e d;
-      few = omega arith;
+      walked = stepped;
+      ahead = turn_next g.ahead q;
+      few = omega (arith, u, p.0);
       as_long = length-set order (from + k) at ∙ g.as_long;
       kept = put_take order from k at ∙ g.kept;
       each = λ j h. begins j (dec_lt j k) h;
       all = λ i h. more i (dec_lt i g.number) h;
-    }
+    })
       where
         inside : from + k < length order
-        inside = omega (arith, g.as_long)
+        inside = omega (arith, g.as_long, u, v, p.0)
 
         begins : (j : ℕ) → Dec (j < k) → j < k + 1 → Begins stmts (get_or (set order (from + k) at) (from + j) 0)
         begins j (yes y) h = subst (Begins stmts) (sym (put_before order from k at j y)) (g.each j y)
@@ -125,66 +123,60 @@ module _ {stmts order₀ : List ℕ} {from room : ℕ} {order : List ℕ} {k at 
             let same : g.number ≡ i = omega arith in
             subst (Among (set order (from + k) at) from (k + 1)) (g.walked.begins ∙ ap (start_of stmts) same) (put_own order from k at inside)
 
-    module _ {order' : List ℕ} {k' : ℕ} where
-      pub registers_other : order' ≡ order → k' ≡ k → (get_or stmts (at + 1) 0 ≡ 1 → ⊥) → ListsRegisters stmts order₀ from room order' k' (at + size)
-      registers_other eo ek n = subst (λ (l : List ℕ). ListsRegisters stmts order₀ from room l k' (at + size)) (sym eo) (subst (λ (i : ℕ). ListsRegisters stmts order₀ from room order i (at + size)) (sym ek) (registers_skip n))
-
-      pub registers_taken : order' ≡ set order (from + k) at → k' ≡ k + 1 → k < room → from + room ≤ length order₀ → ListsRegisters stmts order₀ from room order' k' (at + size)
-      registers_taken eo ek q r = subst (λ (l : List ℕ). ListsRegisters stmts order₀ from room l k' (at + size)) (sym eo) (subst (λ (i : ℕ). ListsRegisters stmts order₀ from room (set order (from + k) at) i (at + size)) (sym ek) (registers_put q r))
-
 -- OUTPUTS: those of the first s signals are listed
 
-pub record ListsOutputs (signals order₀ : List ℕ) (from room : ℕ) (order : List ℕ) (k s at : ℕ) : Type 0 where
+pub record ListsOutputs (signals order₀ : List ℕ) (from room : ℕ) (order : List ℕ) (k s : ℕ) (rest : List (List ℕ)) : Type 0 where
+  pub at : ℕ
   pub walked : Walked signals at s
+  pub ahead : Ahead signals at rest
   pub few : k ≤ room
   pub as_long : length order ≡ length order₀
   pub kept : take from order ≡ take from order₀
   pub all : (x : ℕ) → x < s → (signal_at signals x).label ≡ 1 → Among order from k x
 
-pub outputs_start : (signals order : List ℕ) (from room : ℕ) → ListsOutputs signals order from room order 0 0 0
-outputs_start signals order from room = record { walked = walked_start signals; few = omega arith; as_long = refl; kept = refl; all = λ x q h. absurd (not-suc-le-zero q) }
+pub outputs_start : {signals : List ℕ} (order : List ℕ) (from room : ℕ) {s : ℕ} {rest : List (List ℕ)} → s ≡ 0 → Ahead signals 0 rest → ListsOutputs signals order from room order 0 s rest
+outputs_start {signals} order from room e a = rw e record { at = 0; walked = walked_start signals; ahead = a; few = omega arith; as_long = refl; kept = refl; all = λ x q h. absurd (not-suc-le-zero q) }
 
-module _ {signals order₀ : List ℕ} {from room : ℕ} {order : List ℕ} {k s at : ℕ} (f : ReadSignals signals) (g : ListsOutputs signals order₀ from room order k s at) where
-  all_outputs_in : s ≡ length (records_in signals) → Outputs signals order from k
-  all_outputs_in e = record { all_outputs = λ x o. g.all x (omega (arith, o.there, signals_long f, e)) o.labelled }
+module _ {signals order₀ : List ℕ} {from room : ℕ} {order : List ℕ} {k s : ℕ} {rest : List (List ℕ)} (f : ReadSignals signals) (g : ListsOutputs signals order₀ from room order k s rest) where
+  pub outputs_end : rest ≡ [] → (take from order ≡ take from order₀) × Outputs signals order from k
+  outputs_end n = (g.kept, record { all_outputs = λ x o. g.all x (omega (arith, o.there, signals_long f, walked_out g.walked 0 (turns_out g.ahead n) refl)) o.labelled })
 
-  pub outputs_out : {size : ℕ} → size ≡ size_at signals at → size ≡ 0 → (take from order ≡ take from order₀) × Outputs signals order from k
-  outputs_out {size} e z = (g.kept, all_outputs_in (walked_out g.walked size e z))
+  -- the next one
+  module _ {r : List ℕ} {rest' : List (List ℕ)} (q : rest ≡ r ∷ rest') where
+    pub outputs_three : length r ≡ 3
+    outputs_three = signal_turn g.ahead q f g.walked
 
-  pub outputs_end : length signals ≤ at → (take from order ≡ take from order₀) × Outputs signals order from k
-  outputs_end h = (g.kept, all_outputs_in (walked_end g.walked h).0)
+    labelled : get_or r 0 0 ≡ (signal_at signals s).label
+    labelled = turn_first g.ahead q (omega (arith, outputs_three)) ∙ label_is f g.walked (turn_size g.ahead q) (turn_some g.ahead q)
 
-  module _ {size : ℕ} (e : size ≡ size_at signals at) (d : size ≡ 0 → ⊥) where
-    outputs_skip : (get_or signals (at + 1) 0 ≡ 1 → ⊥) → ListsOutputs signals order₀ from room order k (s + 1) (at + size)
-    outputs_skip n = record { walked = walked_next g.walked size e d; few = g.few; as_long = g.as_long; kept = g.kept; all = λ x q h. more x (dec_lt x s) q h }
+    past : Walked signals (g.at + (length r + 1)) (s + 1)
+    past = walked_next g.walked (length r + 1) (turn_size g.ahead q) (turn_some g.ahead q)
+
+    pub outputs_other : (get_or r 0 0 ≡ 1 → ⊥) → ListsOutputs signals order₀ from room order k (s + 1) rest'
+    outputs_other n = record { at = g.at + (length r + 1); walked = past; ahead = turn_next g.ahead q; few = g.few; as_long = g.as_long; kept = g.kept; all = λ x q h. more x (dec_lt x s) q h }
       where
         more : (x : ℕ) → Dec (x < s) → x < s + 1 → (signal_at signals x).label ≡ 1 → Among order from k x
         more x (yes y) q h = g.all x y h
         more x (no z) q h =
             let same : s ≡ x = omega arith in
-            absurd (n (label_is f g.walked e d ∙ ap (λ (i : ℕ). (signal_at signals i).label) same ∙ h))
+            absurd (n (labelled ∙ ap (λ (i : ℕ). (signal_at signals i).label) same ∙ h))
 
-    outputs_put : k < room → from + room ≤ length order₀ → ListsOutputs signals order₀ from room (set order (from + k) s) (k + 1) (s + 1) (at + size)
-    outputs_put q r = record {
-      walked = walked_next g.walked size e d;
-      few = omega arith;
+    pub outputs_taken : {order' : List ℕ} {k' : ℕ} → k' ≤ room → from + room ≤ length order₀ → (k' ≡ k + 1) × (order' ≡ set order (from + k) s) → ListsOutputs signals order₀ from room order' k' (s + 1) rest'
+    outputs_taken {order'} {k'} u v p = subst (λ (l : List ℕ). ListsOutputs signals order₀ from room l k' (s + 1) rest') (sym p.1) (subst (λ (i : ℕ). ListsOutputs signals order₀ from room (set order (from + k) s) i (s + 1) rest') (sym p.0) record {
+      at = g.at + (length r + 1);
+      walked = past;
+      ahead = turn_next g.ahead q;
+      few = omega (arith, u, p.0);
       as_long = length-set order (from + k) s ∙ g.as_long;
       kept = put_take order from k s ∙ g.kept;
       all = λ x h. more x (dec_lt x s) h;
-    }
+    })
       where
         more : (x : ℕ) → Dec (x < s) → x < s + 1 → (signal_at signals x).label ≡ 1 → Among (set order (from + k) s) from (k + 1) x
         more x (yes y) h l = put_kept order from k s (g.all x y l)
         more x (no z) h l =
             let same : s ≡ x = omega arith in
-            subst (Among (set order (from + k) s) from (k + 1)) same (put_own order from k s (omega (arith, g.as_long)))
-
-    module _ {order' : List ℕ} {k' : ℕ} where
-      pub outputs_other : order' ≡ order → k' ≡ k → (get_or signals (at + 1) 0 ≡ 1 → ⊥) → ListsOutputs signals order₀ from room order' k' (s + 1) (at + size)
-      outputs_other eo ek n = subst (λ (l : List ℕ). ListsOutputs signals order₀ from room l k' (s + 1) (at + size)) (sym eo) (subst (λ (i : ℕ). ListsOutputs signals order₀ from room order i (s + 1) (at + size)) (sym ek) (outputs_skip n))
-
-      pub outputs_taken : order' ≡ set order (from + k) s → k' ≡ k + 1 → k < room → from + room ≤ length order₀ → ListsOutputs signals order₀ from room order' k' (s + 1) (at + size)
-      outputs_taken eo ek q r = subst (λ (l : List ℕ). ListsOutputs signals order₀ from room l k' (s + 1) (at + size)) (sym eo) (subst (λ (i : ℕ). ListsOutputs signals order₀ from room (set order (from + k) s) i (s + 1) (at + size)) (sym ek) (outputs_put q r))
+            subst (Among (set order (from + k) s) from (k + 1)) same (put_own order from k s (omega (arith, g.as_long, u, v, p.0)))
 
 -- A SIGNAL ONCE
 

@@ -62,9 +62,7 @@ pub fn number(bytes: &[u8], at: usize) -> u64
     ensures { result ≡ bits.number (map is_one (part bytes.now at 36)) }
 {
     let mut n: u64 = 0;
-    let mut i: usize = 36;
-    while i > 0 {
-        i -= 1;
+    for i in (0..36).rev() {
         n = n * 2 + bit(bytes[at + i]);
     }
     n

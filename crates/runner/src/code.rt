@@ -18,7 +18,7 @@ ghost use Rattle.runner.specs.Plan.{Planned};
 
 use crate::lists::{list_controls, list_outputs, list_registers};
 use crate::marks::{driver_marked, is_marked, ready};
-use crate::tables::Model;
+use crate::tables::CheckedModel;
 use fusing::fill_forms;
 use simulation::index;
 use simulation::index::{field, plus, size, wide};
@@ -54,7 +54,7 @@ fn want(values: &mut [u8], p: usize)
     }
 }
 
-fn want_expr(m: &Model, e: u32, values: &mut [u8])
+fn want_expr(m: &CheckedModel, e: u32, values: &mut [u8])
     requires { Unplaced values.old }
     ensures { Unplaced values.new }
 {
@@ -62,23 +62,22 @@ fn want_expr(m: &Model, e: u32, values: &mut [u8])
 }
 
 // Some position of expression e is wanted.
-fn wanted(m: &Model, values: &[u8], e: usize) -> bool {
+fn wanted(m: &CheckedModel, values: &[u8], e: usize) -> bool {
     let end = index::offset(m.exprs, m.expr_table, plus(e, 1));
-    let mut p = index::offset(m.exprs, m.expr_table, e);
-    while p < end {
+    let from = index::offset(m.exprs, m.expr_table, e);
+    for p in from..end {
         if p >= values.len() {
             return false;
         }
         if values[p] == 2 {
             return true;
         }
-        p += 1;
     }
     false
 }
 
 // What a statement names.
-fn want_stmt(m: &Model, at: usize, size: usize, values: &mut [u8])
+fn want_stmt(m: &CheckedModel, at: usize, size: usize, values: &mut [u8])
     requires { Unplaced values.old }
     ensures { Unplaced values.new }
 {
@@ -93,7 +92,7 @@ fn want_stmt(m: &Model, at: usize, size: usize, values: &mut [u8])
 }
 
 // What the statements name that begin at k words of a list.
-fn want_loads(m: &Model, order: &[u32], from: usize, k: usize, values: &mut [u8])
+fn want_loads(m: &CheckedModel, order: &[u32], from: usize, k: usize, values: &mut [u8])
     requires { (from + k ≤ length order.now) × Unplaced values.old }
     ensures { Unplaced values.new }
 {
@@ -105,7 +104,7 @@ fn want_loads(m: &Model, order: &[u32], from: usize, k: usize, values: &mut [u8]
 }
 
 // What is assigned to signal s.
-fn want_driver(m: &Model, s: usize, values: &mut [u8])
+fn want_driver(m: &CheckedModel, s: usize, values: &mut [u8])
     requires { Unplaced values.old }
     ensures { Unplaced values.new }
 {
@@ -116,7 +115,7 @@ fn want_driver(m: &Model, s: usize, values: &mut [u8])
 }
 
 // What is assigned to k signals of a list.
-fn want_drivers(m: &Model, order: &[u32], from: usize, k: usize, values: &mut [u8])
+fn want_drivers(m: &CheckedModel, order: &[u32], from: usize, k: usize, values: &mut [u8])
     requires { (from + k ≤ length order.now) × Unplaced values.old }
     ensures { Unplaced values.new }
 {
@@ -127,7 +126,7 @@ fn want_drivers(m: &Model, order: &[u32], from: usize, k: usize, values: &mut [u
 }
 
 // The operands of expression e; of a read what is assigned to its signal.
-fn want_operands(m: &Model, e: usize, values: &mut [u8])
+fn want_operands(m: &CheckedModel, e: usize, values: &mut [u8])
     requires { Unplaced values.old }
     ensures { Unplaced values.new }
 {
@@ -142,10 +141,8 @@ fn want_operands(m: &Model, e: usize, values: &mut [u8])
         want_driver(m, s, values);
         return;
     }
-    let mut i: usize = 3;
-    while i < size {
+    for i in 3..size {
         want_expr(m, field(m.exprs, at, size, i - 1), values);
-        i += 1;
     }
 }
 
@@ -161,7 +158,7 @@ fn want_form(order: &[u32], at: usize, values: &mut [u8])
 }
 
 // What expression e is computed from, if it is wanted.
-fn want_inputs(m: &Model, order: &[u32], e: usize, values: &mut [u8])
+fn want_inputs(m: &CheckedModel, order: &[u32], e: usize, values: &mut [u8])
     requires { (7 * m.now.expr_count ≤ length order.now) × Unplaced values.old }
     ensures { Unplaced values.new }
 {
@@ -180,13 +177,11 @@ fn want_inputs(m: &Model, order: &[u32], e: usize, values: &mut [u8])
 }
 
 // Against the order: what wants others is met before them.
-fn want_needed(m: &Model, order: &[u32], values: &mut [u8])
+fn want_needed(m: &CheckedModel, order: &[u32], values: &mut [u8])
     requires { (7 * m.now.expr_count ≤ length order.now) × Unplaced values.old }
     ensures { Unplaced values.new }
 {
-    let mut i = m.expr_count;
-    while i > 0 {
-        i -= 1;
+    for i in (0..m.expr_count).rev() {
         want_inputs(m, order, wide(order[i]), values);
     }
 }
@@ -207,7 +202,7 @@ fn placed(values: &[u8], p: usize, base: usize, top: usize) -> bool
 
 // What expression e is computed from is known.
 fn computable(
-    m: &Model,
+    m: &CheckedModel,
     order: &[u32],
     base: usize,
     top: usize,
@@ -238,10 +233,8 @@ fn place(values: &mut [u8], from: usize, end: usize)
     requires { (from ≤ end) × (end ≤ length values.old) }
     ensures { Places from end values.old values.new }
 {
-    let mut p = from;
-    while p < end {
+    for p in from..end {
         values[p] = 1;
-        p += 1;
     }
 }
 
@@ -249,7 +242,7 @@ fn place(values: &mut [u8], from: usize, end: usize)
 
 // Expression e becomes code word k.
 fn put(
-    m: &Model,
+    m: &CheckedModel,
     from: usize,
     k: usize,
     e: u32,
@@ -271,7 +264,7 @@ fn put(
 
 // Number i of the order becomes code word k, if it is wanted. How many code words there are then, or one past n.
 fn emit(
-    m: &Model,
+    m: &CheckedModel,
     from: usize,
     base: usize,
     top: usize,
@@ -301,7 +294,7 @@ fn emit(
 
 // All that are wanted: how many code words, or one past n.
 fn emit_all(
-    m: &Model,
+    m: &CheckedModel,
     from: usize,
     base: usize,
     top: usize,
@@ -323,7 +316,7 @@ fn emit_all(
 }
 
 // What the statement at a word names is marked.
-fn named(m: &Model, at: usize, marks: &[u8]) -> bool
+fn named(m: &CheckedModel, at: usize, marks: &[u8]) -> bool
     requires { Begins m.now.stmts.now at }
     ensures { result ≡ true → (k : ℕ) → k < length (records_in m.now.stmts.now) → at ≡ start_of m.now.stmts.now k → (x : ℕ) → Names (stmt_in m.now.stmts.now k) x → marked marks.now x ≡ true }
 {
@@ -340,7 +333,7 @@ fn named(m: &Model, at: usize, marks: &[u8]) -> bool
 }
 
 // What the registers that begin at k words of a list load is marked.
-fn loads_marked(m: &Model, order: &[u32], from: usize, k: usize, marks: &[u8]) -> bool
+fn loads_marked(m: &CheckedModel, order: &[u32], from: usize, k: usize, marks: &[u8]) -> bool
     requires { (from + k ≤ length order.now) × Registers m.now.stmts.now order.now from k }
     ensures { result ≡ true → MarksLoaded m.now.stmts.now marks.now }
 {
@@ -353,7 +346,7 @@ fn loads_marked(m: &Model, order: &[u32], from: usize, k: usize, marks: &[u8]) -
 }
 
 // What is assigned to k signals of a list is marked.
-fn drivers_marked(m: &Model, order: &[u32], from: usize, k: usize, marks: &[u8]) -> bool
+fn drivers_marked(m: &CheckedModel, order: &[u32], from: usize, k: usize, marks: &[u8]) -> bool
     requires { from + k ≤ length order.now }
     ensures { result ≡ true → MarksDrivers m.now.stmts.now order.now from k marks.now }
 {
@@ -369,7 +362,7 @@ fn drivers_marked(m: &Model, order: &[u32], from: usize, k: usize, marks: &[u8])
 
 // Code for what the listed registers load and what is assigned to the listed signals, from a word on behind the lists: how many words. Values and marks are work.
 fn first_code(
-    m: &Model,
+    m: &CheckedModel,
     from: usize,
     base: usize,
     top: usize,
@@ -408,7 +401,7 @@ fn first_code(
 
 // Code for what is assigned to the listed signals alone.
 fn second_code(
-    m: &Model,
+    m: &CheckedModel,
     from: usize,
     base: usize,
     top: usize,
@@ -440,7 +433,7 @@ fn second_code(
 
 // Forms, lists and code in a table with room for them. Values and both marks are work.
 fn encode_in(
-    m: &Model,
+    m: &CheckedModel,
     base: usize,
     state: usize,
     order: &mut [u32],
@@ -517,7 +510,7 @@ fn encode_in(
 
 // The code of a model of which `ordered` expressions stand in the order.
 pub fn encode(
-    m: &Model,
+    m: &CheckedModel,
     ordered: usize,
     order: &mut [u32],
     values: &mut [u8],

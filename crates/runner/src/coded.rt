@@ -9,7 +9,7 @@ ghost use Rattle.coding.specs.Coded.{bits_in, Coded, SettlesCode, looked as look
 
 use crate::bytes::copy;
 use crate::expression::eval_expr;
-use crate::tables::Model;
+use crate::tables::CheckedModel;
 use simulation::index::wide;
 
 fn digit(x: u8) -> u32
@@ -40,7 +40,7 @@ fn look_up(order: &[u32], at: usize, values: &mut [u8])
 
 // Along k code words, from a word on, over the signals' bytes; `base` and `state` are the bits of all expressions and signals.
 pub fn settle_coded(
-    m: &Model,
+    m: &CheckedModel,
     order: &[u32],
     from: usize,
     k: usize,

@@ -13,9 +13,10 @@ ghost use Rattle.evaluation.specs.Late.{Registers, LoadsMarked, LoadsListed};
 ghost use Rattle.evaluation.specs.Loads.{stmt_in, Stated, Begins, Control, control_at, enable_at, by_marks, Markable, MarkOf, NotesOne, Noted, StoresMarked, StoresLoad};
 
 use crate::store::store;
-use crate::tables::Model;
+use crate::tables::CheckedModel;
 use simulation::Edge;
-use simulation::index::{size, wide};
+use simulation::index::wide;
+use simulation::records::Records;
 
 // An edge (0 rises, 1 falls) of signal c fires.
 fn fires(fired: Option<Edge>, c: u32, edge: u32) -> bool
@@ -33,7 +34,7 @@ fn fires(fired: Option<Edge>, c: u32, edge: u32) -> bool
 }
 
 // Signal s, of one bit, has the level that a control asks for.
-fn asserted(m: &Model, bytes: &[u8], s: usize, active: u32) -> bool
+fn asserted(m: &CheckedModel, bytes: &[u8], s: usize, active: u32) -> bool
     requires { (sum_to (widths_in m.now.signals.now) (length (records_in m.now.signals.now)) ≤ length bytes.now) × (s < length (records_in m.now.signals.now)) × (get_or (widths_in m.now.signals.now) s 0 ≡ 1) }
     ensures { (t : List Bits) (behind : List ℕ) → Holds (widths_in m.now.signals.now) t behind bytes.now → result ≡ asserted_in (signals_at [] t) s active }
 {
@@ -42,7 +43,7 @@ fn asserted(m: &Model, bytes: &[u8], s: usize, active: u32) -> bool
 }
 
 // The control at a word is asserted; `absent` where none is given.
-fn control(m: &Model, at: usize, absent: bool, bytes: &[u8]) -> bool
+fn control(m: &CheckedModel, at: usize, absent: bool, bytes: &[u8]) -> bool
     requires { (sum_to (widths_in m.now.signals.now) (length (records_in m.now.signals.now)) ≤ length bytes.now) × Control m.now.signals.now m.now.stmts.now at }
     ensures { (t : List Bits) (behind : List ℕ) → Holds (widths_in m.now.signals.now) t behind bytes.now → result ≡ control_at (signals_at [] t) m.now.stmts.now at absent }
 {
@@ -64,7 +65,7 @@ pub fn enable_at(stmts: &[u32], at: usize) -> usize
 }
 
 // What the register at a word loads: nothing (0), its next value (1), its reset's value (2).
-fn load_of(m: &Model, at: usize, fired: Option<Edge>, bytes: &[u8]) -> u8
+fn load_of(m: &CheckedModel, at: usize, fired: Option<Edge>, bytes: &[u8]) -> u8
     requires { (sum_to (widths_in m.now.signals.now) (length (records_in m.now.signals.now)) ≤ length bytes.now) × Begins m.now.stmts.now at × (get_or m.now.stmts.now (at + 1) 0 ≡ 1) }
     ensures { (k : ℕ) → k < length (records_in m.now.stmts.now) → at ≡ start_of m.now.stmts.now k → MarkOf m.now.signals.now m.now.stmts.now (firing (fired_of fired)) bytes.now k result }
 {
@@ -81,7 +82,7 @@ fn load_of(m: &Model, at: usize, fired: Option<Edge>, bytes: &[u8]) -> u8
 }
 
 // Notes for its signal what the statement at a word loads.
-fn note_load(m: &Model, at: usize, fired: Option<Edge>, bytes: &[u8], marks: &mut [u8])
+fn note_load(m: &CheckedModel, at: usize, fired: Option<Edge>, bytes: &[u8], marks: &mut [u8])
     requires { (sum_to (widths_in m.now.signals.now) (length (records_in m.now.signals.now)) ≤ length bytes.now) × Begins m.now.stmts.now at × (length (records_in m.now.signals.now) ≤ length marks.old) }
     ensures { (k : ℕ) → k < length (records_in m.now.stmts.now) → at ≡ start_of m.now.stmts.now k → NotesOne m.now.signals.now m.now.stmts.now (firing (fired_of fired)) bytes.now k marks.old marks.new }
 {
@@ -93,18 +94,14 @@ fn note_load(m: &Model, at: usize, fired: Option<Edge>, bytes: &[u8], marks: &mu
 }
 
 // Notes what every statement loads.
-fn note_loads(m: &Model, fired: Option<Edge>, bytes: &[u8], marks: &mut [u8])
+fn note_loads(m: &CheckedModel, fired: Option<Edge>, bytes: &[u8], marks: &mut [u8])
     requires { (sum_to (widths_in m.now.signals.now) (length (records_in m.now.signals.now)) ≤ length bytes.now) × (length (records_in m.now.signals.now) ≤ length marks.old) }
     ensures { Noted m.now.signals.now m.now.stmts.now (firing (fired_of fired)) bytes.now (length (records_in m.now.stmts.now)) marks.new }
 {
     let mut at: usize = 0;
-    while at < m.stmts.len() {
-        let size = size(m.stmts, at);
-        if size == 0 {
-            return;
-        }
+    for fields in Records::new(m.stmts) {
         note_load(m, at, fired, bytes, marks);
-        at += size;
+        at += fields.len() + 1;
     }
 }
 
@@ -130,7 +127,7 @@ fn loaded(stmts: &[u32], at: usize, marks: &[u8]) -> Option<u32>
 }
 
 // The statement at a word stores what it loads.
-fn store_load(m: &Model, values: &[u8], marks: &[u8], at: usize, bytes: &mut [u8])
+fn store_load(m: &CheckedModel, values: &[u8], marks: &[u8], at: usize, bytes: &mut [u8])
     requires { Room m.now.signals.now m.now.exprs.now bytes.old values.now × (length (records_in m.now.signals.now) ≤ length marks.now) × Begins m.now.stmts.now at }
     ensures { (k : ℕ) → k < length (records_in m.now.stmts.now) → at ≡ start_of m.now.stmts.now k → StoresLoad m.now.signals.now m.now.exprs.now m.now.stmts.now values.now marks.now k bytes.old bytes.new }
 {
@@ -141,25 +138,21 @@ fn store_load(m: &Model, values: &[u8], marks: &[u8], at: usize, bytes: &mut [u8
 }
 
 // Every statement stores what it loads.
-fn store_loads(m: &Model, values: &[u8], marks: &[u8], bytes: &mut [u8])
+fn store_loads(m: &CheckedModel, values: &[u8], marks: &[u8], bytes: &mut [u8])
     requires { Room m.now.signals.now m.now.exprs.now bytes.old values.now × (length (records_in m.now.signals.now) ≤ length marks.now) }
     ensures { StoresMarked m.now.signals.now m.now.exprs.now m.now.stmts.now values.now marks.now bytes.old bytes.new }
 {
     let mut at: usize = 0;
-    while at < m.stmts.len() {
-        let size = size(m.stmts, at);
-        if size == 0 {
-            return;
-        }
+    for fields in Records::new(m.stmts) {
         store_load(m, values, marks, at, bytes);
-        at += size;
+        at += fields.len() + 1;
     }
 }
 
 // BY A LIST of the words at which registers begin: the others load nothing
 
 fn note_listed(
-    m: &Model,
+    m: &CheckedModel,
     fired: Option<Edge>,
     order: &[u32],
     from: usize,
@@ -177,7 +170,7 @@ fn note_listed(
 }
 
 fn load_listed(
-    m: &Model,
+    m: &CheckedModel,
     order: &[u32],
     from: usize,
     k: usize,
@@ -196,7 +189,7 @@ fn load_listed(
 
 // The registers that begin at k words of a list load. The marks are work.
 pub fn commit_listed(
-    m: &Model,
+    m: &CheckedModel,
     fired: Option<Edge>,
     order: &[u32],
     from: usize,
@@ -213,7 +206,7 @@ pub fn commit_listed(
 }
 
 // The registers load, with the values of all expressions. The marks are work.
-pub fn commit(m: &Model, fired: Option<Edge>, values: &[u8], marks: &mut [u8], bytes: &mut [u8])
+pub fn commit(m: &CheckedModel, fired: Option<Edge>, values: &[u8], marks: &mut [u8], bytes: &mut [u8])
     requires { Room m.now.signals.now m.now.exprs.now bytes.old values.now × (length (records_in m.now.signals.now) ≤ length marks.old) }
     ensures { Commits m.now.signals.now m.now.exprs.now m.now.stmts.now (firing (fired_of fired)) values.now bytes.old bytes.new }
 {

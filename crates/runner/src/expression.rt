@@ -6,11 +6,11 @@ ghost use Rattle.simulation.specs.Index.{records_in, widths_in, offset as sum_to
 ghost use Rattle.evaluation.specs.Ready.{Ready, Evaluated, Prepared, Room, Computed};
 
 use crate::bytes::{copy, copy_within, equal, gate, number, product, put_number};
-use crate::tables::Model;
+use crate::tables::CheckedModel;
 use simulation::index::wide;
 
 // Where the value of an operand begins, whose number is word i.
-fn operand(m: &Model, i: usize) -> usize
+fn operand(m: &CheckedModel, i: usize) -> usize
     requires { (i < length m.now.exprs.now) × (get_or m.now.exprs.now i 0 ≤ length (records_in m.now.exprs.now)) × (sum_to (widths_in m.now.exprs.now) (length (records_in m.now.exprs.now)) ≤ 18446744073709551615) }
     ensures { result ≡ sum_to (widths_in m.now.exprs.now) (get_or m.now.exprs.now i 0) }
 {
@@ -18,7 +18,7 @@ fn operand(m: &Model, i: usize) -> usize
 }
 
 // And, or, xor.
-fn eval_gate(m: &Model, at: usize, e: usize, kind: u32, values: &mut [u8])
+fn eval_gate(m: &CheckedModel, at: usize, e: usize, kind: u32, values: &mut [u8])
     requires { Ready m.now.exprs.now m.now.expr_table.now values.old at e × (kind ≡ get_or m.now.exprs.now (at + 1) 0) × (4 ≤ kind) × (kind ≤ 6) }
     ensures { Evaluated m.now.exprs.now e values.old values.new }
 {
@@ -28,7 +28,7 @@ fn eval_gate(m: &Model, at: usize, e: usize, kind: u32, values: &mut [u8])
     gate(values, kind, to, a, b);
 }
 
-fn eval_not(m: &Model, at: usize, e: usize, values: &mut [u8])
+fn eval_not(m: &CheckedModel, at: usize, e: usize, values: &mut [u8])
     requires { Ready m.now.exprs.now m.now.expr_table.now values.old at e × (get_or m.now.exprs.now (at + 1) 0 ≡ 3) }
     ensures { Evaluated m.now.exprs.now e values.old values.new }
 {
@@ -37,7 +37,7 @@ fn eval_not(m: &Model, at: usize, e: usize, values: &mut [u8])
     gate(values, 3, to, a, a);
 }
 
-fn eval_mux(m: &Model, at: usize, e: usize, values: &mut [u8])
+fn eval_mux(m: &CheckedModel, at: usize, e: usize, values: &mut [u8])
     requires { Ready m.now.exprs.now m.now.expr_table.now values.old at e × (get_or m.now.exprs.now (at + 1) 0 ≡ 7) }
     ensures { Evaluated m.now.exprs.now e values.old values.new }
 {
@@ -59,7 +59,7 @@ fn long(x: u32) -> u64
     x as u64
 }
 
-fn eval_const(m: &Model, at: usize, e: usize, values: &mut [u8])
+fn eval_const(m: &CheckedModel, at: usize, e: usize, values: &mut [u8])
     requires { Ready m.now.exprs.now m.now.expr_table.now values.old at e × (get_or m.now.exprs.now (at + 1) 0 ≡ 0) }
     ensures { Evaluated m.now.exprs.now e values.old values.new }
 {
@@ -80,7 +80,7 @@ fn put_bit(values: &mut [u8], at: usize, b: bool)
     }
 }
 
-fn eval_equal(m: &Model, at: usize, e: usize, values: &mut [u8])
+fn eval_equal(m: &CheckedModel, at: usize, e: usize, values: &mut [u8])
     requires { Ready m.now.exprs.now m.now.expr_table.now values.old at e × (get_or m.now.exprs.now (at + 1) 0 ≡ 8) }
     ensures { Evaluated m.now.exprs.now e values.old values.new }
 {
@@ -92,7 +92,7 @@ fn eval_equal(m: &Model, at: usize, e: usize, values: &mut [u8])
     put_bit(values, to, same);
 }
 
-fn eval_product(m: &Model, at: usize, e: usize, values: &mut [u8])
+fn eval_product(m: &CheckedModel, at: usize, e: usize, values: &mut [u8])
     requires { Ready m.now.exprs.now m.now.expr_table.now values.old at e × (get_or m.now.exprs.now (at + 1) 0 ≡ 9) }
     ensures { Evaluated m.now.exprs.now e values.old values.new }
 {
@@ -105,25 +105,23 @@ fn eval_product(m: &Model, at: usize, e: usize, values: &mut [u8])
 }
 
 // The parts come highest first, and are laid from the highest bits down.
-fn eval_concat(m: &Model, at: usize, e: usize, values: &mut [u8])
+fn eval_concat(m: &CheckedModel, at: usize, e: usize, values: &mut [u8])
     requires { Ready m.now.exprs.now m.now.expr_table.now values.old at e × (get_or m.now.exprs.now (at + 1) 0 ≡ 2) }
     ensures { Evaluated m.now.exprs.now e values.old values.new }
 {
     let size = wide(m.exprs[at]);
     let mut pos = m.expr_offset(e) + wide(m.exprs[at + 2]);
-    let mut i: usize = 3;
-    while i < size {
+    for i in 3..size {
         let p = wide(m.exprs[at + i]);
         let from = m.expr_offset(p);
         let n = m.expr_offset(p + 1) - from;
         pos -= n;
         copy_within(values, pos, from, n);
-        i += 1;
     }
 }
 
 // Every kind but a read.
-fn eval_operands(m: &Model, at: usize, e: usize, kind: u32, values: &mut [u8])
+fn eval_operands(m: &CheckedModel, at: usize, e: usize, kind: u32, values: &mut [u8])
     requires { Ready m.now.exprs.now m.now.expr_table.now values.old at e × (kind ≡ get_or m.now.exprs.now (at + 1) 0) × (kind ≡ 1 → ⊥) }
     ensures { Evaluated m.now.exprs.now e values.old values.new }
 {
@@ -139,7 +137,7 @@ fn eval_operands(m: &Model, at: usize, e: usize, kind: u32, values: &mut [u8])
 }
 
 // A read takes the bits of an assigned signal from its expression's value, those of any other from the signal's bytes.
-fn eval_read(m: &Model, bytes: &[u8], at: usize, e: usize, values: &mut [u8])
+fn eval_read(m: &CheckedModel, bytes: &[u8], at: usize, e: usize, values: &mut [u8])
     requires { Room m.now.signals.now m.now.exprs.now bytes.now values.old × (e < length (records_in m.now.exprs.now)) × (at ≡ start_of m.now.exprs.now e) × (get_or m.now.exprs.now (at + 1) 0 ≡ 1) }
     ensures { Computed m.now.signals.now m.now.exprs.now m.now.stmts.now bytes.now e values.old values.new }
 {
@@ -160,7 +158,7 @@ fn eval_read(m: &Model, bytes: &[u8], at: usize, e: usize, values: &mut [u8])
 }
 
 // The value of expression e, from the values of what it needs.
-pub fn eval_expr(m: &Model, bytes: &[u8], e: usize, values: &mut [u8])
+pub fn eval_expr(m: &CheckedModel, bytes: &[u8], e: usize, values: &mut [u8])
     requires { Room m.now.signals.now m.now.exprs.now bytes.now values.old × (e < length (records_in m.now.exprs.now)) }
     ensures { Computed m.now.signals.now m.now.exprs.now m.now.stmts.now bytes.now e values.old values.new }
 {

@@ -14,12 +14,12 @@ use crate::code::Code;
 use crate::coded::settle_coded;
 use crate::commit::commit_listed;
 use crate::store::{set_inputs, store_listed};
-use crate::tables::Model;
+use crate::tables::CheckedModel;
 use simulation::Edge;
 
 // The registers load, over signals whose inputs are set.
 fn load_late(
-    m: &Model,
+    m: &CheckedModel,
     order: &[u32],
     code: Code,
     fired: Option<Edge>,
@@ -62,7 +62,7 @@ fn load_late(
 }
 
 // The outputs take their values.
-fn show_late(m: &Model, order: &[u32], code: Code, bytes: &mut [u8], values: &mut [u8])
+fn show_late(m: &CheckedModel, order: &[u32], code: Code, bytes: &mut [u8], values: &mut [u8])
     requires { Room m.now.signals.now m.now.exprs.now bytes.old values.old × (looped (model_in m.now.signals.now m.now.exprs.now m.now.stmts.now) ≡ None) × Filled (widths_in m.now.exprs.now) values.old × Filled (widths_in m.now.signals.now) bytes.old × Planned m.now.signals.now m.now.exprs.now m.now.stmts.now m.now.expr_count m.now.signal_count code order.now values.old }
     ensures shows { ShowsAfter m.now.signals.now m.now.exprs.now m.now.stmts.now bytes.old bytes.new }
     ensures filled { Filled (widths_in m.now.exprs.now) values.new }
@@ -89,7 +89,7 @@ fn show_late(m: &Model, order: &[u32], code: Code, bytes: &mut [u8], values: &mu
 
 // Inputs, the registers, the outputs.
 pub fn tick_late(
-    m: &Model,
+    m: &CheckedModel,
     order: &[u32],
     code: Code,
     ticks: &[u8],

@@ -37,7 +37,7 @@ use refusal::Refusal;
 use show::ports_end;
 use simulation::Edge;
 use simulation::index::count;
-use tables::Model;
+use tables::CheckedModel;
 use ticks::tick;
 use whole::{run_list_with, zero_tables, zero_works};
 
@@ -73,7 +73,7 @@ fn run_checked(
         signal_table,
         driver_table,
     );
-    let m = Model {
+    let m = CheckedModel {
         signals: signals,
         exprs: exprs,
         stmts: stmts,

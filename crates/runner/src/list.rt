@@ -17,7 +17,7 @@ use crate::code::Code;
 use crate::late::tick_late;
 use crate::settling::settle;
 use crate::show::{end_of, fired_by, put_answer, show};
-use crate::tables::Model;
+use crate::tables::CheckedModel;
 use crate::ticks::tick;
 use model_check::call::tick_fault;
 use refusal::Refusal;
@@ -26,7 +26,7 @@ use simulation::index::wide;
 
 // One tick, by the plan if there is one.
 fn tick_either(
-    m: &Model,
+    m: &CheckedModel,
     order: &[u32],
     code: Option<Code>,
     ticks: &[u8],
@@ -73,7 +73,7 @@ pub fn head_fault(
 
 // One tick of a model of n expressions, `count` signals and `inputs` input bits, unless it is refused.
 fn run_tick(
-    m: &Model,
+    m: &CheckedModel,
     order: &[u32],
     code: Option<Code>,
     inputs: usize,
@@ -107,7 +107,7 @@ fn run_tick(
 
 // Behind the last tick every assigned signal takes its value, if a tick was made.
 fn finish(
-    m: &Model,
+    m: &CheckedModel,
     order: &[u32],
     late: bool,
     bytes: &mut [u8],
@@ -125,7 +125,7 @@ fn finish(
 
 // All ticks: three words each in `heads`, their bits one after the other.
 pub fn run_ticks(
-    m: &Model,
+    m: &CheckedModel,
     order: &[u32],
     code: Option<Code>,
     inputs: usize,

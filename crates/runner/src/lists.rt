@@ -1,5 +1,5 @@
 // What a plan lists: where registers begin, the signals that they ask for, the outputs. None where the room is too short.
-ghost use Rattle.std.specs.Prelude.{IfSome, ◌≡◌, true, ℕ, ◌+◌, ◌≤◌, ◌<◌, length, get_or, take};
+ghost use Rattle.std.specs.Prelude.{IfSome, ◌≡◌, true, ℕ, ◌+◌, ◌≤◌, ◌<◌, length, get_or, take, set};
 ghost use Rattle.simulation.specs.Index.{records_in, start_of};
 ghost use Rattle.ordering.specs.Marks.{marked};
 ghost use Rattle.evaluation.specs.Ticks.{ReadSignals};
@@ -8,11 +8,26 @@ ghost use Rattle.evaluation.specs.Late.{Among, Asks, Registers};
 ghost use Rattle.runner.specs.Plan.{Listing, Controls, Outputs};
 
 use crate::commit::enable_at;
-use crate::tables::Model;
-use simulation::index::{size, wide};
+use crate::tables::CheckedModel;
+use simulation::index::wide;
+use simulation::records::Records;
+
+// A number is listed as number k of a list, if there is room; how many are listed then.
+fn push(order: &mut [u32], from: usize, room: usize, k: usize, x: usize) -> Option<usize>
+    requires { from + room ≤ length order.old }
+    ensures kept { take from order.new ≡ take from order.old }
+    ensures few { IfSome result (λ r. r ≤ room) }
+    ensures listed { IfSome result (λ r. (r ≡ k + 1) × (order.new ≡ set order.old (from + k) x)) }
+{
+    if k >= room {
+        return None;
+    }
+    order[from + k] = u32::try_from(x).ok()?;
+    Some(k + 1)
+}
 
 // The words at which registers begin.
-pub fn list_registers(m: &Model, order: &mut [u32], from: usize, room: usize) -> Option<usize>
+pub fn list_registers(m: &CheckedModel, order: &mut [u32], from: usize, room: usize) -> Option<usize>
     requires { from + room ≤ length order.old }
     ensures kept { take from order.new ≡ take from order.old }
     ensures few { IfSome result (λ r. r ≤ room) }
@@ -20,22 +35,11 @@ pub fn list_registers(m: &Model, order: &mut [u32], from: usize, room: usize) ->
 {
     let mut k: usize = 0;
     let mut at: usize = 0;
-    while at < m.stmts.len() {
-        let size = size(m.stmts, at);
-        if size == 0 {
-            return Some(k);
+    for fields in Records::new(m.stmts) {
+        if fields[0] == 1 {
+            k = push(order, from, room, k, at)?;
         }
-        if m.stmts[at + 1] == 1 {
-            if k >= room {
-                return None;
-            }
-            if at >= 4294967296 {
-                return None;
-            }
-            order[from + k] = at as u32;
-            k += 1;
-        }
-        at += size;
+        at += fields.len() + 1;
     }
     Some(k)
 }
@@ -58,12 +62,8 @@ fn list_once(
     if marks[i] != 0 {
         return Some(k);
     }
-    if k >= room {
-        return None;
-    }
-    order[from + k] = x;
     marks[i] = 1;
-    Some(k + 1)
+    push(order, from, room, k, i)
 }
 
 // The signal of the control at a word, if one is given.
@@ -89,7 +89,7 @@ fn list_control(
 
 // The signals that the statement at a word asks for.
 fn list_asked(
-    m: &Model,
+    m: &CheckedModel,
     at: usize,
     order: &mut [u32],
     from: usize,
@@ -112,7 +112,7 @@ fn list_asked(
 
 // The signals whose levels the registers ask for that begin at `count` words from `loads` on. Marks are work.
 pub fn list_controls(
-    m: &Model,
+    m: &CheckedModel,
     order: &mut [u32],
     loads: usize,
     count: usize,
@@ -135,32 +135,17 @@ pub fn list_controls(
 }
 
 // The numbers of the outputs.
-pub fn list_outputs(m: &Model, order: &mut [u32], from: usize, room: usize) -> Option<usize>
+pub fn list_outputs(m: &CheckedModel, order: &mut [u32], from: usize, room: usize) -> Option<usize>
     requires { from + room ≤ length order.old }
     ensures kept { take from order.new ≡ take from order.old }
     ensures few { IfSome result (λ r. r ≤ room) }
     ensures listed { IfSome result (λ r. Outputs m.now.signals.now order.new from r) }
 {
     let mut k: usize = 0;
-    let mut s: usize = 0;
-    let mut at: usize = 0;
-    while at < m.signals.len() {
-        let size = size(m.signals, at);
-        if size == 0 {
-            return Some(k);
+    for (s, fields) in Records::new(m.signals).enumerate() {
+        if fields[0] == 1 {
+            k = push(order, from, room, k, s)?;
         }
-        if m.signals[at + 1] == 1 {
-            if k >= room {
-                return None;
-            }
-            if s >= 4294967296 {
-                return None;
-            }
-            order[from + k] = s as u32;
-            k += 1;
-        }
-        s += 1;
-        at += size;
     }
     Some(k)
 }

@@ -8,9 +8,9 @@ ghost use Rattle.ordering.specs.Words.{model_in, model_with, Tabled, Faultless};
 ghost use Rattle.ordering.specs.Loops.{finds, Touch, Touches, Found, OnLoop};
 
 use crate::marks::{driver_marked, is_marked, touched};
-use crate::tables::Model;
+use crate::tables::CheckedModel;
 
-fn finds_one(m: &Model, marks: &[u8], s: usize, e: usize) -> bool
+fn finds_one(m: &CheckedModel, marks: &[u8], s: usize, e: usize) -> bool
     requires { e < length (records_in m.now.exprs.now) }
     ensures { result ≡ finds (model_in m.now.exprs.now m.now.stmts.now) s marks.now e }
 {
@@ -20,7 +20,7 @@ fn finds_one(m: &Model, marks: &[u8], s: usize, e: usize) -> bool
     touched(m, marks, s, e)
 }
 
-fn touch_one(m: &Model, marks: &mut [u8], s: usize, e: usize) -> bool
+fn touch_one(m: &CheckedModel, marks: &mut [u8], s: usize, e: usize) -> bool
     requires { (e < length (records_in m.now.exprs.now)) × (e < length marks.old) }
     ensures { Touch (model_in m.now.exprs.now m.now.stmts.now) s marks.old e result marks.new }
 {
@@ -32,7 +32,7 @@ fn touch_one(m: &Model, marks: &mut [u8], s: usize, e: usize) -> bool
 }
 
 // One pass over the first n expressions: whether one was added.
-fn touch_pass(m: &Model, marks: &mut [u8], s: usize) -> bool
+fn touch_pass(m: &CheckedModel, marks: &mut [u8], s: usize) -> bool
     requires { (m.now.expr_count ≤ length marks.old) × Backed (model_with m.now.signals.now m.now.exprs.now m.now.stmts.now) s marks.old }
     ensures { Touches (model_with m.now.signals.now m.now.exprs.now m.now.stmts.now) m.now.expr_count s marks.old result marks.new }
 {
@@ -45,20 +45,15 @@ fn touch_pass(m: &Model, marks: &mut [u8], s: usize) -> bool
 }
 
 // Marks all expressions that lead to signal s.
-fn mark_leading(m: &Model, marks: &mut [u8], s: usize)
+fn mark_leading(m: &CheckedModel, marks: &mut [u8], s: usize)
     requires { m.now.expr_count ≤ length marks.old }
     ensures { Found (model_with m.now.signals.now m.now.exprs.now m.now.stmts.now) s marks.new }
 {
     marks.fill(0);
-    loop {
-        let more = touch_pass(m, marks, s);
-        if !more {
-            return;
-        }
-    }
+    while touch_pass(m, marks, s) {}
 }
 
-fn on_loop(m: &Model, marks: &mut [u8], s: usize) -> bool
+fn on_loop(m: &CheckedModel, marks: &mut [u8], s: usize) -> bool
     requires { m.now.expr_count ≤ length marks.old }
     ensures { OnLoop (model_with m.now.signals.now m.now.exprs.now m.now.stmts.now) s result }
 {
@@ -67,7 +62,7 @@ fn on_loop(m: &Model, marks: &mut [u8], s: usize) -> bool
 }
 
 // The lowest of the first `count` signals that is on a loop.
-pub fn lowest_on_loop(m: &Model, marks: &mut [u8]) -> Option<usize>
+pub fn lowest_on_loop(m: &CheckedModel, marks: &mut [u8]) -> Option<usize>
     requires { m.now.expr_count ≤ length marks.old }
     ensures { result ≡ looped (model_with m.now.signals.now m.now.exprs.now m.now.stmts.now) }
 {

@@ -5,7 +5,7 @@ ghost use Rattle.simulation.specs.Index.{records_in, Driven};
 ghost use Rattle.ordering.specs.Marks.{marked, ready as ready_in, touched as touched_in};
 ghost use Rattle.ordering.specs.Words.{model_in, driver_marked, Tabled};
 
-use crate::tables::Model;
+use crate::tables::CheckedModel;
 use simulation::index::wide;
 
 pub fn is_marked(marks: &[u8], e: usize) -> bool
@@ -44,7 +44,7 @@ fn any_marked(exprs: &[u32], at: usize, n: usize, marks: &[u8]) -> bool
 }
 
 // The expression that is assigned to a signal is marked; `none` where there is none.
-pub fn driver_marked(m: &Model, marks: &[u8], s: usize, none: bool) -> bool
+pub fn driver_marked(m: &CheckedModel, marks: &[u8], s: usize, none: bool) -> bool
     ensures { result ≡ driver_marked m.now.stmts.now marks.now s none }
 {
     match m.driver(s) {
@@ -54,7 +54,7 @@ pub fn driver_marked(m: &Model, marks: &[u8], s: usize, none: bool) -> bool
 }
 
 // All that expression e needs is marked.
-pub fn ready(m: &Model, marks: &[u8], e: usize) -> bool
+pub fn ready(m: &CheckedModel, marks: &[u8], e: usize) -> bool
     requires { e < length (records_in m.now.exprs.now) }
     ensures { result ≡ ready_in (model_in m.now.exprs.now m.now.stmts.now) marks.now e }
 {
@@ -70,7 +70,7 @@ pub fn ready(m: &Model, marks: &[u8], e: usize) -> bool
 }
 
 // Expression e reads signal s, or needs one that is marked.
-pub fn touched(m: &Model, marks: &[u8], s: usize, e: usize) -> bool
+pub fn touched(m: &CheckedModel, marks: &[u8], s: usize, e: usize) -> bool
     requires { e < length (records_in m.now.exprs.now) }
     ensures { result ≡ touched_in (model_in m.now.exprs.now m.now.stmts.now) marks.now s e }
 {

@@ -7,7 +7,7 @@ ghost use Rattle.evaluation.specs.Ticks.{Ordered};
 
 use crate::loops::lowest_on_loop;
 use crate::sort::sort;
-use crate::tables::Model;
+use crate::tables::CheckedModel;
 use simulation::index::{fill_drivers, fill_offsets, fill_starts};
 
 pub fn fill_tables(
@@ -31,7 +31,7 @@ pub fn fill_tables(
 }
 
 // Fills the order: how many expressions it has, all or none, or the lowest signal on a loop.
-pub fn prepare(m: &Model, order: &mut [u32], marks: &mut [u8]) -> Result<usize, usize>
+pub fn prepare(m: &CheckedModel, order: &mut [u32], marks: &mut [u8]) -> Result<usize, usize>
     requires { m.now.expr_count ≤ length marks.old }
     ensures looped { IfErr result (λ s. looped (model_in m.now.signals.now m.now.exprs.now m.now.stmts.now) ≡ Some s) }
     ensures unlooped { IfOk result (λ _. looped (model_in m.now.signals.now m.now.exprs.now m.now.stmts.now) ≡ None) }

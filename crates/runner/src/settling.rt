@@ -10,11 +10,11 @@ ghost use Rattle.evaluation.specs.Ticks.{Filled, Ordered, Settles, SettlesNamed,
 use crate::expression::eval_expr;
 use crate::sort::adds_one;
 use crate::store::store_assigned;
-use crate::tables::Model;
+use crate::tables::CheckedModel;
 use simulation::index::wide;
 
 // Along an order of all n expressions.
-fn settle_ordered(m: &Model, order: &[u32], bytes: &[u8], values: &mut [u8])
+fn settle_ordered(m: &CheckedModel, order: &[u32], bytes: &[u8], values: &mut [u8])
     requires { Room m.now.signals.now m.now.exprs.now bytes.now values.old × (m.now.expr_count ≤ length order.now) × Ordered (model_in m.now.signals.now m.now.exprs.now m.now.stmts.now) m.now.expr_count order.now × Filled (widths_in m.now.exprs.now) values.old }
     ensures { Settles m.now.signals.now m.now.exprs.now m.now.stmts.now bytes.now values.new }
 {
@@ -27,7 +27,7 @@ fn settle_ordered(m: &Model, order: &[u32], bytes: &[u8], values: &mut [u8])
 }
 
 // Evaluates and marks expression e, if it is not marked and all that it needs is.
-fn settle_one(m: &Model, e: usize, bytes: &[u8], values: &mut [u8], marks: &mut [u8]) -> bool
+fn settle_one(m: &CheckedModel, e: usize, bytes: &[u8], values: &mut [u8], marks: &mut [u8]) -> bool
     requires { Room m.now.signals.now m.now.exprs.now bytes.now values.old × (e < length (records_in m.now.exprs.now)) × (e < length marks.old) }
     ensures { SettlesOne m.now.signals.now m.now.exprs.now m.now.stmts.now bytes.now e values.old marks.old result values.new marks.new }
 {
@@ -40,7 +40,7 @@ fn settle_one(m: &Model, e: usize, bytes: &[u8], values: &mut [u8], marks: &mut 
 }
 
 // One pass over the n expressions: whether one was evaluated.
-fn settle_pass(m: &Model, bytes: &[u8], values: &mut [u8], marks: &mut [u8]) -> bool
+fn settle_pass(m: &CheckedModel, bytes: &[u8], values: &mut [u8], marks: &mut [u8]) -> bool
     requires { Room m.now.signals.now m.now.exprs.now bytes.now values.old × (m.now.expr_count ≤ length marks.old) × RightOn m.now.signals.now m.now.exprs.now m.now.stmts.now (InMarks marks.old) bytes.now values.old }
     ensures { SettlesPass m.now.signals.now m.now.exprs.now m.now.stmts.now m.now.expr_count bytes.now marks.old result values.new marks.new }
 {
@@ -53,21 +53,16 @@ fn settle_pass(m: &Model, bytes: &[u8], values: &mut [u8], marks: &mut [u8]) -> 
 }
 
 // In passes, of a model without a loop.
-fn settle_marked(m: &Model, bytes: &[u8], values: &mut [u8], marks: &mut [u8])
+fn settle_marked(m: &CheckedModel, bytes: &[u8], values: &mut [u8], marks: &mut [u8])
     requires { Room m.now.signals.now m.now.exprs.now bytes.now values.old × (m.now.expr_count ≤ length marks.old) × (looped (model_in m.now.signals.now m.now.exprs.now m.now.stmts.now) ≡ None) × Filled (widths_in m.now.exprs.now) values.old }
     ensures { Settles m.now.signals.now m.now.exprs.now m.now.stmts.now bytes.now values.new }
 {
     marks.fill(0);
-    loop {
-        let more = settle_pass(m, bytes, values, marks);
-        if !more {
-            return;
-        }
-    }
+    while settle_pass(m, bytes, values, marks) {}
 }
 
 // Along the order, or in passes.
-fn settle_plain(m: &Model, order: &[u32], bytes: &[u8], values: &mut [u8], marks: &mut [u8])
+fn settle_plain(m: &CheckedModel, order: &[u32], bytes: &[u8], values: &mut [u8], marks: &mut [u8])
     requires { Room m.now.signals.now m.now.exprs.now bytes.now values.old × (m.now.expr_count ≤ length marks.old) × Ordered (model_in m.now.signals.now m.now.exprs.now m.now.stmts.now) m.now.expr_count order.now × (looped (model_in m.now.signals.now m.now.exprs.now m.now.stmts.now) ≡ None) × Filled (widths_in m.now.exprs.now) values.old }
     ensures { SettlesNamed m.now.signals.now m.now.exprs.now m.now.stmts.now bytes.now values.new }
 {
@@ -79,7 +74,7 @@ fn settle_plain(m: &Model, order: &[u32], bytes: &[u8], values: &mut [u8], marks
 }
 
 // The values of the n expressions, and in each assigned one of the `count` signals its expression's.
-pub fn settle(m: &Model, order: &[u32], bytes: &mut [u8], values: &mut [u8], marks: &mut [u8])
+pub fn settle(m: &CheckedModel, order: &[u32], bytes: &mut [u8], values: &mut [u8], marks: &mut [u8])
     requires { Room m.now.signals.now m.now.exprs.now bytes.old values.old × (m.now.expr_count ≤ length marks.old) × Ordered (model_in m.now.signals.now m.now.exprs.now m.now.stmts.now) m.now.expr_count order.now × (looped (model_in m.now.signals.now m.now.exprs.now m.now.stmts.now) ≡ None) × Filled (widths_in m.now.exprs.now) values.old }
     ensures { Settled m.now.signals.now m.now.exprs.now m.now.stmts.now bytes.old bytes.new values.new }
 {

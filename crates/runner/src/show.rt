@@ -13,23 +13,18 @@ use recorder::SignalId;
 use refusal::Refusal;
 use simulation::Edge;
 use simulation::index::{size, wide};
+use simulation::records::Records;
 
 // The widths of all outputs together.
 pub fn output_total(signals: &[u32]) -> usize
     requires { ReadSignals signals.now × (sum_to (widths_in signals.now) (length (records_in signals.now)) ≤ 18446744073709551615) }
     ensures { result ≡ total output_width (signals_in signals.now) }
 {
-    let mut at: usize = 0;
     let mut sum: usize = 0;
-    while at < signals.len() {
-        let size = size(signals, at);
-        if size == 0 {
-            return sum;
+    for fields in Records::new(signals) {
+        if fields[0] == 1 {
+            sum += wide(fields[1]);
         }
-        if signals[at + 1] == 1 {
-            sum += wide(signals[at + 2]);
-        }
-        at += size;
     }
     sum
 }
@@ -41,14 +36,9 @@ pub fn ports_end(signals: &[u32]) -> usize
 {
     let mut at: usize = 0;
     let mut end: usize = 0;
-    while at < signals.len() {
-        let size = size(signals, at);
-        if size == 0 {
-            return end;
-        }
-        let label = signals[at + 1];
-        at += size;
-        if label <= 1 {
+    for fields in Records::new(signals) {
+        at += fields.len() + 1;
+        if fields[0] <= 1 {
             end = at;
         }
     }

@@ -7,12 +7,12 @@ ghost use Rattle.ordering.specs.Words.{model_in, Tabled};
 ghost use Rattle.ordering.specs.Sorts.{Step, Sorts, SortsAll};
 
 use crate::marks::{is_marked, ready};
-use crate::tables::Model;
+use crate::tables::CheckedModel;
 use simulation::index;
 use simulation::index::{clip, field, size, wide};
 
 // Expression e can be marked, and is not yet.
-pub fn adds_one(m: &Model, marks: &[u8], e: usize) -> bool
+pub fn adds_one(m: &CheckedModel, marks: &[u8], e: usize) -> bool
     requires { e < length (records_in m.now.exprs.now) }
     ensures { result ≡ adds (model_in m.now.exprs.now m.now.stmts.now) marks.now e }
 {
@@ -33,7 +33,7 @@ fn note(order: &mut [u32], k: usize, e: usize)
 }
 
 // Marks and notes expression e as number k, if it can be marked; how many are marked then.
-fn sort_one(m: &Model, marks: &mut [u8], order: &mut [u32], k: usize, e: usize) -> usize
+fn sort_one(m: &CheckedModel, marks: &mut [u8], order: &mut [u32], k: usize, e: usize) -> usize
     requires { (e < length (records_in m.now.exprs.now)) × (e < length marks.old) × (e < 4294967296) × (k < 4294967296) }
     ensures { Step (model_in m.now.exprs.now m.now.stmts.now) marks.old order.old k e result marks.new order.new }
 {
@@ -46,7 +46,7 @@ fn sort_one(m: &Model, marks: &mut [u8], order: &mut [u32], k: usize, e: usize) 
 }
 
 // One pass over the first n expressions: marks those that are ready, k are marked so far.
-fn sort_pass(m: &Model, marks: &mut [u8], order: &mut [u32], k: usize) -> usize
+fn sort_pass(m: &CheckedModel, marks: &mut [u8], order: &mut [u32], k: usize) -> usize
     requires { (m.now.expr_count ≤ length marks.old) × (m.now.expr_count < 4294967296) × Sorting (model_in m.now.exprs.now m.now.stmts.now) m.now.expr_count marks.old order.old k }
     ensures { Sorts (model_in m.now.exprs.now m.now.stmts.now) m.now.expr_count k result marks.new order.new }
 {
@@ -60,7 +60,7 @@ fn sort_pass(m: &Model, marks: &mut [u8], order: &mut [u32], k: usize) -> usize
 // A GUESS of the order, depth first. It is tried, and nothing rests on it: where it is right, one pass along it marks all.
 
 // The expression that field j of the record at a word names as needed.
-fn need(m: &Model, at: usize, size: usize, j: usize) -> Option<usize> {
+fn need(m: &CheckedModel, at: usize, size: usize, j: usize) -> Option<usize> {
     let kind = field(m.exprs, at, size, 0);
     if kind == 0 {
         return None;
@@ -93,7 +93,7 @@ struct Unmet {
 }
 
 // The first new one that expression e needs, behind the needs that are passed.
-fn new_need(m: &Model, marks: &[u8], e: usize, passed: u32) -> Option<Unmet> {
+fn new_need(m: &CheckedModel, marks: &[u8], e: usize, passed: u32) -> Option<Unmet> {
     let at = index::start(m.exprs, m.starts, e);
     let size = size(m.exprs, at);
     for i in wide(passed) + 3..size {
@@ -138,7 +138,7 @@ struct Walk {
 }
 
 // Begins at an expression, goes on to a need, or notes the last on the stack, whose needs are all noted, in order[n ..].
-fn turn(m: &Model, marks: &mut [u8], order: &mut [u32], walk: Walk) -> Walk
+fn turn(m: &CheckedModel, marks: &mut [u8], order: &mut [u32], walk: Walk) -> Walk
     requires { (4 * m.now.expr_count ≤ length order.old) × (walk.root ≤ m.now.expr_count) × (walk.depth ≤ m.now.expr_count) × (walk.count ≤ m.now.expr_count) }
     ensures { (result.root ≤ m.now.expr_count) × (result.depth ≤ m.now.expr_count) × (result.count ≤ m.now.expr_count) }
 {
@@ -180,7 +180,7 @@ fn turn(m: &Model, marks: &mut [u8], order: &mut [u32], walk: Walk) -> Walk
 
 // The guess, in order[n .. 2 n], if the order has four words for each of the n expressions. Each takes three turns at most: one begins at it,
 // one enters it, one notes it.
-fn guess_order(m: &Model, marks: &mut [u8], order: &mut [u32]) {
+fn guess_order(m: &CheckedModel, marks: &mut [u8], order: &mut [u32]) {
     if order.len() / 4 < m.expr_count {
         return;
     }
@@ -195,7 +195,7 @@ fn guess_order(m: &Model, marks: &mut [u8], order: &mut [u32]) {
 }
 
 // Number j of the guess, if it is an expression: how many are marked then.
-fn sort_guessed(m: &Model, marks: &mut [u8], order: &mut [u32], k: usize, j: usize) -> usize
+fn sort_guessed(m: &CheckedModel, marks: &mut [u8], order: &mut [u32], k: usize, j: usize) -> usize
     requires { (m.now.expr_count ≤ length marks.old) × (m.now.expr_count < 4294967296) × (m.now.expr_count + j < length order.old) × Sorting (model_in m.now.exprs.now m.now.stmts.now) m.now.expr_count marks.old order.old k }
     ensures { Sorting (model_in m.now.exprs.now m.now.stmts.now) m.now.expr_count marks.new order.new result }
 {
@@ -207,7 +207,7 @@ fn sort_guessed(m: &Model, marks: &mut [u8], order: &mut [u32], k: usize, j: usi
 }
 
 // One pass along the guess: how many expressions are marked.
-fn sort_along(m: &Model, marks: &mut [u8], order: &mut [u32]) -> usize
+fn sort_along(m: &CheckedModel, marks: &mut [u8], order: &mut [u32]) -> usize
     requires { (m.now.expr_count ≤ length marks.old) × (m.now.expr_count < 4294967296) × Sorting (model_in m.now.exprs.now m.now.stmts.now) m.now.expr_count marks.old order.old 0 }
     ensures { Sorting (model_in m.now.exprs.now m.now.stmts.now) m.now.expr_count marks.new order.new result }
 {
@@ -222,7 +222,7 @@ fn sort_along(m: &Model, marks: &mut [u8], order: &mut [u32]) -> usize
 }
 
 // A pass along a guess, then passes until one adds nothing: how many expressions were marked.
-pub fn sort(m: &Model, marks: &mut [u8], order: &mut [u32]) -> usize
+pub fn sort(m: &CheckedModel, marks: &mut [u8], order: &mut [u32]) -> usize
     requires { (m.now.expr_count ≤ length marks.old) × (m.now.expr_count < 4294967296) × Sorting (model_in m.now.exprs.now m.now.stmts.now) m.now.expr_count marks.old order.old 0 }
     ensures { SortsAll (model_in m.now.exprs.now m.now.stmts.now) m.now.expr_count result marks.new order.new }
 {

@@ -6,11 +6,11 @@ ghost use Rattle.evaluation.specs.Late.{PortsBefore, StoresDriven, StoresListed}
 ghost use Rattle.evaluation.specs.Ticks.{ReadSignals, GoodTicks, Inputs, StoresOne, Stores};
 
 use crate::bytes::copy;
-use crate::tables::Model;
+use crate::tables::CheckedModel;
 use simulation::index::{size, wide};
 
 // Signal t takes the value of expression d, which is as wide.
-pub fn store(m: &Model, values: &[u8], t: usize, d: usize, bytes: &mut [u8])
+pub fn store(m: &CheckedModel, values: &[u8], t: usize, d: usize, bytes: &mut [u8])
     requires { Room m.now.signals.now m.now.exprs.now bytes.old values.now × (t < length (records_in m.now.signals.now)) × (d < length (records_in m.now.exprs.now)) × (get_or (widths_in m.now.exprs.now) d 0 ≡ get_or (widths_in m.now.signals.now) t 0) }
     ensures { StoresOne m.now.signals.now m.now.exprs.now values.now t d bytes.old bytes.new }
 {
@@ -21,7 +21,7 @@ pub fn store(m: &Model, values: &[u8], t: usize, d: usize, bytes: &mut [u8])
 }
 
 // Signal s takes the value of what is assigned to it, if there is such a signal.
-fn store_driven(m: &Model, values: &[u8], s: usize, bytes: &mut [u8])
+fn store_driven(m: &CheckedModel, values: &[u8], s: usize, bytes: &mut [u8])
     requires { Room m.now.signals.now m.now.exprs.now bytes.old values.now }
     ensures { StoresDriven m.now.signals.now m.now.exprs.now m.now.stmts.now s values.now bytes.old bytes.new }
 {
@@ -35,7 +35,7 @@ fn store_driven(m: &Model, values: &[u8], s: usize, bytes: &mut [u8])
 }
 
 // Every assigned signal takes its expression's value. There are `count` signals.
-pub fn store_assigned(m: &Model, values: &[u8], bytes: &mut [u8])
+pub fn store_assigned(m: &CheckedModel, values: &[u8], bytes: &mut [u8])
     requires { Room m.now.signals.now m.now.exprs.now bytes.old values.now }
     ensures { Stores m.now.signals.now m.now.exprs.now m.now.stmts.now values.now bytes.old bytes.new }
 {
@@ -49,7 +49,7 @@ pub fn store_assigned(m: &Model, values: &[u8], bytes: &mut [u8])
 
 // k signals of a list take the values of what is assigned to them. There are `count` signals.
 pub fn store_listed(
-    m: &Model,
+    m: &CheckedModel,
     order: &[u32],
     from: usize,
     k: usize,
@@ -66,7 +66,7 @@ pub fn store_listed(
 }
 
 // The input signals take the tick's bits, in order.
-pub fn set_inputs(m: &Model, ticks: &[u8], bytes: &mut [u8])
+pub fn set_inputs(m: &CheckedModel, ticks: &[u8], bytes: &mut [u8])
     requires { GoodTicks m.now.signals.now ticks.now × (sum_to (widths_in m.now.signals.now) (length (records_in m.now.signals.now)) ≤ length bytes.old) }
     ensures { Inputs m.now.signals.now ticks.now bytes.old bytes.new }
 {

@@ -12,7 +12,7 @@ ghost use Rattle.evaluation.specs.Late.{PortsBefore};
 use simulation::index;
 
 #[derive(Clone, Copy)]
-pub struct Model<'a> {
+pub struct CheckedModel<'a> {
     pub signals: &'a [u32],
     pub exprs: &'a [u32],
     pub stmts: &'a [u32],
@@ -33,7 +33,7 @@ pub struct Model<'a> {
     pub ghost ports_before: { PortsBefore signals.now ports },
 }
 
-impl Model<'_> {
+impl CheckedModel<'_> {
     // The word at which expression e begins.
     pub fn start(&self, e: usize) -> usize
         requires { e < length (records_in self.now.exprs.now) }

@@ -10,12 +10,12 @@ ghost use Rattle.evaluation.specs.Ticks.{Filled, Ordered, GoodTicks, Ticks};
 use crate::commit::commit;
 use crate::settling::settle;
 use crate::store::set_inputs;
-use crate::tables::Model;
+use crate::tables::CheckedModel;
 use simulation::Edge;
 
 // Inputs, settle, commit, settle.
 pub fn tick(
-    m: &Model,
+    m: &CheckedModel,
     order: &[u32],
     ticks: &[u8],
     fired: Option<Edge>,

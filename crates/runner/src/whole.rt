@@ -16,7 +16,7 @@ use crate::list::run_ticks;
 use crate::prepare::{fill_tables, prepare};
 use crate::refused::refuse_ticks;
 use crate::show::{output_total, ports_end, times};
-use crate::tables::Model;
+use crate::tables::CheckedModel;
 use model_check::call::{byte_fault, call_lengths, input_total};
 use refusal::Refusal;
 use simulation::index::count;
@@ -164,7 +164,7 @@ fn run_unrefused(
         signal_table,
         driver_table,
     );
-    let m = Model {
+    let m = CheckedModel {
         signals: signals,
         exprs: exprs,
         stmts: stmts,

@@ -1,23 +1,27 @@
-use Rattle.std.proofs.Common.{arith}
-use Rattle.simulation.proofs.Steps.{walked_within}
-use Rattle.evaluation.proofs.Committing.{stated, loading_start, loading_begins, loading_next, loading_room, loading_out, loading_end}
+use Rattle.std.proofs.Common.{arith, refl}
+use Rattle.evaluation.proofs.Committing.{stated, loading_start, loading_begins, loading_next, loading_room, loading_out}
 use Rattle.runner.proofs.Models.{prepared_of}
+use Rattle.runner.proofs.Turns.{turns_start, turn_size, turn_some, turn_next, turn_within, turns_out}
 use Rattle.runner.proofs.commit.store_loads.Goals as goal
 
-pub loop-at-init : goal.loop-at-init
-loop-at-init c = loading_start _ _ _ _ _ _
-
-pub returns-then-size-eq0 : goal.returns-then-size-eq0
-returns-then-size-eq0 c = loading_out (stated (prepared_of c.args.m.now)) c.loop-at.invariant c.size-size.ensures c.if-size-eq0.true
+pub loop-fields-init : goal.loop-fields-init
+loop-fields-init c = (loading_start _ _ _ _ _ _, turns_start c.into_iter-fields-iterator.ensures.into_iter_gives c.new-fields-items.ensures)
 
 pub store_load-requires : goal.store_load-requires
-store_load-requires c = (loading_room (stated (prepared_of c.args.m.now)) c.loop-at.invariant c.requires.0, c.requires.1, loading_begins (stated (prepared_of c.args.m.now)) c.loop-at.invariant c.size-size.ensures c.if-size-eq0.false)
+store_load-requires c =
+    let s = c.in-Some.ensures.steps in
+    let v = c.loop-fields.invariant in
+    let p = stated (prepared_of c.args.m.now) in
+    (loading_room p v.0 c.requires.0, c.requires.1, loading_begins p v.0 (turn_size v.1 s) (turn_some v.1 s))
 
-pub overflow_add-at : goal.overflow_add-at
-overflow_add-at c = omega (arith, walked_within c.loop-at.invariant.walked _ c.size-size.ensures c.if-size-eq0.false, c.well_formed)
+pub overflow_add-at-in-loop-fields : goal.overflow_add-at-in-loop-fields
+overflow_add-at-in-loop-fields c = omega (arith, turn_within c.loop-fields.invariant.1 c.in-Some.ensures.steps, c.well_formed)
 
-pub loop-at-preserved : goal.loop-at-preserved
-loop-at-preserved c = loading_next (stated (prepared_of c.args.m.now)) c.loop-at.invariant c.size-size.ensures c.if-size-eq0.false c.store_load.auto.bytes c.store_load.ensures
+pub loop-fields-preserved : goal.loop-fields-preserved
+loop-fields-preserved c =
+    let s = c.in-Some.ensures.steps in
+    let v = c.loop-fields.invariant in
+    (loading_next (stated (prepared_of c.args.m.now)) v.0 (turn_size v.1 s) (turn_some v.1 s) c.store_load.auto.bytes c.store_load.ensures, turn_next v.1 s)
 
 pub returns : goal.returns
-returns c = loading_end (stated (prepared_of c.args.m.now)) c.loop-at.invariant c.loop-at-test.false
+returns c = let v = c.loop-fields.invariant in loading_out (stated (prepared_of c.args.m.now)) v.0 (turns_out v.1 c.in-None.ensures.steps.0) refl

@@ -1,28 +1,29 @@
-use Rattle.std.proofs.Common.{arith}
-use Rattle.evaluation.proofs.Signals.{signal_inside, signal_step}
-use Rattle.runner.proofs.Listing.{outputs_start, outputs_out, outputs_end, outputs_other, outputs_taken}
+use Rattle.std.proofs.Common.{arith, ap, ◌∙◌, inl, ◌+◌, set}
+use Rattle.std.specs.declared.iter.Enumerate.{Enumerate}
+use Rattle.simulation.specs.declared.records.Records.{Records}
+use Rattle.simulation.proofs.Walking.{few}
+use Rattle.runner.proofs.Listing.{outputs_start, outputs_end, outputs_three, outputs_other, outputs_taken}
 use Rattle.runner.proofs.Models.{read_signals_of}
-use Rattle.runner.proofs.lists.list_outputs.Goals.{then-m-at-eq1+else-k-room+else-s-ge4294967296, else-m-at-eq1}
+use Rattle.runner.proofs.Turns.{turns_numbered}
 use Rattle.runner.proofs.lists.list_outputs.Goals as goal
 
-pub loop-at-init : goal.loop-at-init
-loop-at-init c = outputs_start _ _ _ _
+pub loop-s-init-derived : goal.loop-s-init-derived
+loop-s-init-derived c = ((tt, tt, inl (few c.into_iter-s-iterator.ensures.into_iter_gives c.enumerate-s-items.ensures.source c.enumerate-s-items.ensures.count c.new.ensures (omega (arith, c.well_formed)))), tt)
 
-pub returns-then-size-eq0-clause-listed : goal.returns-then-size-eq0-clause-listed
-returns-then-size-eq0-clause-listed c = (outputs_out (read_signals_of c.args.m.now) c.loop-at.invariant c.size-size.ensures c.if-size-eq0.true).1
+pub loop-s-init : goal.loop-s-init
+loop-s-init c = let g = c.into_iter-s-iterator.ensures.into_iter_gives in outputs_start _ _ _ (ap (λ (z : Enumerate Records). z.count) g ∙ c.enumerate-s-items.ensures.count) (turns_numbered g c.enumerate-s-items.ensures.source c.new.ensures)
 
-pub bounds-m-at : goal.bounds-m-at
-bounds-m-at c = omega (arith, signal_inside (read_signals_of c.args.m.now) c.loop-at.invariant.walked c.size-size.ensures c.if-size-eq0.false)
+pub bounds-fields-0 : goal.bounds-fields-0
+bounds-fields-0 c = omega (arith, outputs_three (read_signals_of c.args.m.now) c.loop-s.invariant c.in-Some.ensures.steps.0)
 
-pub overflow_add-at-in-loop-at : goal.overflow_add-at-in-loop-at
-overflow_add-at-in-loop-at c = omega (arith, signal_step (read_signals_of c.args.m.now) c.loop-at.invariant.walked c.size-size.ensures c.if-size-eq0.false, c.well_formed)
+pub loop-s-preserved-then-fields-eq1 : goal.loop-s-preserved-then-fields-eq1
+loop-s-preserved-then-fields-eq1 c =
+    let s = c.in-Some.ensures.steps in
+    let l = c.in_ok-k.ensures.listed in
+    rw s.2 (outputs_taken (read_signals_of c.args.m.now) c.loop-s.invariant s.0 c.in_ok-k.ensures.few c.requires (l.0, l.1 ∙ ap (set c.loop-s.order (c.args.from + c.loop-s.k)) s.1))
 
-pub loop-at-preserved : goal.loop-at-preserved
-loop-at-preserved c =
-    elim c.if-m-at-eq1.branch [
-      | then-m-at-eq1+else-k-room+else-s-ge4294967296 w ↦ outputs_taken (read_signals_of c.args.m.now) c.loop-at.invariant c.size-size.ensures c.if-size-eq0.false w.order-is w.k-is w.if-k-room.false c.requires
-      | else-m-at-eq1 w ↦ outputs_other (read_signals_of c.args.m.now) c.loop-at.invariant c.size-size.ensures c.if-size-eq0.false w.order-is w.k-is w.if-m-at-eq1.false
-    ]
+pub loop-s-preserved : goal.loop-s-preserved
+loop-s-preserved c = let s = c.in-Some.ensures.steps in rw s.2 (outputs_other (read_signals_of c.args.m.now) c.loop-s.invariant s.0 c.if-fields-eq1.false)
 
 pub returns-clause-listed : goal.returns-clause-listed
-returns-clause-listed c = (outputs_end (read_signals_of c.args.m.now) c.loop-at.invariant c.loop-at-test.false).1
+returns-clause-listed c = (outputs_end (read_signals_of c.args.m.now) c.loop-s.invariant c.in-None.ensures.steps.0.0).1

@@ -1,9 +1,6 @@
-use Rattle.std.proofs.Common.{◌-◌, length}
+use Rattle.simulation.specs.Records.{left}
 use Rattle.runner.proofs.Listing.{ListsOutputs}
 use Rattle.runner.proofs.lists.list_outputs.Given as goal
 
-abbrev pub invariant-loop-at : goal.invariant-loop-at
-invariant-loop-at l = ListsOutputs l.m.signals.now l.fn.order l.from l.room l.order l.k l.s l.at
-
-abbrev pub decreases-loop-at : goal.decreases-loop-at
-decreases-loop-at l = length l.m.signals.now - l.at
+abbrev pub invariant-loop-s : goal.invariant-loop-s
+invariant-loop-s l = ListsOutputs l.m.signals.now l.fn.order l.from l.room l.order l.k l.s-iterator.count (left l.s-iterator.iter)

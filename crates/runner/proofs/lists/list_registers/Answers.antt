@@ -1,27 +1,24 @@
-use Rattle.std.proofs.Common.{arith}
-use Rattle.runner.proofs.Listing.{registers_start, registers_out, registers_end, registers_inside, registers_step, registers_other, registers_taken}
+use Rattle.std.proofs.Common.{arith, ap, sym, ◌∙◌}
+use Rattle.runner.proofs.Listing.{registers_start, registers_end, registers_three, registers_other, registers_taken}
 use Rattle.runner.proofs.Models.{stated_of}
-use Rattle.runner.proofs.lists.list_registers.Goals.{then-m-at-eq1+else-k-room+else-at-ge4294967296, else-m-at-eq1}
+use Rattle.runner.proofs.Turns.{turns_start}
+use Rattle.runner.proofs.lists.list_registers.Goals.{then-fields-eq1+in_ok-k, else-fields-eq1}
 use Rattle.runner.proofs.lists.list_registers.Goals as goal
 
-pub loop-at-init : goal.loop-at-init
-loop-at-init c = registers_start _ _ _ _
+pub loop-fields-init : goal.loop-fields-init
+loop-fields-init c = registers_start _ _ _ (turns_start c.into_iter-fields-iterator.ensures.into_iter_gives c.new-fields-items.ensures)
 
-pub returns-then-size-eq0-clause-listed : goal.returns-then-size-eq0-clause-listed
-returns-then-size-eq0-clause-listed c = (registers_out c.loop-at.invariant c.size-size.ensures c.if-size-eq0.true).1
+pub bounds-fields-0 : goal.bounds-fields-0
+bounds-fields-0 c = omega (arith, registers_three c.loop-fields.invariant (stated_of c.args.m.now) c.in-Some.ensures.steps)
 
-pub bounds-m-at : goal.bounds-m-at
-bounds-m-at c = omega (arith, registers_inside c.loop-at.invariant (stated_of c.args.m.now) c.size-size.ensures c.if-size-eq0.false)
-
-pub overflow_add-at-in-loop-at : goal.overflow_add-at-in-loop-at
-overflow_add-at-in-loop-at c = omega (arith, registers_step c.loop-at.invariant (stated_of c.args.m.now) c.size-size.ensures c.if-size-eq0.false, c.well_formed)
-
-pub loop-at-preserved : goal.loop-at-preserved
-loop-at-preserved c =
-    elim c.if-m-at-eq1.branch [
-      | then-m-at-eq1+else-k-room+else-at-ge4294967296 w ↦ registers_taken c.loop-at.invariant (stated_of c.args.m.now) c.size-size.ensures c.if-size-eq0.false w.order-is w.k-is w.if-k-room.false c.requires
-      | else-m-at-eq1 w ↦ registers_other c.loop-at.invariant (stated_of c.args.m.now) c.size-size.ensures c.if-size-eq0.false w.order-is w.k-is w.if-m-at-eq1.false
+pub loop-fields-preserved : goal.loop-fields-preserved
+loop-fields-preserved c =
+    let g = c.loop-fields.invariant in
+    let s = c.in-Some.ensures.steps in
+    elim c.if-fields-eq1.branch [
+      | then-fields-eq1+in_ok-k w ↦ let l = w.in_ok-k.ensures.listed in registers_taken g (stated_of c.args.m.now) s (omega (arith, w.k-is, w.in_ok-k.ensures.few)) c.requires (w.k-is ∙ l.0, w.order-is ∙ l.1)
+      | else-fields-eq1 w ↦ rw (w.order-is, w.k-is) (registers_other g (stated_of c.args.m.now) s w.if-fields-eq1.false)
     ]
 
 pub returns-clause-listed : goal.returns-clause-listed
-returns-clause-listed c = (registers_end c.loop-at.invariant c.loop-at-test.false).1
+returns-clause-listed c = (registers_end c.loop-fields.invariant c.in-None.ensures.steps.0).1

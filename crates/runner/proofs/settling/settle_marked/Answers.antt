@@ -3,5 +3,5 @@ use Rattle.evaluation.proofs.Settling.{passes_end}
 use Rattle.runner.proofs.Models.{prepared_of}
 use Rattle.runner.proofs.settling.settle_marked.Goals as goal
 
-pub returns-then-not-more : goal.returns-then-not-more
-returns-then-not-more c = passes_end (prepared_of c.args.m.now) c.requires.2 c.settle_pass-more.ensures (ap not c.if-not-more.true)
+pub returns : goal.returns
+returns c = passes_end (prepared_of c.args.m.now) c.requires.2 c.settle_pass.ensures (ap not c.loop-test.false)

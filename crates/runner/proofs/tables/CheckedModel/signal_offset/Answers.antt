@@ -1,5 +1,5 @@
 use Rattle.simulation.proofs.Tables.{offset_right}
-use Rattle.runner.proofs.tables.Model.signal_offset.Goals as goal
+use Rattle.runner.proofs.tables.CheckedModel.signal_offset.Goals as goal
 
 pub returns : goal.returns
 returns c = offset_right _ _ _ c.offset.ensures c.args.self.now.signal_offsets c.requires.0 c.requires.1
