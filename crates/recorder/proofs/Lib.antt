@@ -4,6 +4,7 @@ pub mod Makes
 pub mod Outcomes
 pub mod Played
 pub mod Reading
+pub mod Records
 pub mod Room
 pub mod Roundtrip
 pub mod Wrote

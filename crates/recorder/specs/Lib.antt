@@ -8,3 +8,4 @@ pub mod Read
 pub mod Words
 pub mod Standing
 pub mod Outcome
+pub mod Records

@@ -5,6 +5,7 @@
 pub mod builder;
 pub mod list;
 pub mod read;
+pub mod records;
 pub mod words;
 
 use refusal::Refusal;

@@ -3,7 +3,7 @@ pub mod vcd; // vcd.rt: the same as a VCD file
 
 use converter::Lowered;
 use lines::records::put_refused;
-use listing::records::Records;
+use recorder::records::Records;
 use listing::written;
 use std::io;
 use std::io::Write;
