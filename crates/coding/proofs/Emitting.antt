@@ -4,6 +4,7 @@ use mathlib.Core.Path.{◌≡◌, refl, sym, ◌∙◌, ap, subst}
 use mathlib.Core.Logic.{◌⊎◌, inl, inr}
 use mathlib.Core.Bool.{Bool, true, false, not, false≢true, not-not}
 use mathlib.Core.List.{List, [], ◌∷◌, Memᴰ as Mem}
+use Rattle.std.specs.Prelude.{Some, None}
 use native.Mathlib.Omega.{arith}
 use native.Mathlib.Decide.{ℕ_discrete}
 use lib.Dec.{leb}
@@ -240,15 +241,15 @@ ordered_kept {m} {n} {ordered} order {order'} z k o l h = record {
 
 module _ {signals exprs stmts : List ℕ} where
   -- nothing is wanted
-  pub emits_none : {n from k : ℕ} {order values marks : List ℕ} → Emitting signals exprs stmts n from k order values marks → Emits signals exprs stmts n from k k order order values marks
-  emits_none g = record { kept = refl; fine = λ h. g; one_more = λ h. omega arith }
+  pub emits_none : {n from k : ℕ} {order values marks : List ℕ} → Emitting signals exprs stmts n from k order values marks → Emits signals exprs stmts n from k (Some k) order order values marks
+  emits_none g = record { kept = refl; made = (g, omega arith) }
 
   -- the code can't be made
-  pub emits_stuck : {n from k : ℕ} (order values marks : List ℕ) → Emits signals exprs stmts n from k (n + 1) order order values marks
-  emits_stuck order values marks = record { kept = refl; fine = λ h. absurd (omega arith); one_more = λ h. absurd (omega arith) }
+  pub emits_stuck : {n from k : ℕ} (order values marks : List ℕ) → Emits signals exprs stmts n from k None order order values marks
+  emits_stuck order values marks = record { kept = refl; made = tt }
 
-  pub emits_one : {n from k : ℕ} {order order' values' marks' : List ℕ} → Emitting signals exprs stmts n from (k + 1) order' values' marks' → take from order' ≡ take from order → Emits signals exprs stmts n from k (k + 1) order order' values' marks'
-  emits_one g z = record { kept = z; fine = λ h. g; one_more = λ h. omega arith }
+  pub emits_one : {n from k : ℕ} {order order' values' marks' : List ℕ} → Emitting signals exprs stmts n from (k + 1) order' values' marks' → take from order' ≡ take from order → Emits signals exprs stmts n from k (Some (k + 1)) order order' values' marks'
+  emits_one g z = record { kept = z; made = (g, omega arith) }
 
   pub emits_computable : {S : ℕ → Type 0} {forms : List ℕ} {e x : ℕ} → e ≡ x → Computable signals exprs stmts S forms e → Computable signals exprs stmts S forms x
   emits_computable {S} {forms} z c = subst (Computable signals exprs stmts S forms) z c
@@ -268,15 +269,14 @@ module _ {signals exprs stmts : List ℕ} {n from : ℕ} where
   all_start g = record { so_far = g; behind = omega arith; within = omega arith; kept = refl; order_long = refl; values_long = refl; marks_long = refl }
 
   module _ {order₀ values₀ marks₀ order values marks : List ℕ} {k i : ℕ} (g : EmittingAll signals exprs stmts n from order₀ values₀ marks₀ order values marks k i) where
-    module _ {order' values' marks' : List ℕ} {r : ℕ} (e : Emits signals exprs stmts n from k r order order' values' marks') where
-      pub all_next : i < n → r ≤ n → length order' ≡ length order → length values' ≡ length values → length marks' ≡ length marks → EmittingAll signals exprs stmts n from order₀ values₀ marks₀ order' values' marks' r (i + 1)
-      all_next hi h o v m = record { so_far = e.fine h; behind = omega (arith, g.behind, e.one_more h); within = omega arith; kept = e.kept ∙ g.kept; order_long = o ∙ g.order_long; values_long = v ∙ g.values_long; marks_long = m ∙ g.marks_long }
+    pub all_next : {order' values' marks' : List ℕ} {r : ℕ} → Emits signals exprs stmts n from k (Some r) order order' values' marks' → i < n → length order' ≡ length order → length values' ≡ length values → length marks' ≡ length marks → EmittingAll signals exprs stmts n from order₀ values₀ marks₀ order' values' marks' r (i + 1)
+    all_next e hi o v m = record { so_far = e.made.0; behind = omega (arith, g.behind, e.made.1); within = omega arith; kept = e.kept ∙ g.kept; order_long = o ∙ g.order_long; values_long = v ∙ g.values_long; marks_long = m ∙ g.marks_long }
 
-      pub all_stuck : n < r → EmitsAll signals exprs stmts n from r order₀ order' values' marks'
-      all_stuck h = record { kept = e.kept ∙ g.kept; fine = λ l. absurd (omega arith) }
+    pub all_stuck : {order' values' marks' : List ℕ} → Emits signals exprs stmts n from k None order order' values' marks' → EmitsAll signals exprs stmts n from None order₀ order' values' marks'
+    all_stuck e = record { kept = e.kept ∙ g.kept; made = tt }
 
-    pub all_end : EmitsAll signals exprs stmts n from k order₀ order values marks
-    all_end = record { kept = g.kept; fine = λ h. g.so_far }
+    pub all_end : EmitsAll signals exprs stmts n from (Some k) order₀ order values marks
+    all_end = record { kept = g.kept; made = g.so_far }
 
 -- a table that is lent whole
 pub ordered_whole : {n : ℕ} (order' : List ℕ) {m : Model} {used ordered : ℕ} (order : List ℕ) → used ≡ length order' → ordered ≡ n → take n order' ≡ take n order → Ordered m n (take ordered order) → length order' ≡ length order → ordered ≤ length order → Ordered m n (take used order')

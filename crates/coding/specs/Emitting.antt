@@ -1,7 +1,7 @@
 -- How code is made: along an order of all expressions, one that is wanted becomes the next code word if what it is computed from is known.
 -- Marks and bytes note what is known: an expression that is a code word is marked, and each of its positions is 1.
 use Rattle.std.specs.Prelude.{ℕ, ◌+◌, ◌*◌, ◌≤◌, ◌<◌, ◌≡◌, true, ◌⊎◌, List, length, get_or, take, drop}
-use Rattle.std.specs.Prelude.{Some}
+use Rattle.std.specs.Prelude.{Option, Some, IfSome}
 use Rattle.simulation.specs.Tick.{given, assigns}
 use Rattle.simulation.specs.Index.{stmts_in}
 use Rattle.ordering.specs.Marks.{marked}
@@ -40,13 +40,12 @@ module _ (signals exprs stmts : List ℕ) where
     pub in_marks : (e : ℕ) → marked marks e ≡ true → Among order from k e
     pub in_values : (p : ℕ) → p < bits_in exprs → get_or values p 0 ≡ 1 → (d : ℕ) × Among order from k d × Within exprs d p
 
-  -- there were k, and r are there now; one past n says that the code can't be made. What stands before the code is kept
-  pub record Emits (n from k r : ℕ) (order order' values' marks' : List ℕ) : Type 0 where
+  -- there were k, and r are there now; None says that the code can't be made. What stands before the code is kept
+  pub record Emits (n from k : ℕ) (r : Option ℕ) (order order' values' marks' : List ℕ) : Type 0 where
     pub kept : take from order' ≡ take from order
-    pub fine : r ≤ n → Emitting n from r order' values' marks'
-    pub one_more : r ≤ n → r ≤ k + 1
+    pub made : IfSome r (λ r. Emitting n from r order' values' marks' × (r ≤ k + 1))
 
   -- all that are wanted
-  pub record EmitsAll (n from r : ℕ) (order order' values' marks' : List ℕ) : Type 0 where
+  pub record EmitsAll (n from : ℕ) (r : Option ℕ) (order order' values' marks' : List ℕ) : Type 0 where
     pub kept : take from order' ≡ take from order
-    pub fine : r ≤ n → Emitting n from r order' values' marks'
+    pub made : IfSome r (λ r. Emitting n from r order' values' marks')

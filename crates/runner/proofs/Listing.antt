@@ -36,7 +36,7 @@ use Rattle.evaluation.proofs.Held.{holds_length}
 use Rattle.evaluation.proofs.Whole.{read_length, driver_there, driver_wide}
 use Rattle.evaluation.proofs.Signals.{signals_long, label_is}
 use Rattle.evaluation.proofs.Committing.{stated, fields_inside, target_known, target_of, register_word, asks_word, count_some, alone}
-use Rattle.runner.proofs.Turns.{Ahead, turns_out, turn_size, turn_some, turn_next, turn_there, turn_first, signal_turn, stmt_turn}
+use Rattle.runner.proofs.Turns.{Ahead, turns_out, turn_size, turn_some, turn_next, turn_there, turn_first, signal_turn, signal_first, stmt_turn}
 use Rattle.runner.specs.Plan.{Listing, Controls, Outputs}
 
 -- A WORD PUT BEHIND k OTHERS
@@ -147,7 +147,7 @@ module _ {signals order₀ : List ℕ} {from room : ℕ} {order : List ℕ} {k s
     outputs_three = signal_turn g.ahead q f g.walked
 
     labelled : get_or r 0 0 ≡ (signal_at signals s).label
-    labelled = turn_first g.ahead q (omega (arith, outputs_three)) ∙ label_is f g.walked (turn_size g.ahead q) (turn_some g.ahead q)
+    labelled = signal_first g.ahead q f g.walked ∙ label_is f g.walked (turn_size g.ahead q) (turn_some g.ahead q)
 
     past : Walked signals (g.at + (length r + 1)) (s + 1)
     past = walked_next g.walked (length r + 1) (turn_size g.ahead q) (turn_some g.ahead q)

@@ -19,12 +19,13 @@ use Rattle.simulation.specs.Run.{total, flat}
 use Rattle.simulation.specs.Shown.{shown_bytes}
 use Rattle.simulation.specs.Index.{size_at, records_in, widths_in, offset, start_of}
 use Rattle.simulation.proofs.Offsets.{offset_le}
-use Rattle.simulation.proofs.Steps.{Walked, walked_start, walked_next}
+use Rattle.simulation.proofs.Steps.{Walked, walked_start, walked_next, walked_out}
 use Rattle.evaluation.specs.Bytes.{part}
 use Rattle.evaluation.specs.Ticks.{signals_in, ReadSignals}
 use Rattle.evaluation.proofs.InBytes.{part_length}
 use Rattle.evaluation.specs.Late.{no_signal, signal_at, PortsBefore}
 use Rattle.evaluation.proofs.Signals.{signals_long, label_is, signals_left, total_left, width_is, next_byte, signal_end}
+use Rattle.runner.proofs.Turns.{Ahead, turns_out, turn_size, turn_some, turn_next, signal_turn, signal_first, signal_second}
 use Rattle.runner.specs.Calls.{fired_by, output_width}
 
 pub over_nothing : (l : List ℕ) (i : ℕ) → over l i [] ≡ l
@@ -52,48 +53,70 @@ module _ (x : Signal) where
 
 -- THE WIDTHS OF ALL OUTPUTS
 
--- the next signal's record stands at a word
-pub record Summing (signals : List ℕ) (at sum : ℕ) : Type 0 where
+-- those that are not left are summed
+pub record Summing (signals : List ℕ) (rest : List (List ℕ)) (sum : ℕ) : Type 0 where
+  pub at : ℕ
   pub count : ℕ
   pub walked : Walked signals at count
+  pub ahead : Ahead signals at rest
   pub so_far : sum + total output_width (drop count (signals_in signals)) ≡ total output_width (signals_in signals)
   pub named : sum ≤ offset (widths_in signals) count
 
-pub summing_start : (signals : List ℕ) → Summing signals 0 0
-summing_start signals = record { count = 0; walked = walked_start signals; so_far = omega arith; named = omega arith }
+pub summing_start : {signals : List ℕ} {rest : List (List ℕ)} → Ahead signals 0 rest → Summing signals rest 0
+summing_start {signals} a = record { at = 0; count = 0; walked = walked_start signals; ahead = a; so_far = omega arith; named = omega arith }
 
 module _ {signals : List ℕ} (h : ReadSignals signals) where
   none_left : (k : ℕ) → k ≡ length (records_in signals) → drop k (signals_in signals) ≡ []
   none_left k e = drop_of_length-le (signals_in signals) {i = k} (omega (arith, signals_long h))
 
-  module _ {at sum : ℕ} (g : Summing signals at sum) where
-    pub summing_end : g.count ≡ length (records_in signals) → sum ≡ total output_width (signals_in signals)
-    summing_end e = omega (arith, g.so_far, ap (total output_width) (none_left g.count e))
+  module _ {rest : List (List ℕ)} {sum : ℕ} (g : Summing signals rest sum) where
+    pub summing_end : rest ≡ [] → sum ≡ total output_width (signals_in signals)
+    summing_end n = omega (arith, g.so_far, ap (total output_width) (none_left g.count (walked_out g.walked 0 (turns_out g.ahead n) refl)))
 
-    module _ {size : ℕ} (e : size ≡ size_at signals at) (d : size ≡ 0 → ⊥) where
+    -- the next one
+    module _ {r : List ℕ} {rest' : List (List ℕ)} (q : rest ≡ r ∷ rest') where
       abbrev x : Signal
       x = signal_at signals g.count
 
-      -- it is an output
-      module _ {w : ℕ} (hw : w ≡ get_or signals (at + 2) 0) where
-        pub sum_fits : offset (widths_in signals) (length (records_in signals)) ≤ 18446744073709551615 → sum + w ≤ 18446744073709551615
-        sum_fits r = omega (arith, r, g.named, signal_end h g.walked e d hw)
+      pub summing_three : length r ≡ 3
+      summing_three = signal_turn g.ahead q h g.walked
 
-        pub summing_so : get_or signals (at + 1) 0 ≡ 1 → Summing signals (at + size) (sum + w)
+      said : get_or r 0 0 ≡ (signal_at signals g.count).label
+      said = signal_first g.ahead q h g.walked ∙ label_is h g.walked (turn_size g.ahead q) (turn_some g.ahead q)
+
+      wide : get_or r 1 0 ≡ get_or signals (g.at + 2) 0
+      wide = signal_second g.ahead q h g.walked
+
+      past : Walked signals (g.at + (length r + 1)) (g.count + 1)
+      past = walked_next g.walked (length r + 1) (turn_size g.ahead q) (turn_some g.ahead q)
+
+      grown : offset (widths_in signals) g.count + get_or r 1 0 ≡ offset (widths_in signals) (g.count + 1)
+      grown = next_byte h g.walked (turn_size g.ahead q) (turn_some g.ahead q) wide
+
+      -- it is an output
+      module _ {w : ℕ} (hw : w ≡ get_or r 1 0) where
+        pub sum_fits : offset (widths_in signals) (length (records_in signals)) ≤ 18446744073709551615 → sum + w ≤ 18446744073709551615
+        sum_fits u = omega (arith, u, hw, g.named, signal_end h g.walked (turn_size g.ahead q) (turn_some g.ahead q) wide)
+
+        pub summing_so : get_or r 0 0 ≡ 1 → Summing signals rest' (sum + w)
         summing_so l = record {
+          at = g.at + (length r + 1);
           count = g.count + 1;
-          walked = walked_next g.walked size e d;
-          so_far = omega (arith, g.so_far, total_left h g.walked e d output_width, output_so x (sym (label_is h g.walked e d) ∙ l), width_is h g.walked e d hw);
-          named = omega (arith, g.named, next_byte h g.walked e d hw);
+          walked = past;
+          ahead = turn_next g.ahead q;
+          so_far = omega (arith, g.so_far, total_left h g.walked (turn_size g.ahead q) (turn_some g.ahead q) output_width, output_so x (sym said ∙ l), width_is h g.walked (turn_size g.ahead q) (turn_some g.ahead q) wide, hw);
+          named = omega (arith, g.named, grown, hw);
         }
 
       -- it is none
-      pub summing_not : (get_or signals (at + 1) 0 ≡ 1 → ⊥) → Summing signals (at + size) sum
+      pub summing_not : (get_or r 0 0 ≡ 1 → ⊥) → Summing signals rest' sum
       summing_not l = record {
+        at = g.at + (length r + 1);
         count = g.count + 1;
-        walked = walked_next g.walked size e d;
-        so_far = omega (arith, g.so_far, total_left h g.walked e d output_width, output_not x (λ q. l (label_is h g.walked e d ∙ q)));
-        named = omega (arith, g.named, next_byte h g.walked e d {w = get_or signals (at + 2) 0} refl);
+        walked = past;
+        ahead = turn_next g.ahead q;
+        so_far = omega (arith, g.so_far, total_left h g.walked (turn_size g.ahead q) (turn_some g.ahead q) output_width, output_not x (λ z. l (said ∙ z)));
+        named = omega (arith, g.named, grown);
       }
 
 -- THE OUTPUTS' BYTES

@@ -80,6 +80,12 @@ module _ {l : List ℕ} {at : ℕ} {rest rest' : List (List ℕ)} {r : List ℕ}
       let said : signal_words (signal_at l k) ≡ sized (get_or (records_in l) k []) = signal_said (get_or (records_in l) k []) (read_at read_signal (records_in l) h.readable k (turn_there w) no_signal) in
       omega (arith, ap length said, ap length (turn_is w))
 
+  pub signal_first : {k : ℕ} → ReadSignals l → Walked l at k → get_or r 0 0 ≡ get_or l (at + 1) 0
+  signal_first h w = turn_first (omega (arith, signal_turn h w))
+
+  pub signal_second : {k : ℕ} → ReadSignals l → Walked l at k → get_or r 1 0 ≡ get_or l (at + 2) 0
+  signal_second h w = turn_second (omega (arith, signal_turn h w))
+
   -- a statement at least as many
   pub stmt_turn : {k : ℕ} {signals : List ℕ} → Stated signals l → Walked l at k → 3 ≤ length r
   stmt_turn {k} h w =

@@ -20,8 +20,9 @@ use crate::lists::{list_controls, list_outputs, list_registers};
 use crate::marks::{driver_marked, is_marked, ready};
 use crate::tables::CheckedModel;
 use fusing::fill_forms;
+use recorder::read::word;
 use simulation::index;
-use simulation::index::{field, plus, size, wide};
+use simulation::index::{fields, size, wide};
 
 // The bits of all expressions, and of all signals; how many registers, signals that they ask for and outputs are listed; how many words the two
 // pieces have.
@@ -63,7 +64,7 @@ fn want_expr(m: &CheckedModel, e: u32, values: &mut [u8])
 
 // Some position of expression e is wanted.
 fn wanted(m: &CheckedModel, values: &[u8], e: usize) -> bool {
-    let end = index::offset(m.exprs, m.expr_table, plus(e, 1));
+    let end = index::offset(m.exprs, m.expr_table, e.saturating_add(1));
     let from = index::offset(m.exprs, m.expr_table, e);
     for p in from..end {
         if p >= values.len() {
@@ -77,18 +78,18 @@ fn wanted(m: &CheckedModel, values: &[u8], e: usize) -> bool {
 }
 
 // What a statement names.
-fn want_stmt(m: &CheckedModel, at: usize, size: usize, values: &mut [u8])
+fn want_stmt(m: &CheckedModel, fields: &[u32], values: &mut [u8])
     requires { Unplaced values.old }
     ensures { Unplaced values.new }
 {
-    want_expr(m, field(m.stmts, at, size, 2), values);
-    if field(m.stmts, at, size, 0) != 1 {
+    want_expr(m, word(fields, 2), values);
+    if word(fields, 0) != 1 {
         return;
     }
-    if field(m.stmts, at, size, 5) == 0 {
+    if word(fields, 5) == 0 {
         return;
     }
-    want_expr(m, field(m.stmts, at, size, 8), values);
+    want_expr(m, word(fields, 8), values);
 }
 
 // What the statements name that begin at k words of a list.
@@ -97,9 +98,7 @@ fn want_loads(m: &CheckedModel, order: &[u32], from: usize, k: usize, values: &m
     ensures { Unplaced values.new }
 {
     for j in 0..k {
-        let at = wide(order[from + j]);
-        let size = size(m.stmts, at);
-        want_stmt(m, at, size, values);
+        want_stmt(m, fields(m.stmts, wide(order[from + j])), values);
     }
 }
 
@@ -130,19 +129,15 @@ fn want_operands(m: &CheckedModel, e: usize, values: &mut [u8])
     requires { Unplaced values.old }
     ensures { Unplaced values.new }
 {
-    let at = index::start(m.exprs, m.starts, e);
-    let size = size(m.exprs, at);
-    let kind = field(m.exprs, at, size, 0);
-    if kind == 0 {
-        return;
-    }
-    if kind == 1 {
-        let s = wide(field(m.exprs, at, size, 2));
-        want_driver(m, s, values);
-        return;
-    }
-    for i in 3..size {
-        want_expr(m, field(m.exprs, at, size, i - 1), values);
+    match fields(m.exprs, index::start(m.exprs, m.starts, e)) {
+        [0, ..] => {}
+        [1, _, s, ..] => want_driver(m, wide(*s), values),
+        [_, _, operands @ ..] => {
+            for o in operands {
+                want_expr(m, *o, values);
+            }
+        }
+        _ => {}
     }
 }
 
@@ -262,7 +257,7 @@ fn put(
     marks[x] = 1;
 }
 
-// Number i of the order becomes code word k, if it is wanted. How many code words there are then, or one past n.
+// Number i of the order becomes code word k, if it is wanted: how many code words there are then. None where it can't be computed.
 fn emit(
     m: &CheckedModel,
     from: usize,
@@ -273,26 +268,26 @@ fn emit(
     order: &mut [u32],
     values: &mut [u8],
     marks: &mut [u8],
-) -> usize
+) -> Option<usize>
     requires { (m.now.expr_count ≤ length marks.old) × (base ≡ bits_in m.now.exprs.now) × (top ≡ bits_in m.now.exprs.now + bits_in m.now.signals.now) × (base ≤ length values.old) × Emitting m.now.signals.now m.now.exprs.now m.now.stmts.now m.now.expr_count from k order.old values.old marks.old × (k ≤ i) × (i < m.now.expr_count) }
     ensures { Emits m.now.signals.now m.now.exprs.now m.now.stmts.now m.now.expr_count from k result order.old order.new values.new marks.new }
 {
     let word = order[i];
     let e = wide(word);
     if e >= m.expr_count {
-        return k;
+        return Some(k);
     }
     if !wanted(m, values, e) {
-        return k;
+        return Some(k);
     }
     if !computable(m, order, base, top, values, marks, e) {
-        return m.expr_count + 1;
+        return None;
     }
     put(m, from, k, word, order, values, marks);
-    k + 1
+    Some(k + 1)
 }
 
-// All that are wanted: how many code words, or one past n.
+// All that are wanted: how many code words.
 fn emit_all(
     m: &CheckedModel,
     from: usize,
@@ -301,18 +296,15 @@ fn emit_all(
     order: &mut [u32],
     values: &mut [u8],
     marks: &mut [u8],
-) -> usize
+) -> Option<usize>
     requires { (m.now.expr_count ≤ length marks.old) × (base ≡ bits_in m.now.exprs.now) × (top ≡ bits_in m.now.exprs.now + bits_in m.now.signals.now) × (base ≤ length values.old) × Emitting m.now.signals.now m.now.exprs.now m.now.stmts.now m.now.expr_count from 0 order.old values.old marks.old }
     ensures { EmitsAll m.now.signals.now m.now.exprs.now m.now.stmts.now m.now.expr_count from result order.old order.new values.new marks.new }
 {
     let mut k: usize = 0;
     for i in 0..m.expr_count {
-        k = emit(m, from, base, top, i, k, order, values, marks);
-        if k > m.expr_count {
-            return k;
-        }
+        k = emit(m, from, base, top, i, k, order, values, marks)?;
     }
-    k
+    Some(k)
 }
 
 // What the statement at a word names is marked.
@@ -334,8 +326,8 @@ fn named(m: &CheckedModel, at: usize, marks: &[u8]) -> bool
 
 // What the registers that begin at k words of a list load is marked.
 fn loads_marked(m: &CheckedModel, order: &[u32], from: usize, k: usize, marks: &[u8]) -> bool
-    requires { (from + k ≤ length order.now) × Registers m.now.stmts.now order.now from k }
-    ensures { result ≡ true → MarksLoaded m.now.stmts.now marks.now }
+    requires { (from + k ≤ length order.now) × ((j : ℕ) → j < k → Begins m.now.stmts.now (get_or order.now (from + j) 0)) }
+    ensures { result ≡ true → Registers m.now.stmts.now order.now from k → MarksLoaded m.now.stmts.now marks.now }
 {
     for j in 0..k {
         if !named(m, wide(order[from + j]), marks) {
@@ -358,10 +350,10 @@ fn drivers_marked(m: &CheckedModel, order: &[u32], from: usize, k: usize, marks:
     true
 }
 
-// THE TWO PIECES
+// ONE PIECE
 
 // Code for what the listed registers load and what is assigned to the listed signals, from a word on behind the lists: how many words. Values and marks are work.
-fn first_code(
+fn piece(
     m: &CheckedModel,
     from: usize,
     base: usize,
@@ -374,11 +366,11 @@ fn first_code(
     values: &mut [u8],
     marks: &mut [u8],
 ) -> Option<usize>
-    requires { (m.now.expr_count ≤ length marks.old) × (base ≡ bits_in m.now.exprs.now) × (top ≡ bits_in m.now.exprs.now + bits_in m.now.signals.now) × (base ≤ length values.old) × (7 * m.now.expr_count ≤ from) × (from + m.now.expr_count ≤ length order.old) × Formed m.now.signals.now m.now.exprs.now m.now.stmts.now (drop m.now.expr_count order.old) m.now.expr_count × (loads + registers ≤ from) × Registers m.now.stmts.now order.old loads registers × (asked + controls ≤ from) }
+    requires { (m.now.expr_count ≤ length marks.old) × (base ≡ bits_in m.now.exprs.now) × (top ≡ bits_in m.now.exprs.now + bits_in m.now.signals.now) × (base ≤ length values.old) × (7 * m.now.expr_count ≤ from) × (from + m.now.expr_count ≤ length order.old) × Formed m.now.signals.now m.now.exprs.now m.now.stmts.now (drop m.now.expr_count order.old) m.now.expr_count × (loads + registers ≤ from) × ((j : ℕ) → j < registers → Begins m.now.stmts.now (get_or order.old (loads + j) 0)) × (asked + controls ≤ from) }
     ensures kept { take from order.new ≡ take from order.old }
     ensures few { IfSome result (λ k. k ≤ m.now.expr_count) }
     ensures coded { IfSome result (λ k. Coded m.now.signals.now m.now.exprs.now m.now.stmts.now m.now.expr_count from k order.new) }
-    ensures loaded { IfSome result (λ k. (e : ℕ) → Loaded m.now.stmts.now e → Among order.new from k e) }
+    ensures loaded { IfSome result (λ k. Registers m.now.stmts.now order.old loads registers → (e : ℕ) → Loaded m.now.stmts.now e → Among order.new from k e) }
     ensures driven { IfSome result (λ k. (x d : ℕ) → Among order.new asked controls x → given assigns (stmts_in m.now.stmts.now) x ≡ Some d → Among order.new from k d) }
 {
     values.fill(0);
@@ -386,46 +378,11 @@ fn first_code(
     want_drivers(m, order, asked, controls, values);
     want_needed(m, order, values);
     marks.fill(0);
-    let k = emit_all(m, from, base, top, order, values, marks);
-    if k > m.expr_count {
-        return None;
-    }
+    let k = emit_all(m, from, base, top, order, values, marks)?;
     if !loads_marked(m, order, loads, registers, marks) {
         return None;
     }
     if !drivers_marked(m, order, asked, controls, marks) {
-        return None;
-    }
-    Some(k)
-}
-
-// Code for what is assigned to the listed signals alone.
-fn second_code(
-    m: &CheckedModel,
-    from: usize,
-    base: usize,
-    top: usize,
-    shown: usize,
-    outputs: usize,
-    order: &mut [u32],
-    values: &mut [u8],
-    marks: &mut [u8],
-) -> Option<usize>
-    requires { (m.now.expr_count ≤ length marks.old) × (base ≡ bits_in m.now.exprs.now) × (top ≡ bits_in m.now.exprs.now + bits_in m.now.signals.now) × (base ≤ length values.old) × (7 * m.now.expr_count ≤ from) × (from + m.now.expr_count ≤ length order.old) × Formed m.now.signals.now m.now.exprs.now m.now.stmts.now (drop m.now.expr_count order.old) m.now.expr_count × (shown + outputs ≤ from) }
-    ensures kept { take from order.new ≡ take from order.old }
-    ensures few { IfSome result (λ k. k ≤ m.now.expr_count) }
-    ensures coded { IfSome result (λ k. Coded m.now.signals.now m.now.exprs.now m.now.stmts.now m.now.expr_count from k order.new) }
-    ensures driven { IfSome result (λ k. (x d : ℕ) → Among order.new shown outputs x → given assigns (stmts_in m.now.stmts.now) x ≡ Some d → Among order.new from k d) }
-{
-    values.fill(0);
-    want_drivers(m, order, shown, outputs, values);
-    want_needed(m, order, values);
-    marks.fill(0);
-    let k = emit_all(m, from, base, top, order, values, marks);
-    if k > m.expr_count {
-        return None;
-    }
-    if !drivers_marked(m, order, shown, outputs, marks) {
         return None;
     }
     Some(k)
@@ -473,7 +430,7 @@ fn encode_in(
     let outputs = list_outputs(m, order, outputs_at, m.signal_count)?;
     let first_at = outputs_at + m.signal_count;
     let top = base + state;
-    let first = first_code(
+    let first = piece(
         m,
         first_at,
         base,
@@ -486,11 +443,13 @@ fn encode_in(
         values,
         marks,
     )?;
-    let second = second_code(
+    let second = piece(
         m,
         first_at + m.expr_count,
         base,
         top,
+        loads,
+        0,
         outputs_at,
         outputs,
         order,

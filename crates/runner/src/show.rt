@@ -12,7 +12,7 @@ use crate::bytes::copy;
 use recorder::SignalId;
 use refusal::Refusal;
 use simulation::Edge;
-use simulation::index::{size, wide};
+use simulation::index::wide;
 use simulation::records::Records;
 
 // The widths of all outputs together.
@@ -68,18 +68,17 @@ pub fn show(signals: &[u32], bytes: &[u8], shown: &mut [u8], from: usize, until:
     let mut at: usize = 0;
     let mut pos: usize = 0;
     let mut to = from;
-    while at < until {
-        let size = size(signals, at);
-        if size == 0 {
+    for fields in Records::new(signals) {
+        if at >= until {
             return to;
         }
-        let width = wide(signals[at + 2]);
-        if signals[at + 1] == 1 {
+        let width = wide(fields[1]);
+        if fields[0] == 1 {
             copy(shown, to, bytes, pos, width);
             to += width;
         }
         pos += width;
-        at += size;
+        at += fields.len() + 1;
     }
     to
 }

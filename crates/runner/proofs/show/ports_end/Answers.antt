@@ -1,26 +1,26 @@
-use Rattle.std.proofs.Common.{arith}
-use Rattle.simulation.proofs.Steps.{walked_out, walked_end}
-use Rattle.evaluation.proofs.Signals.{signal_inside, signal_step}
+use Rattle.std.proofs.Common.{arith, refl, sym, ◌∙◌}
+use Rattle.simulation.proofs.Steps.{walked_out}
 use Rattle.runner.proofs.Showing.{ending_start, ending_end, ending_port, ending_other}
+use Rattle.runner.proofs.Turns.{turns_start, turns_out, turn_size, turn_some, turn_next, signal_turn, signal_first}
 use Rattle.runner.proofs.show.ports_end.Goals as goal
 
-pub loop-at-init : goal.loop-at-init
-loop-at-init c = ending_start _
+pub loop-fields-init : goal.loop-fields-init
+loop-fields-init c = (ending_start _, turns_start c.into_iter-fields-iterator.ensures.into_iter_gives c.new-fields-items.ensures)
 
-pub returns-then-size-eq0 : goal.returns-then-size-eq0
-returns-then-size-eq0 c = ending_end c.requires c.loop-at.invariant (walked_out c.loop-at.invariant.walked c.size-size.result c.size-size.ensures c.if-size-eq0.true)
+pub bounds-fields-0 : goal.bounds-fields-0
+bounds-fields-0 c = let v = c.loop-fields.invariant in omega (arith, signal_turn v.1 c.in-Some.ensures.steps c.requires v.0.walked)
 
-pub bounds-signals-at : goal.bounds-signals-at
-bounds-signals-at c = omega (arith, signal_inside c.requires c.loop-at.invariant.walked c.size-size.ensures c.if-size-eq0.false)
+pub loop-fields-preserved-then-fields-le1 : goal.loop-fields-preserved-then-fields-le1
+loop-fields-preserved-then-fields-le1 c =
+    let v = c.loop-fields.invariant in
+    let s = c.in-Some.ensures.steps in
+    (ending_port c.requires v.0 (turn_size v.1 s) (turn_some v.1 s), turn_next v.1 s)
 
-pub overflow_add-at : goal.overflow_add-at
-overflow_add-at c = omega (arith, signal_step c.requires c.loop-at.invariant.walked c.size-size.ensures c.if-size-eq0.false)
-
-pub loop-at-preserved-then-label-le1 : goal.loop-at-preserved-then-label-le1
-loop-at-preserved-then-label-le1 c = ending_port c.requires c.loop-at.invariant c.size-size.ensures c.if-size-eq0.false
-
-pub loop-at-preserved : goal.loop-at-preserved
-loop-at-preserved c = ending_other c.requires c.loop-at.invariant c.size-size.ensures c.if-size-eq0.false (λ z. absurd (omega (arith, z, c.if-label-le1.false)))
+pub loop-fields-preserved : goal.loop-fields-preserved
+loop-fields-preserved c =
+    let v = c.loop-fields.invariant in
+    let s = c.in-Some.ensures.steps in
+    (ending_other c.requires v.0 (turn_size v.1 s) (turn_some v.1 s) (λ z. absurd (omega (arith, z, c.if-fields-le1.false, signal_first v.1 s c.requires v.0.walked))), turn_next v.1 s)
 
 pub returns : goal.returns
-returns c = ending_end c.requires c.loop-at.invariant (walked_end c.loop-at.invariant.walked c.loop-at-test.false).0
+returns c = let v = c.loop-fields.invariant in ending_end c.requires v.0 (walked_out v.0.walked 0 (turns_out v.1 c.in-None.ensures.steps.0) refl)

@@ -1,6 +1,0 @@
-use Rattle.std.proofs.Common.{arith}
-use Rattle.coding.proofs.Emitting.{emitting_start}
-use Rattle.runner.proofs.code.second_code.Goals as goal
-
-pub emit_all-k-requires : goal.emit_all-k-requires
-emit_all-k-requires c = (omega arith, c.requires.1, c.requires.2, omega arith, emitting_start c.args.marks.now c.requires.4 c.requires.5 c.requires.6 c.want_needed.ensures (c.fill-2.ensures.after (λ _ e. e)))
