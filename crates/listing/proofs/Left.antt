@@ -1,16 +1,10 @@
 -- Laws of the records that are left.
 -- Assumes nothing.
-use mathlib.Core.Path.{◌≡◌, refl, sym, ◌∙◌, ap, ap₂}
+use mathlib.Core.Path.{◌≡◌, sym, ◌∙◌, ap, ap₂}
 use mathlib.Core.List.{List, [], ◌∷◌, ◌++◌}
 use Prim.Native.Nat.{ℕ, suc, ◌+◌, ◌^◌, ◌<◌}
 use native.Mathlib.Omega.{arith}
-use lib.ListN.{length, take, drop}
-use lib.Seq.{drop-drop}
-use Rattle.recorder.specs.declared.Cut.{Cut}
-use Rattle.recorder.specs.declared.Cut.TheVariants.{Record, End, Broken}
 use Rattle.recorder.specs.Read as read
-use Rattle.recorder.specs.Standing.{cut_at}
-use Rattle.recorder.proofs.Reading.{split_as, record_within}
 use Rattle.listing.specs.Listing.{line_text, lines_from, lines_of}
 use Rattle.recorder.specs.Records.{left}
 use Rattle.recorder.specs.declared.records.Records.{Records}

@@ -1,10 +1,10 @@
 -- The laws of recorder that other crates cite.
 pub mod Events
+pub mod Left
 pub mod Makes
 pub mod Outcomes
 pub mod Played
 pub mod Reading
-pub mod Records
 pub mod Room
 pub mod Roundtrip
 pub mod Wrote

@@ -1,9 +1,8 @@
 -- A list's records, one after the other. Assumes nothing.
-use Rattle.std.proofs.Common.{ℕ, zero, suc, ◌+◌, ◌-◌, ◌≤◌, ◌<◌, ◌≡◌, min, Bool, true, false, refl, sym, ◌∙◌, ap, List, [], ◌∷◌, length, get_or, take, drop, map, leb, Option, None, Some, arith, MatchOption, Bor, slice_get, unwrap_or, option_map}
+use Rattle.std.proofs.Common.{ℕ, zero, suc, ◌+◌, ◌-◌, ◌≤◌, ◌<◌, ◌≡◌, min, Bool, true, false, refl, sym, ◌∙◌, ap, List, [], ◌∷◌, length, get_or, take, drop, map, leb, Option, None, Some, arith, Bor, slice_get, unwrap_or, option_map}
 use Rattle.std.specs.Iterator.{YieldsFirstRef, Yields}
 use Rattle.std.specs.Iterator.Adapters.{take_steps}
-use Rattle.std.specs.List.{IsSplitAt, zip, range_with_len}
-use Rattle.std.specs.declared.iter.Enumerate.{Enumerate}
+use Rattle.std.specs.List.{zip, range_with_len}
 use Rattle.std.specs.declared.iter.Take.{Take}
 use Rattle.std.specs.declared.iter.Zip.{Zip}
 use Rattle.std.specs.declared.ops.Range.{Range}
@@ -18,9 +17,7 @@ use lib.ListN.{length-drop, length-map}
 use lib.Seq.{get_or-take, length-take-le}
 use borrow.Author.Tests.{leb-true}
 use Rattle.recorder.specs.Read.{Cut, cut, split, before, stopped}
-use Rattle.recorder.proofs.Roundtrip.{split_nil, split_zero, split_record, split_short}
 use Rattle.recorder.specs.declared.records.Records.{Records}
-use Rattle.recorder.proofs.Records.{records_count}
 use Rattle.simulation.specs.Index.{records_in, widths_in, offset, start_of}
 use Rattle.simulation.specs.Wellformed.{widths}
 use Rattle.recorder.specs.Records.{left}

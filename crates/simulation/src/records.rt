@@ -3,7 +3,6 @@ ghost use Rattle.std.specs.Prelude.{◌≡◌};
 ghost use Rattle.simulation.specs.Index.{counted};
 
 pub use recorder::records::Records;
-
 use recorder::records::split_first;
 
 // How many records a list has; an error where words are left that are no record, with how many stand before them.

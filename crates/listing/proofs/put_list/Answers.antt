@@ -1,8 +1,8 @@
-use Rattle.std.proofs.Common.{◌∙◌, ap, inl, length, arith}
+use Rattle.std.proofs.Common.{◌∙◌, ap, inl, arith}
 use Rattle.std.specs.Iterator.Adapters.{enumerate_source, enumerate_count}
 use Rattle.text.proofs.Going.{going_start, going_as, going_step, going_stop, going_end}
 use Rattle.recorder.specs.declared.records.Records.{Records}
-use Rattle.recorder.proofs.Records.{few}
+use Rattle.recorder.proofs.Left.{few}
 use Rattle.listing.proofs.Left.{lines_start, lines_none, lines_next}
 use Rattle.listing.proofs.put_list.Goals as goal
 
@@ -15,7 +15,7 @@ loop-number-init g c =
     record {
       can = (tt, tt, inl (few same counted.source counted.count words (omega (arith, c.well_formed))));
       finite = tt;
-      going = going_as (lines_start _ _ _ (ap enumerate_count same ∙ counted.count) (ap (λ (r : Records). r.rest.now) source ∙ words)) going_start;
+      going = going_as (lines_start _ _ (enumerate_source {I = Records} c.into_iter-number-iterator.result) (ap enumerate_count same ∙ counted.count) (ap (λ (r : Records). r.rest.now) source ∙ words)) going_start;
     }
 
 pub returns-in_err-put_line : goal.returns-in_err-put_line

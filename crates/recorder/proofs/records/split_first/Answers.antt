@@ -1,5 +1,5 @@
 use Rattle.std.proofs.Common.{arith, ◌≡◌, suc}
-use Rattle.recorder.proofs.Records.{splits_nothing, splits_none, splits_at}
+use Rattle.recorder.proofs.Left.{splits_nothing, splits_none, splits_at}
 use Rattle.recorder.proofs.records.split_first.Goals as goal
 
 pub returns-in_err-n : goal.returns-in_err-n
