@@ -25,7 +25,7 @@ use Rattle.simulation.proofs.Kept.{AllNone, all_none, short_none}
 use Rattle.evaluation.specs.Bytes.{Holds}
 use Rattle.evaluation.specs.Ready.{Room, model_in}
 use Rattle.simulation.proofs.Sound.{signals_read}
-use Rattle.evaluation.specs.Ticks.{NoFault, ReadSignals, Filled, GoodTicks, Ticks}
+use Rattle.evaluation.specs.Ticks.{ReadSignals, Filled, GoodTicks, Ticks}
 use Rattle.evaluation.proofs.Calling.{bytes_hold, bytes_count}
 use Rattle.runner.specs.Calls.{Answers, Runs}
 use Rattle.runner.specs.Parts.{Unrefused, Tries}
@@ -89,9 +89,6 @@ module _ {signals exprs stmts bytes ticks : List ℕ} {fired : Option (ℕ × �
   pub signals_read_in : ReadSignals signals
   signals_read_in = record { readable = signals_read largest (raw_of (lists signals exprs stmts)) fine }
 
-  pub no_fault : NoFault signals exprs stmts
-  no_fault = record { widest = largest; faultless = fine }
-
   pub exprs_fit : {n : ℕ} → n ≡ length (records_in exprs) → n ≤ length we
   exprs_fit e = let c = exprs_count largest l fine in let h = u.enough.1 in omega (arith, c, e, h)
 
@@ -126,9 +123,6 @@ module _ {signals exprs stmts bytes ticks : List ℕ} {fired : Option (ℕ × �
     where
       so : Some x ≡ looped (model_in signals exprs stmts)
       so = sym e ∙ f
-
-  pub unlooped : {found : Option ℕ} → found ≡ None → found ≡ looped (model_in signals exprs stmts) → looped (model_in signals exprs stmts) ≡ None
-  unlooped e f = sym f ∙ e
 
   -- without
   pub tried_made : looped (model_in signals exprs stmts) ≡ None → {bytes' : List ℕ} → Ticks signals exprs stmts ticks (firing fired) bytes bytes' → (r : Ran) → answer_of r ≡ None → Tries (lists signals exprs stmts) bytes ticks fired r bytes'

@@ -22,8 +22,8 @@ use Rattle.simulation.specs.Wellformed.{count_of, or_else}
 use Rattle.simulation.specs.Sound.{on}
 use Rattle.simulation.specs.Run.{zeroed}
 use Rattle.simulation.specs.Tick.{Firing, target, given, assigns, loads, become}
-use Rattle.simulation.specs.Index.{size_at, records_in, widths_in, start_of, Indexed, stmts_in}
-use Rattle.simulation.proofs.Steps.{Walked, walked_start, walked_there, walked_next, walked_out, walked_end, walked_within, length_widths}
+use Rattle.simulation.specs.Index.{records_in, widths_in, start_of, Indexed, stmts_in}
+use Rattle.simulation.proofs.Steps.{Walked, walked_start, walked_next, walked_out, length_widths}
 use Rattle.simulation.proofs.Stores.{store}
 use Rattle.simulation.proofs.Tally.{get_d_zeros}
 use Rattle.ordering.specs.Marks.{marked as is_marked}
@@ -35,7 +35,7 @@ use Rattle.evaluation.specs.Late.{Among, is_register, Asks, Registers, StoresDri
 use Rattle.evaluation.proofs.Held.{holds_length}
 use Rattle.evaluation.proofs.Whole.{read_length, driver_there, driver_wide}
 use Rattle.evaluation.proofs.Signals.{signals_long, label_is}
-use Rattle.evaluation.proofs.Committing.{stated, fields_inside, target_known, target_of, register_word, asks_word, count_some, alone}
+use Rattle.evaluation.proofs.Committing.{stated, target_known, target_of, register_word, asks_word, count_some, alone}
 use Rattle.runner.proofs.Turns.{Ahead, turns_out, turn_size, turn_some, turn_next, turn_there, turn_first, signal_turn, signal_first, stmt_turn}
 use Rattle.runner.specs.Plan.{Listing, Controls, Outputs}
 

@@ -4,17 +4,11 @@ use mathlib.Core.Path.{◌≡◌}
 use mathlib.Core.List.{List}
 use native.Mathlib.Omega.{arith}
 use lib.ListN.{length}
-use Rattle.recorder.specs.Lists.{lists}
 use Rattle.recorder.specs.Read.{model_of}
-use Rattle.recorder.specs.Words.{raw_of}
 use Rattle.simulation.specs.Index.{widths_in}
 use Rattle.simulation.specs.Tick.{Firing, tick}
-use Rattle.simulation.proofs.Sound.{signals_read}
-use Rattle.evaluation.specs.Ready.{Prepared, Room}
-use Rattle.evaluation.specs.Ticks.{Filled, ReadSignals, Inputs, Settled, Commits, Ticks}
-
-pub read_signals : {signals exprs stmts expr_table signal_table : List ℕ} → Prepared signals exprs stmts expr_table signal_table → ReadSignals signals
-read_signals {signals} {exprs} {stmts} p = record { readable = signals_read p.widest (raw_of (lists signals exprs stmts)) p.faultless }
+use Rattle.evaluation.specs.Ready.{Room}
+use Rattle.evaluation.specs.Ticks.{Filled, Inputs, Settled, Commits, Ticks}
 
 -- bytes and values of the same lengths
 pub room_kept : {signals exprs bytes bytes' values values' : List ℕ} → Room signals exprs bytes values → length bytes' ≡ length bytes → length values' ≡ length values → Room signals exprs bytes' values'

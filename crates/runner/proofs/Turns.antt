@@ -1,10 +1,10 @@
 -- A loop over the records of a list: what its iterator has left are the records from a word on. Assumes nothing.
-use Prim.Native.Nat.{ℕ, zero, suc, ◌+◌, ◌-◌, ◌≤◌, ◌<◌}
+use Prim.Native.Nat.{ℕ, ◌+◌, ◌-◌, ◌≤◌, ◌<◌}
 use mathlib.Core.Path.{◌≡◌, refl, sym, ◌∙◌, ap}
 use mathlib.Core.List.{List, [], ◌∷◌, tail}
 use native.Mathlib.Omega.{arith}
 use native.Mathlib.Decide.{ℕ_discrete}
-use lib.ListN.{length, get_or, drop, length-drop}
+use lib.ListN.{length, get_or}
 use Rattle.std.specs.declared.iter.Enumerate.{Enumerate}
 use Rattle.recorder.specs.declared.records.Records.{Records}
 use Rattle.simulation.specs.Index.{size_at, fields_at, records_in}

@@ -6,6 +6,8 @@ ghost use Rattle.recorder.specs.Lists.{over};
 ghost use Rattle.simulation.specs.Run.{is_one};
 ghost use Rattle.evaluation.specs.Bytes.{part, same_bytes, gate_of};
 
+use crate::kinds::{AND, OR, XOR};
+
 // Copies n bytes from one slice to another. Most are one bit, for which a loop is slow.
 pub fn copy(to: &mut [u8], at: usize, from: &[u8], start: usize, n: usize)
     requires { (at + n ≤ length to.old) × (start + n ≤ length from.now) }
@@ -88,11 +90,11 @@ pub fn gate(bytes: &mut [u8], kind: u32, at: usize, a: usize, b: usize)
 {
     let x = bytes[a];
     let y = bytes[b];
-    if kind == 4 {
+    if kind == AND {
         bytes[at] = x & y;
-    } else if kind == 5 {
+    } else if kind == OR {
         bytes[at] = x | y;
-    } else if kind == 6 {
+    } else if kind == XOR {
         bytes[at] = x ^ y;
     } else {
         bytes[at] = x ^ 1;

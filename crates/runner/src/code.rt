@@ -16,13 +16,14 @@ ghost use Rattle.coding.specs.Coded.{bits_in, Computable, Coded};
 ghost use Rattle.coding.specs.Emitting.{Unplaced, Placed, Places, MarksLoaded, MarksDrivers, Emitting, Emits, EmitsAll};
 ghost use Rattle.runner.specs.Plan.{Planned};
 
+use crate::kinds::{CONST, READ, REG};
 use crate::lists::{list_controls, list_outputs, list_registers};
-use crate::marks::{driver_marked, is_marked, ready};
+use crate::marks::{MARK, driver_marked, is_marked, ready};
 use crate::tables::CheckedModel;
 use fusing::fill_forms;
 use recorder::read::word;
 use simulation::index;
-use simulation::index::{fields, size, wide};
+use simulation::index::{fields, wide};
 
 // The bits of all expressions, and of all signals; how many registers, signals that they ask for and outputs are listed; how many words the two
 // pieces have.
@@ -44,14 +45,19 @@ pub struct Plan {
     pub used: usize,
 }
 
-// WHAT IS WANTED: 2 at a position of an expression
+// What is known of a position, in a byte of a lent buffer: its value is, or it is wanted.
+const KNOWN: u8 = 1;
+
+const WANTED: u8 = 2;
+
+// WHAT IS WANTED
 
 fn want(values: &mut [u8], p: usize)
     requires { Unplaced values.old }
     ensures { Unplaced values.new }
 {
     if p < values.len() {
-        values[p] = 2;
+        values[p] = WANTED;
     }
 }
 
@@ -70,7 +76,7 @@ fn wanted(m: &CheckedModel, values: &[u8], e: usize) -> bool {
         if p >= values.len() {
             return false;
         }
-        if values[p] == 2 {
+        if values[p] == WANTED {
             return true;
         }
     }
@@ -83,7 +89,7 @@ fn want_stmt(m: &CheckedModel, fields: &[u32], values: &mut [u8])
     ensures { Unplaced values.new }
 {
     want_expr(m, word(fields, 2), values);
-    if word(fields, 0) != 1 {
+    if word(fields, 0) != REG {
         return;
     }
     if word(fields, 5) == 0 {
@@ -130,8 +136,8 @@ fn want_operands(m: &CheckedModel, e: usize, values: &mut [u8])
     ensures { Unplaced values.new }
 {
     match fields(m.exprs, index::start(m.exprs, m.starts, e)) {
-        [0, ..] => {}
-        [1, _, s, ..] => want_driver(m, wide(*s), values),
+        [CONST, ..] => {}
+        [READ, _, s, ..] => want_driver(m, wide(*s), values),
         [_, _, operands @ ..] => {
             for o in operands {
                 want_expr(m, *o, values);
@@ -190,7 +196,7 @@ fn placed(values: &[u8], p: usize, base: usize, top: usize) -> bool
         return p < top;
     }
     if p < values.len() {
-        return values[p] == 1;
+        return values[p] == KNOWN;
     }
     false
 }
@@ -229,7 +235,7 @@ fn place(values: &mut [u8], from: usize, end: usize)
     ensures { Places from end values.old values.new }
 {
     for p in from..end {
-        values[p] = 1;
+        values[p] = KNOWN;
     }
 }
 
@@ -254,7 +260,7 @@ fn put(
     let begin = m.expr_offset(x);
     let end = m.expr_offset(x + 1);
     place(values, begin, end);
-    marks[x] = 1;
+    marks[x] = MARK;
 }
 
 // Number i of the order becomes code word k, if it is wanted: how many code words there are then. None where it can't be computed.
@@ -315,7 +321,7 @@ fn named(m: &CheckedModel, at: usize, marks: &[u8]) -> bool
     if !is_marked(marks, wide(m.stmts[at + 3])) {
         return false;
     }
-    if m.stmts[at + 1] != 1 {
+    if m.stmts[at + 1] != REG {
         return true;
     }
     if m.stmts[at + 6] == 0 {

@@ -12,6 +12,7 @@ ghost use Rattle.evaluation.specs.Ticks.{Commits};
 ghost use Rattle.evaluation.specs.Late.{Registers, LoadsMarked, LoadsListed};
 ghost use Rattle.evaluation.specs.Loads.{stmt_in, Stated, Begins, Control, control_at, enable_at, by_marks, Markable, MarkOf, NotesOne, Noted, StoresMarked, StoresLoad};
 
+use crate::kinds::REG;
 use crate::store::store;
 use crate::tables::CheckedModel;
 use simulation::Edge;
@@ -64,21 +65,28 @@ pub fn enable_at(stmts: &[u32], at: usize) -> usize
     at + 10
 }
 
-// What the register at a word loads: nothing (0), its next value (1), its reset's value (2).
+// What a register loads, in a byte of a lent buffer: nothing, its next value, its reset's value.
+const NOTHING: u8 = 0;
+
+const NEXT: u8 = 1;
+
+const RESET: u8 = 2;
+
+// What the register at a word loads.
 fn load_of(m: &CheckedModel, at: usize, fired: Option<Edge>, bytes: &[u8]) -> u8
     requires { (sum_to (widths_in m.now.signals.now) (length (records_in m.now.signals.now)) ≤ length bytes.now) × Begins m.now.stmts.now at × (get_or m.now.stmts.now (at + 1) 0 ≡ 1) }
     ensures { (k : ℕ) → k < length (records_in m.now.stmts.now) → at ≡ start_of m.now.stmts.now k → MarkOf m.now.signals.now m.now.stmts.now (firing (fired_of fired)) bytes.now k result }
 {
     if control(m, at + 6, false, bytes) {
-        return 2;
+        return RESET;
     }
     if !fires(fired, m.stmts[at + 4], m.stmts[at + 5]) {
-        return 0;
+        return NOTHING;
     }
     if control(m, enable_at(m.stmts, at), true, bytes) {
-        return 1;
+        return NEXT;
     }
-    0
+    NOTHING
 }
 
 // Notes for its signal what the statement at a word loads.
@@ -86,7 +94,7 @@ fn note_load(m: &CheckedModel, at: usize, fired: Option<Edge>, bytes: &[u8], mar
     requires { (sum_to (widths_in m.now.signals.now) (length (records_in m.now.signals.now)) ≤ length bytes.now) × Begins m.now.stmts.now at × (length (records_in m.now.signals.now) ≤ length marks.old) }
     ensures { (k : ℕ) → k < length (records_in m.now.stmts.now) → at ≡ start_of m.now.stmts.now k → NotesOne m.now.signals.now m.now.stmts.now (firing (fired_of fired)) bytes.now k marks.old marks.new }
 {
-    if m.stmts[at + 1] != 1 {
+    if m.stmts[at + 1] != REG {
         return;
     }
     let t = wide(m.stmts[at + 2]);
@@ -110,14 +118,14 @@ fn loaded(stmts: &[u32], at: usize, marks: &[u8]) -> Option<u32>
     requires { Begins stmts.now at × Markable stmts.now marks.now }
     ensures { (k : ℕ) → k < length (records_in stmts.now) → at ≡ start_of stmts.now k → result ≡ by_marks marks.now (stmt_in stmts.now k) }
 {
-    if stmts[at + 1] != 1 {
+    if stmts[at + 1] != REG {
         return None;
     }
     let mark = marks[wide(stmts[at + 2])];
-    if mark == 1 {
+    if mark == NEXT {
         return Some(stmts[at + 3]);
     }
-    if mark != 2 {
+    if mark != RESET {
         return None;
     }
     if stmts[at + 6] == 0 {
@@ -149,7 +157,8 @@ fn store_loads(m: &CheckedModel, values: &[u8], marks: &[u8], bytes: &mut [u8])
     }
 }
 
-// BY A LIST of the words at which registers begin: the others load nothing
+// BY A LIST of the words at which registers begin: the others load nothing. One function for these and those above would have to take an
+// iterator of words, and two of them would be written only for that.
 
 fn note_listed(
     m: &CheckedModel,
@@ -206,7 +215,13 @@ pub fn commit_listed(
 }
 
 // The registers load, with the values of all expressions. The marks are work.
-pub fn commit(m: &CheckedModel, fired: Option<Edge>, values: &[u8], marks: &mut [u8], bytes: &mut [u8])
+pub fn commit(
+    m: &CheckedModel,
+    fired: Option<Edge>,
+    values: &[u8],
+    marks: &mut [u8],
+    bytes: &mut [u8],
+)
     requires { Room m.now.signals.now m.now.exprs.now bytes.old values.now × (length (records_in m.now.signals.now) ≤ length marks.old) }
     ensures { Commits m.now.signals.now m.now.exprs.now m.now.stmts.now (firing (fired_of fired)) values.now bytes.old bytes.new }
 {

@@ -1,40 +1,27 @@
 // The checks of a model and of a call, lent no more of the tables than the lists can need: what is lent is cleared.
-ghost use Rattle.std.specs.Prelude.{◌≡◌, min};
-ghost use Rattle.recorder.specs.Lists.{lists};
+ghost use Rattle.std.specs.Prelude.{◌≡◌};
 ghost use Rattle.simulation.specs.Wellformed.{malformed as malformed_by};
 ghost use Rattle.simulation.specs.Fault.{call_of, checked_by};
+ghost use Rattle.simulation.specs.Model.{lists_of};
 ghost use Rattle.simulation.specs.Run.{answer_of, fired_of, zeroed};
 
 use model_check::{call, check};
 use refusal::Refusal;
 use simulation::{Edge, Model};
 
-fn least(a: usize, b: usize) -> usize
-    ensures { result ≡ min a b }
-{
-    if a < b { a } else { b }
-}
-
 // Refusal 12: the first faulty record.
 pub fn malformed(
-    signals: &[u32],
+    m: Model,
     signal_table: &mut [u32],
-    exprs: &[u32],
     expr_table: &mut [u32],
-    stmts: &[u32],
     bytes: &mut [u8],
     widest: u32,
 ) -> Option<usize>
-    ensures fault { result ≡ malformed_by widest (lists signals.now exprs.now stmts.now) }
+    ensures fault { result ≡ malformed_by widest (lists_of m.entry) }
     ensures zeros { bytes.new ≡ zeroed bytes.old }
 {
-    let s = least(signals.len(), signal_table.len());
-    let e = least(exprs.len(), expr_table.len());
-    let m = Model {
-        signals,
-        exprs,
-        stmts,
-    };
+    let s = m.signals.len().min(signal_table.len());
+    let e = m.exprs.len().min(expr_table.len());
     check::malformed(
         m,
         &mut signal_table[..s],
@@ -46,11 +33,9 @@ pub fn malformed(
 
 // Refusals 12, 1 and 14.
 pub fn check_call(
-    signals: &[u32],
+    m: Model,
     signal_table: &mut [u32],
-    exprs: &[u32],
     expr_table: &mut [u32],
-    stmts: &[u32],
     bytes: &[u8],
     ticks: &[u8],
     fired: Option<Edge>,
@@ -59,16 +44,11 @@ pub fn check_call(
     work_signals: &mut [u8],
     widest: u32,
 ) -> Result<(), Refusal>
-    ensures answer { answer_of result ≡ checked_by widest (call_of (lists signals.now exprs.now stmts.now) bytes.now ticks.now (fired_of fired) work_bits.now work_exprs.now work_signals.old) }
+    ensures answer { answer_of result ≡ checked_by widest (call_of (lists_of m.entry) bytes.now ticks.now (fired_of fired) work_bits.now work_exprs.now work_signals.old) }
     ensures zeros { work_signals.new ≡ zeroed work_signals.old }
 {
-    let s = least(signals.len(), signal_table.len());
-    let e = least(exprs.len(), expr_table.len());
-    let m = Model {
-        signals,
-        exprs,
-        stmts,
-    };
+    let s = m.signals.len().min(signal_table.len());
+    let e = m.exprs.len().min(expr_table.len());
     call::check_call(
         m,
         &mut signal_table[..s],

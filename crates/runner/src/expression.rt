@@ -6,6 +6,7 @@ ghost use Rattle.simulation.specs.Index.{records_in, widths_in, offset as sum_to
 ghost use Rattle.evaluation.specs.Ready.{Ready, Evaluated, Prepared, Room, Computed};
 
 use crate::bytes::{copy, copy_within, equal, gate, number, product, put_number};
+use crate::kinds::{AND, CONCAT, CONST, EQ, MUX, NOT, OR, READ, XOR};
 use crate::tables::CheckedModel;
 use simulation::index::wide;
 
@@ -34,7 +35,7 @@ fn eval_not(m: &CheckedModel, at: usize, e: usize, values: &mut [u8])
 {
     let to = m.expr_offset(e);
     let a = operand(m, at + 3);
-    gate(values, 3, to, a, a);
+    gate(values, NOT, to, a, a);
 }
 
 fn eval_mux(m: &CheckedModel, at: usize, e: usize, values: &mut [u8])
@@ -126,12 +127,12 @@ fn eval_operands(m: &CheckedModel, at: usize, e: usize, kind: u32, values: &mut 
     ensures { Evaluated m.now.exprs.now e values.old values.new }
 {
     match kind {
-        4 | 5 | 6 => eval_gate(m, at, e, kind, values),
-        7 => eval_mux(m, at, e, values),
-        3 => eval_not(m, at, e, values),
-        0 => eval_const(m, at, e, values),
-        8 => eval_equal(m, at, e, values),
-        2 => eval_concat(m, at, e, values),
+        AND | OR | XOR => eval_gate(m, at, e, kind, values),
+        MUX => eval_mux(m, at, e, values),
+        NOT => eval_not(m, at, e, values),
+        CONST => eval_const(m, at, e, values),
+        EQ => eval_equal(m, at, e, values),
+        CONCAT => eval_concat(m, at, e, values),
         _ => eval_product(m, at, e, values),
     }
 }
@@ -164,7 +165,7 @@ pub fn eval_expr(m: &CheckedModel, bytes: &[u8], e: usize, values: &mut [u8])
 {
     let at = m.start(e);
     let kind = m.exprs[at + 1];
-    if kind == 1 {
+    if kind == READ {
         eval_read(m, bytes, at, e, values);
     } else {
         eval_operands(m, at, e, kind, values);

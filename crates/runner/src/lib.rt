@@ -8,6 +8,7 @@ mod coded; // coded.rt: the values of expressions along code
 mod commit; // commit.rt: the registers load
 mod cut; // cut.rt: the checks of a model and of a call, on parts of the tables
 mod expression; // expression.rt: the value of one expression
+mod kinds; // kinds.rt: the numbers of kinds
 mod late; // late.rt: one tick by a plan
 mod list; // list.rt: a list of ticks
 mod lists; // lists.rt: what a plan lists
@@ -26,17 +27,19 @@ mod whole; // whole.rt: a whole list's run
 ghost use Rattle.std.specs.Prelude.{◌≡◌};
 ghost use Rattle.recorder.specs.Lists.{lists};
 ghost use Rattle.simulation.specs.Fault.{call_of};
+ghost use Rattle.simulation.specs.Model.{lists_of};
 ghost use Rattle.simulation.specs.Run.{fired_of, zeroed};
 ghost use Rattle.runner.specs.Calls.{Runs, Answers, RunsList};
 ghost use Rattle.runner.specs.Parts.{Unrefused, Tries};
 ghost use Rattle.runner.specs.Whole.{list_call};
 
 use cut::check_call;
+use list::TickList;
 use prepare::{fill_tables, prepare};
 use refusal::Refusal;
 use show::ports_end;
-use simulation::Edge;
 use simulation::index::count;
+use simulation::{Edge, Model};
 use tables::CheckedModel;
 use ticks::tick;
 use whole::{run_list_with, zero_tables, zero_works};
@@ -46,9 +49,7 @@ pub const WIDEST: u32 = 4096;
 
 // The tick of a call that nothing refuses but maybe a loop (13). The tables are work.
 fn run_checked(
-    signals: &[u32],
-    exprs: &[u32],
-    stmts: &[u32],
+    m: Model,
     bytes: &mut [u8],
     ticks: &[u8],
     fired: Option<Edge>,
@@ -61,36 +62,28 @@ fn run_checked(
     driver_table: &mut [u32],
     order: &mut [u32],
 ) -> Result<(), Refusal>
-    requires { Unrefused (lists signals.now exprs.now stmts.now) bytes.old ticks.now (fired_of fired) work_bits.old work_exprs.old work_signals.old }
-    ensures { Tries (lists signals.now exprs.now stmts.now) bytes.old ticks.now (fired_of fired) result bytes.new }
+    requires { Unrefused (lists_of m) bytes.old ticks.now (fired_of fired) work_bits.old work_exprs.old work_signals.old }
+    ensures { Tries (lists_of m.entry) bytes.old ticks.now (fired_of fired) result bytes.new }
 {
-    fill_tables(
-        signals,
-        exprs,
-        stmts,
-        starts,
-        expr_table,
-        signal_table,
-        driver_table,
-    );
-    let m = CheckedModel {
-        signals: signals,
-        exprs: exprs,
-        stmts: stmts,
+    fill_tables(m, starts, expr_table, signal_table, driver_table);
+    let checked = CheckedModel {
+        signals: m.signals,
+        exprs: m.exprs,
+        stmts: m.stmts,
         starts: &*starts,
         expr_table: &*expr_table,
         signal_table: &*signal_table,
         driver_table: &*driver_table,
-        expr_count: count(exprs),
-        signal_count: count(signals),
-        ports: ports_end(signals),
+        expr_count: count(m.exprs),
+        signal_count: count(m.signals),
+        ports: ports_end(m.signals),
     };
-    match prepare(&m, order, work_exprs) {
+    match prepare(&checked, order, work_exprs) {
         Err(s) => Err(Refusal::CombinationalLoop(s)),
         Ok(ordered) => {
             work_bits.fill(0);
             tick(
-                &m,
+                &checked,
                 &order[..ordered],
                 ticks,
                 fired,
@@ -106,9 +99,7 @@ fn run_checked(
 
 // 12, 1 and 14, then 13 and the tick.
 fn run_with(
-    signals: &[u32],
-    exprs: &[u32],
-    stmts: &[u32],
+    m: Model,
     bytes: &mut [u8],
     ticks: &[u8],
     fired: Option<Edge>,
@@ -121,14 +112,12 @@ fn run_with(
     driver_table: &mut [u32],
     order: &mut [u32],
 ) -> Result<(), Refusal>
-    ensures { Answers (call_of (lists signals.now exprs.now stmts.now) bytes.old ticks.now (fired_of fired) work_bits.old work_exprs.old work_signals.old) result bytes.new }
+    ensures { Answers (call_of (lists_of m.entry) bytes.old ticks.now (fired_of fired) work_bits.old work_exprs.old work_signals.old) result bytes.new }
 {
     check_call(
-        signals,
+        m,
         signal_table,
-        exprs,
         expr_table,
-        stmts,
         bytes,
         ticks,
         fired,
@@ -138,9 +127,7 @@ fn run_with(
         WIDEST,
     )?;
     run_checked(
-        signals,
-        exprs,
-        stmts,
+        m,
         bytes,
         ticks,
         fired,
@@ -174,10 +161,13 @@ pub fn run(
     let mut signal_table = [0u32; 65536];
     let mut driver_table = [0u32; 65536];
     let mut order = [0u32; 65536];
-    let r = run_with(
+    let m = Model {
         signals,
         exprs,
         stmts,
+    };
+    let r = run_with(
+        m,
         bytes,
         ticks,
         fired,
@@ -222,12 +212,15 @@ pub fn run_list(
 {
     answers.fill(0);
     shown.fill(0);
-    let r = run_list_with(
+    let m = Model {
         signals,
         exprs,
         stmts,
-        heads,
-        bits,
+    };
+    let list = TickList { heads, bits };
+    let r = run_list_with(
+        m,
+        list,
         bytes,
         work_bits,
         work_exprs,

@@ -24,6 +24,13 @@ use refusal::Refusal;
 use simulation::Edge;
 use simulation::index::wide;
 
+// A list of ticks: three words each in `heads`, their bits one after the other.
+#[derive(Clone, Copy)]
+pub struct TickList<'a> {
+    pub heads: &'a [u32],
+    pub bits: &'a [u8],
+}
+
 // One tick, by the plan if there is one.
 fn tick_either(
     m: &CheckedModel,
@@ -123,14 +130,13 @@ fn finish(
     settle(m, order, bytes, values, work_exprs);
 }
 
-// All ticks: three words each in `heads`, their bits one after the other.
+// All ticks of a list.
 pub fn run_ticks(
     m: &CheckedModel,
     order: &[u32],
     code: Option<Code>,
     inputs: usize,
-    heads: &[u32],
-    bits: &[u8],
+    list: TickList,
     bytes: &mut [u8],
     values: &mut [u8],
     work_exprs: &mut [u8],
@@ -138,25 +144,25 @@ pub fn run_ticks(
     answers: &mut [u64],
     shown: &mut [u8],
 )
-    requires { Room m.now.signals.now m.now.exprs.now bytes.old values.old × (m.now.expr_count ≤ length work_exprs.old) × (m.now.signal_count ≤ length work_signals.old) × Ordered (model_in m.now.signals.now m.now.exprs.now m.now.stmts.now) m.now.expr_count order.now × (looped (model_in m.now.signals.now m.now.exprs.now m.now.stmts.now) ≡ None) × Filled (widths_in m.now.exprs.now) values.old × Filled (widths_in m.now.signals.now) bytes.old × (inputs ≡ total input_width (signals_in m.now.signals.now)) × (2 * (length heads.now / 3) ≤ length answers.old) × (total output_width (signals_in m.now.signals.now) * (length heads.now / 3) ≤ length shown.old) × (malformed largest (lists m.now.signals.now m.now.exprs.now m.now.stmts.now) ≡ None) × IfSome code (λ c. Planned m.now.signals.now m.now.exprs.now m.now.stmts.now m.now.expr_count m.now.signal_count c order.now values.old) }
-    ensures { RunsTicks (lists m.now.signals.now m.now.exprs.now m.now.stmts.now) heads.now bits.now bytes.old bytes.new answers.old answers.new shown.old shown.new }
+    requires { Room m.now.signals.now m.now.exprs.now bytes.old values.old × (m.now.expr_count ≤ length work_exprs.old) × (m.now.signal_count ≤ length work_signals.old) × Ordered (model_in m.now.signals.now m.now.exprs.now m.now.stmts.now) m.now.expr_count order.now × (looped (model_in m.now.signals.now m.now.exprs.now m.now.stmts.now) ≡ None) × Filled (widths_in m.now.exprs.now) values.old × Filled (widths_in m.now.signals.now) bytes.old × (inputs ≡ total input_width (signals_in m.now.signals.now)) × (2 * (length list.heads.now / 3) ≤ length answers.old) × (total output_width (signals_in m.now.signals.now) * (length list.heads.now / 3) ≤ length shown.old) × (malformed largest (lists m.now.signals.now m.now.exprs.now m.now.stmts.now) ≡ None) × IfSome code (λ c. Planned m.now.signals.now m.now.exprs.now m.now.stmts.now m.now.expr_count m.now.signal_count c order.now values.old) }
+    ensures { RunsTicks (lists m.now.signals.now m.now.exprs.now m.now.stmts.now) list.entry.heads.now list.entry.bits.now bytes.old bytes.new answers.old answers.new shown.old shown.new }
 {
     let mut at: usize = 0;
     let mut pos: usize = 0;
     let mut to: usize = 0;
     let mut late = false;
-    let k = heads.len() / 3;
+    let k = list.heads.len() / 3;
     for i in 0..k {
-        let asked = wide(heads[at]);
-        let end = end_of(bits, pos, asked);
-        let fired = fired_by(heads[at + 1], heads[at + 2]);
+        let asked = wide(list.heads[at]);
+        let end = end_of(list.bits, pos, asked);
+        let fired = fired_by(list.heads[at + 1], list.heads[at + 2]);
         let r = run_tick(
             m,
             order,
             code,
             inputs,
             asked,
-            &bits[pos..end],
+            &list.bits[pos..end],
             fired,
             bytes,
             values,

@@ -8,6 +8,8 @@ ghost use Rattle.evaluation.specs.Late.{Among, Asks, Registers};
 ghost use Rattle.runner.specs.Plan.{Listing, Controls, Outputs};
 
 use crate::commit::enable_at;
+use crate::kinds::{OUTPUT, REG};
+use crate::marks::MARK;
 use crate::tables::CheckedModel;
 use simulation::index::wide;
 use simulation::records::Records;
@@ -27,7 +29,12 @@ fn push(order: &mut [u32], from: usize, room: usize, k: usize, x: usize) -> Opti
 }
 
 // The words at which registers begin.
-pub fn list_registers(m: &CheckedModel, order: &mut [u32], from: usize, room: usize) -> Option<usize>
+pub fn list_registers(
+    m: &CheckedModel,
+    order: &mut [u32],
+    from: usize,
+    room: usize,
+) -> Option<usize>
     requires { from + room ≤ length order.old }
     ensures kept { take from order.new ≡ take from order.old }
     ensures few { IfSome result (λ r. r ≤ room) }
@@ -36,7 +43,7 @@ pub fn list_registers(m: &CheckedModel, order: &mut [u32], from: usize, room: us
     let mut k: usize = 0;
     let mut at: usize = 0;
     for fields in Records::new(m.stmts) {
-        if fields[0] == 1 {
+        if fields[0] == REG {
             k = push(order, from, room, k, at)?;
         }
         at += fields.len() + 1;
@@ -62,7 +69,7 @@ fn list_once(
     if marks[i] != 0 {
         return Some(k);
     }
-    marks[i] = 1;
+    marks[i] = MARK;
     push(order, from, room, k, i)
 }
 
@@ -102,7 +109,7 @@ fn list_asked(
     ensures few { IfSome result (λ r. r ≤ room) }
     ensures listed { IfSome result (λ r. Listing order.new from r marks.new × ((number x : ℕ) → number < length (records_in m.now.stmts.now) → at ≡ start_of m.now.stmts.now number → Asks (stmt_in m.now.stmts.now number) x → Among order.new from r x) × ((y : ℕ) → Among order.old from k y → Among order.new from r y)) }
 {
-    if m.stmts[at + 1] != 1 {
+    if m.stmts[at + 1] != REG {
         return Some(k);
     }
     let a = list_control(m.stmts, at + 6, order, from, room, k, marks)?;
@@ -143,7 +150,7 @@ pub fn list_outputs(m: &CheckedModel, order: &mut [u32], from: usize, room: usiz
 {
     let mut k: usize = 0;
     for (s, fields) in Records::new(m.signals).enumerate() {
-        if fields[0] == 1 {
+        if fields[0] == OUTPUT {
             k = push(order, from, room, k, s)?;
         }
     }

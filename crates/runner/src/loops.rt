@@ -7,7 +7,7 @@ ghost use Rattle.ordering.specs.Marks.{Backed};
 ghost use Rattle.ordering.specs.Words.{model_in, model_with, Tabled, Faultless};
 ghost use Rattle.ordering.specs.Loops.{finds, Touch, Touches, Found, OnLoop};
 
-use crate::marks::{driver_marked, is_marked, touched};
+use crate::marks::{MARK, driver_marked, is_marked, touched};
 use crate::tables::CheckedModel;
 
 fn finds_one(m: &CheckedModel, marks: &[u8], s: usize, e: usize) -> bool
@@ -27,7 +27,7 @@ fn touch_one(m: &CheckedModel, marks: &mut [u8], s: usize, e: usize) -> bool
     if !finds_one(m, marks, s, e) {
         return false;
     }
-    marks[e] = 1;
+    marks[e] = MARK;
     true
 }
 
@@ -44,7 +44,7 @@ fn touch_pass(m: &CheckedModel, marks: &mut [u8], s: usize) -> bool
     any
 }
 
-// Marks all expressions that lead to signal s.
+// Marks all expressions that lead to signal s: passes until one adds none, and how many are needed is not known before, so no `for`.
 fn mark_leading(m: &CheckedModel, marks: &mut [u8], s: usize)
     requires { m.now.expr_count ≤ length marks.old }
     ensures { Found (model_with m.now.signals.now m.now.exprs.now m.now.stmts.now) s marks.new }

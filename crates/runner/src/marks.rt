@@ -5,14 +5,18 @@ ghost use Rattle.simulation.specs.Index.{records_in, Driven};
 ghost use Rattle.ordering.specs.Marks.{marked, ready as ready_in, touched as touched_in};
 ghost use Rattle.ordering.specs.Words.{model_in, driver_marked, Tabled};
 
+use crate::kinds::{CONST, READ};
 use crate::tables::CheckedModel;
 use simulation::index::wide;
+
+// A mark, in a byte of a lent buffer; 0 is none.
+pub const MARK: u8 = 1;
 
 pub fn is_marked(marks: &[u8], e: usize) -> bool
     ensures { result ≡ marked marks.now e }
 {
     if e < marks.len() {
-        return 1 <= marks[e];
+        return MARK <= marks[e];
     }
     false
 }
@@ -60,10 +64,10 @@ pub fn ready(m: &CheckedModel, marks: &[u8], e: usize) -> bool
 {
     let at = m.start(e);
     let kind = m.exprs[at + 1];
-    if kind == 0 {
+    if kind == CONST {
         return true;
     }
-    if kind == 1 {
+    if kind == READ {
         return driver_marked(m, marks, wide(m.exprs[at + 3]), true);
     }
     all_marked(m.exprs, at + 3, wide(m.exprs[at]) - 3, marks)
@@ -76,10 +80,10 @@ pub fn touched(m: &CheckedModel, marks: &[u8], s: usize, e: usize) -> bool
 {
     let at = m.start(e);
     let kind = m.exprs[at + 1];
-    if kind == 0 {
+    if kind == CONST {
         return false;
     }
-    if kind == 1 {
+    if kind == READ {
         let y = wide(m.exprs[at + 3]);
         if y == s {
             return true;

@@ -8,26 +8,25 @@ ghost use Rattle.evaluation.specs.Ticks.{Ordered};
 use crate::loops::lowest_on_loop;
 use crate::sort::sort;
 use crate::tables::CheckedModel;
+use simulation::Model;
 use simulation::index::{fill_drivers, fill_offsets, fill_starts};
 
 pub fn fill_tables(
-    signals: &[u32],
-    exprs: &[u32],
-    stmts: &[u32],
+    m: Model,
     starts: &mut [u32],
     expr_table: &mut [u32],
     signal_table: &mut [u32],
     driver_table: &mut [u32],
 )
-    ensures started { Starts exprs.now starts.new }
-    ensures expr_offsets { Indexed (widths_in exprs.now) expr_table.new }
-    ensures signal_offsets { Indexed (widths_in signals.now) signal_table.new }
-    ensures driven { Driven stmts.now driver_table.new }
+    ensures started { Starts m.entry.exprs.now starts.new }
+    ensures expr_offsets { Indexed (widths_in m.entry.exprs.now) expr_table.new }
+    ensures signal_offsets { Indexed (widths_in m.entry.signals.now) signal_table.new }
+    ensures driven { Driven m.entry.stmts.now driver_table.new }
 {
-    fill_starts(exprs, starts);
-    fill_offsets(exprs, expr_table);
-    fill_offsets(signals, signal_table);
-    fill_drivers(stmts, driver_table);
+    fill_starts(m.exprs, starts);
+    fill_offsets(m.exprs, expr_table);
+    fill_offsets(m.signals, signal_table);
+    fill_drivers(m.stmts, driver_table);
 }
 
 // Fills the order: how many expressions it has, all or none, or the lowest signal on a loop.

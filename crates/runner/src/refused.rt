@@ -1,22 +1,22 @@
 // A list of ticks of which none is made: a signal byte is no bit, or the model has a loop.
 ghost use Rattle.std.specs.Prelude.{◌≡◌, ◌*◌, ◌/◌, ◌≤◌, length};
 ghost use Rattle.std.specs.Prelude.{None};
-ghost use Rattle.recorder.specs.Lists.{lists};
 ghost use Rattle.recorder.specs.Read.{model_of};
 ghost use Rattle.recorder.specs.Words.{raw_of};
 ghost use Rattle.simulation.specs.Wellformed.{largest, malformed};
 ghost use Rattle.simulation.specs.Index.{records_in};
+ghost use Rattle.simulation.specs.Model.{lists_of};
 ghost use Rattle.simulation.specs.Run.{answer_of, fired_of, total, input_width, signal_bytes};
 ghost use Rattle.evaluation.specs.Ticks.{signals_in};
 ghost use Rattle.runner.specs.Calls.{output_width, handed};
 ghost use Rattle.runner.specs.Parts.{tick_causes, RunsTicks};
 ghost use Rattle.runner.specs.Whole.{among, Stopped};
 
-use crate::list::head_fault;
+use crate::list::{TickList, head_fault};
 use crate::show::{end_of, fired_by, ports_end, put_answer, show};
 use refusal::Refusal;
-use simulation::Edge;
 use simulation::index::wide;
+use simulation::{Edge, Model};
 
 // What refuses a tick: what stands ahead of its own causes, those, or what stands behind them.
 fn tick_refusal(
@@ -37,11 +37,8 @@ fn tick_refusal(
 
 // All ticks, each with its answer; the outputs show the bytes as they stand.
 pub fn refuse_ticks(
-    signals: &[u32],
-    exprs: &[u32],
-    stmts: &[u32],
-    heads: &[u32],
-    bits: &[u8],
+    m: Model,
+    list: TickList,
     bytes: &[u8],
     ahead: Result<(), Refusal>,
     count: usize,
@@ -50,21 +47,29 @@ pub fn refuse_ticks(
     answers: &mut [u64],
     shown: &mut [u8],
 )
-    requires { (malformed largest (lists signals.now exprs.now stmts.now) ≡ None) × (signal_bytes (model_of (raw_of (lists signals.now exprs.now stmts.now))) ≤ length bytes.now) × (2 * (length heads.now / 3) ≤ length answers.old) × (total output_width (signals_in signals.now) * (length heads.now / 3) ≤ length shown.old) × (count ≡ length (records_in signals.now)) × (inputs ≡ total input_width (signals_in signals.now)) × Stopped (lists signals.now exprs.now stmts.now) bytes.now (answer_of ahead) (answer_of behind) }
-    ensures { RunsTicks (lists signals.now exprs.now stmts.now) heads.now bits.now bytes.now bytes.now answers.old answers.new shown.old shown.new }
+    requires { (malformed largest (lists_of m) ≡ None) × (signal_bytes (model_of (raw_of (lists_of m))) ≤ length bytes.now) × (2 * (length list.heads.now / 3) ≤ length answers.old) × (total output_width (signals_in m.signals.now) * (length list.heads.now / 3) ≤ length shown.old) × (count ≡ length (records_in m.signals.now)) × (inputs ≡ total input_width (signals_in m.signals.now)) × Stopped (lists_of m) bytes.now (answer_of ahead) (answer_of behind) }
+    ensures { RunsTicks (lists_of m.entry) list.entry.heads.now list.entry.bits.now bytes.now bytes.now answers.old answers.new shown.old shown.new }
 {
-    let ports = ports_end(signals);
+    let ports = ports_end(m.signals);
     let mut at: usize = 0;
     let mut pos: usize = 0;
     let mut to: usize = 0;
-    let k = heads.len() / 3;
+    let k = list.heads.len() / 3;
     for i in 0..k {
-        let asked = wide(heads[at]);
-        let end = end_of(bits, pos, asked);
-        let fired = fired_by(heads[at + 1], heads[at + 2]);
-        let r = tick_refusal(ahead, count, inputs, asked, &bits[pos..end], fired, behind);
+        let asked = wide(list.heads[at]);
+        let end = end_of(list.bits, pos, asked);
+        let fired = fired_by(list.heads[at + 1], list.heads[at + 2]);
+        let r = tick_refusal(
+            ahead,
+            count,
+            inputs,
+            asked,
+            &list.bits[pos..end],
+            fired,
+            behind,
+        );
         put_answer(answers, 2 * i, r);
-        to = show(signals, bytes, shown, to, ports);
+        to = show(m.signals, bytes, shown, to, ports);
         at += 3;
         pos = end;
     }

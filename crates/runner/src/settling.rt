@@ -8,6 +8,7 @@ ghost use Rattle.evaluation.specs.Settling.{InMarks, RightOn, SettlesOne, Settle
 ghost use Rattle.evaluation.specs.Ticks.{Filled, Ordered, Settles, SettlesNamed, Settled};
 
 use crate::expression::eval_expr;
+use crate::marks::MARK;
 use crate::sort::adds_one;
 use crate::store::store_assigned;
 use crate::tables::CheckedModel;
@@ -35,7 +36,7 @@ fn settle_one(m: &CheckedModel, e: usize, bytes: &[u8], values: &mut [u8], marks
         return false;
     }
     eval_expr(m, bytes, e, values);
-    marks[e] = 1;
+    marks[e] = MARK;
     true
 }
 
@@ -52,7 +53,7 @@ fn settle_pass(m: &CheckedModel, bytes: &[u8], values: &mut [u8], marks: &mut [u
     any
 }
 
-// In passes, of a model without a loop.
+// In passes until one evaluates none, of a model without a loop; how many are needed is not known before, so no `for`.
 fn settle_marked(m: &CheckedModel, bytes: &[u8], values: &mut [u8], marks: &mut [u8])
     requires { Room m.now.signals.now m.now.exprs.now bytes.now values.old × (m.now.expr_count ≤ length marks.old) × (looped (model_in m.now.signals.now m.now.exprs.now m.now.stmts.now) ≡ None) × Filled (widths_in m.now.exprs.now) values.old }
     ensures { Settles m.now.signals.now m.now.exprs.now m.now.stmts.now bytes.now values.new }
@@ -74,7 +75,13 @@ fn settle_plain(m: &CheckedModel, order: &[u32], bytes: &[u8], values: &mut [u8]
 }
 
 // The values of the n expressions, and in each assigned one of the `count` signals its expression's.
-pub fn settle(m: &CheckedModel, order: &[u32], bytes: &mut [u8], values: &mut [u8], marks: &mut [u8])
+pub fn settle(
+    m: &CheckedModel,
+    order: &[u32],
+    bytes: &mut [u8],
+    values: &mut [u8],
+    marks: &mut [u8],
+)
     requires { Room m.now.signals.now m.now.exprs.now bytes.old values.old × (m.now.expr_count ≤ length marks.old) × Ordered (model_in m.now.signals.now m.now.exprs.now m.now.stmts.now) m.now.expr_count order.now × (looped (model_in m.now.signals.now m.now.exprs.now m.now.stmts.now) ≡ None) × Filled (widths_in m.now.exprs.now) values.old }
     ensures { Settled m.now.signals.now m.now.exprs.now m.now.stmts.now bytes.old bytes.new values.new }
 {

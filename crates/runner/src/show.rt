@@ -9,6 +9,7 @@ ghost use Rattle.evaluation.specs.Ticks.{ReadSignals, signals_in};
 ghost use Rattle.runner.specs.Calls.{fired_by, output_width, answer_words};
 
 use crate::bytes::copy;
+use crate::kinds::OUTPUT;
 use recorder::SignalId;
 use refusal::Refusal;
 use simulation::Edge;
@@ -22,7 +23,7 @@ pub fn output_total(signals: &[u32]) -> usize
 {
     let mut sum: usize = 0;
     for fields in Records::new(signals) {
-        if fields[0] == 1 {
+        if fields[0] == OUTPUT {
             sum += wide(fields[1]);
         }
     }
@@ -38,7 +39,7 @@ pub fn ports_end(signals: &[u32]) -> usize
     let mut end: usize = 0;
     for fields in Records::new(signals) {
         at += fields.len() + 1;
-        if fields[0] <= 1 {
+        if fields[0] <= OUTPUT {
             end = at;
         }
     }
@@ -73,7 +74,7 @@ pub fn show(signals: &[u32], bytes: &[u8], shown: &mut [u8], from: usize, until:
             return to;
         }
         let width = wide(fields[1]);
-        if fields[0] == 1 {
+        if fields[0] == OUTPUT {
             copy(shown, to, bytes, pos, width);
             to += width;
         }

@@ -6,7 +6,8 @@ ghost use Rattle.ordering.specs.Marks.{adds, Sorting};
 ghost use Rattle.ordering.specs.Words.{model_in, Tabled};
 ghost use Rattle.ordering.specs.Sorts.{Step, Sorts, SortsAll};
 
-use crate::marks::{is_marked, ready};
+use crate::kinds::{CONST, READ};
+use crate::marks::{MARK, is_marked, ready};
 use crate::tables::CheckedModel;
 use recorder::read::word;
 use simulation::index;
@@ -41,7 +42,7 @@ fn sort_one(m: &CheckedModel, marks: &mut [u8], order: &mut [u32], k: usize, e: 
     if !adds_one(m, marks, e) {
         return k;
     }
-    marks[e] = 1;
+    marks[e] = MARK;
     note(order, k, e);
     k + 1
 }
@@ -63,11 +64,11 @@ fn sort_pass(m: &CheckedModel, marks: &mut [u8], order: &mut [u32], k: usize) ->
 // The expression that field j of a record names as needed.
 fn need(m: &CheckedModel, fields: &[u32], j: usize) -> Option<usize> {
     let kind = word(fields, 0);
-    if kind == 0 {
+    if kind == CONST {
         return None;
     }
     let x = wide(word(fields, j));
-    if kind != 1 {
+    if kind != READ {
         return Some(x);
     }
     if j != 2 {
@@ -123,7 +124,7 @@ fn enter(marks: &mut [u8], order: &mut [u32], n: usize, depth: usize, e: usize) 
     if marks[e] != 0 {
         return depth;
     }
-    marks[e] = 1;
+    marks[e] = MARK;
     order[2 * n + depth] = clip(e);
     order[3 * n + depth] = 0;
     depth + 1
@@ -221,7 +222,8 @@ fn sort_along(m: &CheckedModel, marks: &mut [u8], order: &mut [u32]) -> usize
     k
 }
 
-// A pass along a guess, then passes until one adds nothing: how many expressions were marked.
+// A pass along a guess, then passes until one adds nothing: how many expressions were marked. How many passes are needed is not known
+// before, so no `for`.
 pub fn sort(m: &CheckedModel, marks: &mut [u8], order: &mut [u32]) -> usize
     requires { (m.now.expr_count ≤ length marks.old) × (m.now.expr_count < 4294967296) × Sorting (model_in m.now.exprs.now m.now.stmts.now) m.now.expr_count marks.old order.old 0 }
     ensures { SortsAll (model_in m.now.exprs.now m.now.stmts.now) m.now.expr_count result marks.new order.new }

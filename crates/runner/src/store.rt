@@ -6,6 +6,7 @@ ghost use Rattle.evaluation.specs.Late.{PortsBefore, StoresDriven, StoresListed}
 ghost use Rattle.evaluation.specs.Ticks.{ReadSignals, GoodTicks, Inputs, StoresOne, Stores};
 
 use crate::bytes::copy;
+use crate::kinds::INPUT;
 use crate::tables::CheckedModel;
 use simulation::index::wide;
 use simulation::records::Records;
@@ -79,7 +80,7 @@ pub fn set_inputs(m: &CheckedModel, ticks: &[u8], bytes: &mut [u8])
             return;
         }
         let width = wide(fields[1]);
-        if fields[0] == 0 {
+        if fields[0] == INPUT {
             copy(bytes, to, ticks, pos, width);
             pos += width;
         }

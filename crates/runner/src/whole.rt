@@ -1,8 +1,8 @@
 // The run of a whole list of ticks: what refuses it, and then the ticks.
 ghost use Rattle.std.specs.Prelude.{◌≡◌, ◌≤◌, [], length};
-ghost use Rattle.recorder.specs.Lists.{lists};
 ghost use Rattle.simulation.specs.Wellformed.{largest};
 ghost use Rattle.simulation.specs.Index.{records_in, widths_in, offset as sum_to};
+ghost use Rattle.simulation.specs.Model.{lists_of};
 ghost use Rattle.simulation.specs.Run.{answer_of, first_of, zeroed};
 ghost use Rattle.evaluation.specs.Ticks.{ReadSignals};
 ghost use Rattle.runner.specs.Calls.{list_answer};
@@ -12,13 +12,14 @@ ghost use Rattle.runner.specs.Parts.{RunsTicks};
 use crate::WIDEST;
 use crate::code::encode;
 use crate::cut::malformed;
-use crate::list::run_ticks;
+use crate::list::{TickList, run_ticks};
 use crate::prepare::{fill_tables, prepare};
 use crate::refused::refuse_ticks;
 use crate::show::{output_total, ports_end, times};
 use crate::tables::CheckedModel;
 use model_check::call::{byte_fault, call_lengths, input_total};
 use refusal::Refusal;
+use simulation::Model;
 use simulation::index::count;
 
 pub fn zero_works(work_bits: &mut [u8], work_exprs: &mut [u8], work_signals: &mut [u8])
@@ -68,8 +69,7 @@ fn shown_lengths(
 
 // 1.
 fn list_fault(
-    signals: &[u32],
-    exprs: &[u32],
+    m: Model,
     heads: &[u32],
     bytes: &[u8],
     work_bits: &[u8],
@@ -78,27 +78,19 @@ fn list_fault(
     answers: &[u64],
     shown: &[u8],
 ) -> Result<(), Refusal>
-    requires { ReadSignals signals.now }
-    ensures { answer_of result ≡ fault_causes (list_call (lists signals.now exprs.now []) heads.now [] bytes.now work_bits.now work_exprs.now work_signals.now answers.now shown.now) }
+    requires { ReadSignals m.signals.now }
+    ensures { answer_of result ≡ fault_causes (list_call (lists_of m.entry) heads.now [] bytes.now work_bits.now work_exprs.now work_signals.now answers.now shown.now) }
 {
-    let m = simulation::Model {
-        signals,
-        exprs,
-        stmts: &[],
-    };
     call_lengths(m, bytes, work_bits, work_exprs, work_signals)?;
-    shown_lengths(signals, heads, answers, shown)
+    shown_lengths(m.signals, heads, answers, shown)
 }
 
 // 12 and 1. The tables and the work on signals are left as they come.
 fn check_list(
-    signals: &[u32],
+    m: Model,
     signal_table: &mut [u32],
-    exprs: &[u32],
     expr_table: &mut [u32],
-    stmts: &[u32],
-    heads: &[u32],
-    bits: &[u8],
+    list: TickList,
     bytes: &[u8],
     work_bits: &[u8],
     work_exprs: &[u8],
@@ -106,23 +98,14 @@ fn check_list(
     answers: &[u64],
     shown: &[u8],
 ) -> Result<(), Refusal>
-    ensures { answer_of result ≡ list_answer largest (list_call (lists signals.now exprs.now stmts.now) heads.now bits.now bytes.now work_bits.now work_exprs.now work_signals.old answers.now shown.now) }
+    ensures { answer_of result ≡ list_answer largest (list_call (lists_of m.entry) list.entry.heads.now list.entry.bits.now bytes.now work_bits.now work_exprs.now work_signals.old answers.now shown.now) }
 {
-    let f = malformed(
-        signals,
-        signal_table,
-        exprs,
-        expr_table,
-        stmts,
-        work_signals,
-        WIDEST,
-    );
+    let f = malformed(m, signal_table, expr_table, work_signals, WIDEST);
     match f {
         Some(n) => Err(Refusal::MalformedModel(n)),
         None => list_fault(
-            signals,
-            exprs,
-            heads,
+            m,
+            list.heads,
             bytes,
             work_bits,
             work_exprs,
@@ -135,11 +118,8 @@ fn check_list(
 
 // The ticks of a list that nothing refuses as a whole and whose signal bytes are bits. The tables are work.
 fn run_unrefused(
-    signals: &[u32],
-    exprs: &[u32],
-    stmts: &[u32],
-    heads: &[u32],
-    bits: &[u8],
+    m: Model,
+    list: TickList,
     bytes: &mut [u8],
     work_bits: &mut [u8],
     work_exprs: &mut [u8],
@@ -152,57 +132,52 @@ fn run_unrefused(
     answers: &mut [u64],
     shown: &mut [u8],
 )
-    requires { ListUnrefused (lists signals.now exprs.now stmts.now) heads.now bytes.old work_bits.old work_exprs.old work_signals.old answers.old shown.old }
-    ensures { RunsTicks (lists signals.now exprs.now stmts.now) heads.now bits.now bytes.old bytes.new answers.old answers.new shown.old shown.new }
+    requires { ListUnrefused (lists_of m) list.heads.now bytes.old work_bits.old work_exprs.old work_signals.old answers.old shown.old }
+    ensures { RunsTicks (lists_of m.entry) list.entry.heads.now list.entry.bits.now bytes.old bytes.new answers.old answers.new shown.old shown.new }
 {
-    fill_tables(
-        signals,
-        exprs,
-        stmts,
-        starts,
-        expr_table,
-        signal_table,
-        driver_table,
-    );
-    let m = CheckedModel {
-        signals: signals,
-        exprs: exprs,
-        stmts: stmts,
+    fill_tables(m, starts, expr_table, signal_table, driver_table);
+    let checked = CheckedModel {
+        signals: m.signals,
+        exprs: m.exprs,
+        stmts: m.stmts,
         starts: &*starts,
         expr_table: &*expr_table,
         signal_table: &*signal_table,
         driver_table: &*driver_table,
-        expr_count: count(exprs),
-        signal_count: count(signals),
-        ports: ports_end(signals),
+        expr_count: count(m.exprs),
+        signal_count: count(m.signals),
+        ports: ports_end(m.signals),
     };
-    let inputs = input_total(signals);
-    match prepare(&m, order, work_exprs) {
+    let inputs = input_total(m.signals);
+    match prepare(&checked, order, work_exprs) {
         Err(s) => refuse_ticks(
-            signals,
-            exprs,
-            stmts,
-            heads,
-            bits,
+            m,
+            list,
             bytes,
             Ok(()),
-            m.signal_count,
+            checked.signal_count,
             inputs,
             Err(Refusal::CombinationalLoop(s)),
             answers,
             shown,
         ),
         Ok(ordered) => {
-            let plan = encode(&m, ordered, order, work_bits, work_exprs, work_signals);
+            let plan = encode(
+                &checked,
+                ordered,
+                order,
+                work_bits,
+                work_exprs,
+                work_signals,
+            );
             let used = plan.used;
             work_bits.fill(0);
             run_ticks(
-                &m,
+                &checked,
                 &order[..used],
                 plan.code,
                 inputs,
-                heads,
-                bits,
+                list,
                 bytes,
                 work_bits,
                 work_exprs,
@@ -216,11 +191,8 @@ fn run_unrefused(
 
 // The ticks of a list that nothing refuses as a whole. A signal byte that is no bit refuses each of them.
 fn run_fitting(
-    signals: &[u32],
-    exprs: &[u32],
-    stmts: &[u32],
-    heads: &[u32],
-    bits: &[u8],
+    m: Model,
+    list: TickList,
     bytes: &mut [u8],
     work_bits: &mut [u8],
     work_exprs: &mut [u8],
@@ -233,20 +205,17 @@ fn run_fitting(
     answers: &mut [u64],
     shown: &mut [u8],
 )
-    requires { ListFits (lists signals.now exprs.now stmts.now) heads.now bytes.old work_bits.old work_exprs.old work_signals.old answers.old shown.old }
-    ensures { RunsTicks (lists signals.now exprs.now stmts.now) heads.now bits.now bytes.old bytes.new answers.old answers.new shown.old shown.new }
+    requires { ListFits (lists_of m) list.heads.now bytes.old work_bits.old work_exprs.old work_signals.old answers.old shown.old }
+    ensures { RunsTicks (lists_of m.entry) list.entry.heads.now list.entry.bits.now bytes.old bytes.new answers.old answers.new shown.old shown.new }
 {
-    let stopped = byte_fault(signals, bytes);
+    let stopped = byte_fault(m.signals, bytes);
     match stopped {
         Err(x) => {
-            let count = count(signals);
-            let inputs = input_total(signals);
+            let count = count(m.signals);
+            let inputs = input_total(m.signals);
             refuse_ticks(
-                signals,
-                exprs,
-                stmts,
-                heads,
-                bits,
+                m,
+                list,
                 bytes,
                 Err(x),
                 count,
@@ -258,11 +227,8 @@ fn run_fitting(
         }
         Ok(()) => {
             run_unrefused(
-                signals,
-                exprs,
-                stmts,
-                heads,
-                bits,
+                m,
+                list,
                 bytes,
                 work_bits,
                 work_exprs,
@@ -281,11 +247,8 @@ fn run_fitting(
 
 // 12 and 1, then the ticks.
 pub fn run_list_with(
-    signals: &[u32],
-    exprs: &[u32],
-    stmts: &[u32],
-    heads: &[u32],
-    bits: &[u8],
+    m: Model,
+    list: TickList,
     bytes: &mut [u8],
     work_bits: &mut [u8],
     work_exprs: &mut [u8],
@@ -298,16 +261,13 @@ pub fn run_list_with(
     answers: &mut [u64],
     shown: &mut [u8],
 ) -> Result<(), Refusal>
-    ensures { Leaves (list_call (lists signals.now exprs.now stmts.now) heads.now bits.now bytes.old work_bits.old work_exprs.old work_signals.old answers.old shown.old) (list_answer largest (list_call (lists signals.now exprs.now stmts.now) heads.now bits.now bytes.old work_bits.old work_exprs.old work_signals.old answers.old shown.old)) result bytes.new answers.new shown.new }
+    ensures { Leaves (list_call (lists_of m.entry) list.entry.heads.now list.entry.bits.now bytes.old work_bits.old work_exprs.old work_signals.old answers.old shown.old) (list_answer largest (list_call (lists_of m.entry) list.entry.heads.now list.entry.bits.now bytes.old work_bits.old work_exprs.old work_signals.old answers.old shown.old)) result bytes.new answers.new shown.new }
 {
     check_list(
-        signals,
+        m,
         signal_table,
-        exprs,
         expr_table,
-        stmts,
-        heads,
-        bits,
+        list,
         bytes,
         work_bits,
         work_exprs,
@@ -316,11 +276,8 @@ pub fn run_list_with(
         shown,
     )?;
     run_fitting(
-        signals,
-        exprs,
-        stmts,
-        heads,
-        bits,
+        m,
+        list,
         bytes,
         work_bits,
         work_exprs,

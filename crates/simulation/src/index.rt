@@ -14,16 +14,6 @@ pub fn wide(x: u32) -> usize
     x as usize
 }
 
-// The length of the record at an index, 0 if no whole one stands there.
-pub fn size(list: &[u32], at: usize) -> usize
-    ensures { result ≡ size_at list.now at }
-{
-    match cut(list, at) {
-        Cut::Record(n) => n + 1,
-        Cut::End | Cut::Broken => 0,
-    }
-}
-
 // The fields of the record at an index, none if no whole one stands there.
 pub fn fields(list: &[u32], at: usize) -> &[u32]
     ensures { result.now ≡ fields_at list.now at (size_at list.now at) }

@@ -2,8 +2,8 @@ use Rattle.std.proofs.Common.{refl, sym, arith}
 use Rattle.runner.proofs.Call.{fine, signals_read_in, exprs_fit, signals_fit, values_fill, room, bytes_fill, ticks_good, tried_looped, tried_made}
 use Rattle.runner.proofs.run_checked.Goals as goal
 
-pub invariant_of-m : goal.invariant_of-m
-invariant_of-m c = let t = c.fill_tables.ensures in record { faultless = fine c.requires; started = t.started; expr_offsets = t.expr_offsets; signal_offsets = t.signal_offsets; driven = t.driven; expr_counted = c.count.ensures; signal_counted = c.count-2.ensures; ports_before = c.ports_end.ensures }
+pub invariant_of-checked : goal.invariant_of-checked
+invariant_of-checked c = let t = c.fill_tables.ensures in record { faultless = fine c.requires; started = t.started; expr_offsets = t.expr_offsets; signal_offsets = t.signal_offsets; driven = t.driven; expr_counted = c.count.ensures; signal_counted = c.count-2.ensures; ports_before = c.ports_end.ensures }
 
 pub ports_end-requires : goal.ports_end-requires
 ports_end-requires c = signals_read_in c.requires

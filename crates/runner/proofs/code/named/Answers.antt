@@ -22,17 +22,17 @@ offset_bounds-m-at-2 c = omega (arith, fields_inside (stated_of c.args.m.now) c.
 pub bounds-m-at-2 : goal.bounds-m-at-2
 bounds-m-at-2 c = omega (arith, fields_inside (stated_of c.args.m.now) c.requires)
 
-pub returns-then-m-at-ne1 : goal.returns-then-m-at-ne1
-returns-then-m-at-ne1 c = λ z k q b x h. named_other (stated_of c.args.m.now) c.args.marks.now (is_marked c.args.marks.now c.is_marked.ensures c.wide.ensures c.if-not-is_marked.false) q b x h c.if-m-at-ne1.true
+pub returns-then-m-at-ne-REG : goal.returns-then-m-at-ne-REG
+returns-then-m-at-ne-REG c = λ z k q b x h. named_other (stated_of c.args.m.now) c.args.marks.now (is_marked c.args.marks.now c.is_marked.ensures c.wide.ensures c.if-not-is_marked.false) q b x h c.if-m-at-ne-REG.true
 
 pub bounds-m-at-3 : goal.bounds-m-at-3
-bounds-m-at-3 c = omega (arith, register_inside (stated_of c.args.m.now) c.requires c.if-m-at-ne1.false)
+bounds-m-at-3 c = omega (arith, register_inside (stated_of c.args.m.now) c.requires c.if-m-at-ne-REG.false)
 
 pub returns-then-m-at-eq0 : goal.returns-then-m-at-eq0
 returns-then-m-at-eq0 c = λ z k q b x h. named_plain (stated_of c.args.m.now) c.args.marks.now (is_marked c.args.marks.now c.is_marked.ensures c.wide.ensures c.if-not-is_marked.false) q b x h c.if-m-at-eq0.true
 
 pub bounds-m-at-4 : goal.bounds-m-at-4
-bounds-m-at-4 c = value_read (stated_of c.args.m.now) c.requires c.if-m-at-ne1.false c.if-m-at-eq0.false
+bounds-m-at-4 c = value_read (stated_of c.args.m.now) c.requires c.if-m-at-ne-REG.false c.if-m-at-eq0.false
 
 pub returns : goal.returns
 returns c = λ z k q b x h. named_reset (stated_of c.args.m.now) c.args.marks.now (is_marked c.args.marks.now c.is_marked.ensures c.wide.ensures c.if-not-is_marked.false) q b x h (is_marked c.args.marks.now c.is_marked-2.ensures c.wide-2.ensures z)

@@ -1,4 +1,4 @@
-use Rattle.std.proofs.Common.{arith, subst, sym, get_or, ◌+◌}
+use Rattle.std.proofs.Common.{arith, subst, sym, ◌+◌}
 use Rattle.evaluation.specs.Loads.{Begins}
 use Rattle.coding.proofs.Emitting.{emitting_start}
 use Rattle.coding.proofs.Frame.{word_kept, registers_kept}

@@ -13,8 +13,8 @@ offset_bounds-m-at c = record { fits = omega (arith, c.well_formed, fields_insid
 pub bounds-m-at : goal.bounds-m-at
 bounds-m-at c = omega (arith, fields_inside (stated_of c.args.m.now) c.requires.1)
 
-pub returns-then-m-at-ne1 : goal.returns-then-m-at-ne1
-returns-then-m-at-ne1 c = λ k q b. notes_none (stated_of c.args.m.now) (firing (fired_of c.args.fired)) q b c.if-m-at-ne1.true
+pub returns-then-m-at-ne-REG : goal.returns-then-m-at-ne-REG
+returns-then-m-at-ne-REG c = λ k q b. notes_none (stated_of c.args.m.now) (firing (fired_of c.args.fired)) q b c.if-m-at-ne-REG.true
 
 pub bounds-m-at-2 : goal.bounds-m-at-2
 bounds-m-at-2 c = omega (arith, fields_inside (stated_of c.args.m.now) c.requires.1)

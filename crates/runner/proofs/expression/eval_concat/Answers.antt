@@ -1,7 +1,6 @@
 use Rattle.std.proofs.Common.{◌<◌, length, arith}
 use Rattle.recorder.specs.Record.{expr_words}
 use Rattle.evaluation.specs.Ready.{expr_in}
-use Rattle.evaluation.proofs.ByKind.{words_enough}
 use Rattle.evaluation.proofs.Joining.{concat_size, concat_asks, concat_end, joining_start, part_before, part_less, part_fits, part_moves, joining_step, joining_end}
 use Rattle.runner.proofs.expression.eval_concat.Goals as goal
 

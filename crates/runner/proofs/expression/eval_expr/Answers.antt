@@ -16,7 +16,7 @@ pub bounds-m-at : goal.bounds-m-at
 bounds-m-at c = let rd = ready (prepared_of c.args.m.now) c.requires.1 c.requires.0 c.start-at.ensures in word_inside rd 1 (omega (arith, words_enough (expr_in c.args.m.now.exprs.now c.args.e)))
 
 pub eval_operands-requires : goal.eval_operands-requires
-eval_operands-requires c = (ready (prepared_of c.args.m.now) c.requires.1 c.requires.0 c.start-at.ensures, refl, c.if-kind-eq1.false)
+eval_operands-requires c = (ready (prepared_of c.args.m.now) c.requires.1 c.requires.0 c.start-at.ensures, refl, c.if-kind-eq-READ.false)
 
-pub returns-else-kind-eq1 : goal.returns-else-kind-eq1
-returns-else-kind-eq1 c = evaluated_computes (prepared_of c.args.m.now) c.requires.1 c.eval_operands.ensures
+pub returns-else-kind-eq-READ : goal.returns-else-kind-eq-READ
+returns-else-kind-eq-READ c = evaluated_computes (prepared_of c.args.m.now) c.requires.1 c.eval_operands.ensures

@@ -16,14 +16,14 @@ loop-s-init c = let g = c.into_iter-s-iterator.ensures.into_iter_gives in output
 pub bounds-fields-0 : goal.bounds-fields-0
 bounds-fields-0 c = omega (arith, outputs_three (read_signals_of c.args.m.now) c.loop-s.invariant c.in-Some.ensures.steps.0)
 
-pub loop-s-preserved-then-fields-eq1 : goal.loop-s-preserved-then-fields-eq1
-loop-s-preserved-then-fields-eq1 c =
+pub loop-s-preserved-then-fields-eq-OUTPUT : goal.loop-s-preserved-then-fields-eq-OUTPUT
+loop-s-preserved-then-fields-eq-OUTPUT c =
     let s = c.in-Some.ensures.steps in
     let l = c.in_ok-k.ensures.listed in
     rw s.2 (outputs_taken (read_signals_of c.args.m.now) c.loop-s.invariant s.0 c.in_ok-k.ensures.few c.requires (l.0, l.1 ∙ ap (set c.loop-s.order (c.args.from + c.loop-s.k)) s.1))
 
 pub loop-s-preserved : goal.loop-s-preserved
-loop-s-preserved c = let s = c.in-Some.ensures.steps in rw s.2 (outputs_other (read_signals_of c.args.m.now) c.loop-s.invariant s.0 c.if-fields-eq1.false)
+loop-s-preserved c = let s = c.in-Some.ensures.steps in rw s.2 (outputs_other (read_signals_of c.args.m.now) c.loop-s.invariant s.0 c.if-fields-eq-OUTPUT.false)
 
 pub returns-clause-listed : goal.returns-clause-listed
 returns-clause-listed c = (outputs_end (read_signals_of c.args.m.now) c.loop-s.invariant c.in-None.ensures.steps.0.0).1

@@ -1,8 +1,8 @@
-use Rattle.std.proofs.Common.{arith, ap, sym, ◌∙◌}
+use Rattle.std.proofs.Common.{arith, ◌∙◌}
 use Rattle.runner.proofs.Listing.{registers_start, registers_end, registers_three, registers_other, registers_taken}
 use Rattle.runner.proofs.Models.{stated_of}
 use Rattle.runner.proofs.Turns.{turns_start}
-use Rattle.runner.proofs.lists.list_registers.Goals.{then-fields-eq1+in_ok-k, else-fields-eq1}
+use Rattle.runner.proofs.lists.list_registers.Goals.{then-fields-eq-REG+in_ok-k, else-fields-eq-REG}
 use Rattle.runner.proofs.lists.list_registers.Goals as goal
 
 pub loop-fields-init : goal.loop-fields-init
@@ -15,9 +15,9 @@ pub loop-fields-preserved : goal.loop-fields-preserved
 loop-fields-preserved c =
     let g = c.loop-fields.invariant in
     let s = c.in-Some.ensures.steps in
-    elim c.if-fields-eq1.branch [
-      | then-fields-eq1+in_ok-k w ↦ let l = w.in_ok-k.ensures.listed in registers_taken g (stated_of c.args.m.now) s (omega (arith, w.k-is, w.in_ok-k.ensures.few)) c.requires (w.k-is ∙ l.0, w.order-is ∙ l.1)
-      | else-fields-eq1 w ↦ rw (w.order-is, w.k-is) (registers_other g (stated_of c.args.m.now) s w.if-fields-eq1.false)
+    elim c.if-fields-eq-REG.branch [
+      | then-fields-eq-REG+in_ok-k w ↦ let l = w.in_ok-k.ensures.listed in registers_taken g (stated_of c.args.m.now) s (omega (arith, w.k-is, w.in_ok-k.ensures.few)) c.requires (w.k-is ∙ l.0, w.order-is ∙ l.1)
+      | else-fields-eq-REG w ↦ rw (w.order-is, w.k-is) (registers_other g (stated_of c.args.m.now) s w.if-fields-eq-REG.false)
     ]
 
 pub returns-clause-listed : goal.returns-clause-listed

@@ -15,8 +15,8 @@ offset_bounds-m-at c = omega (arith, kind_inside c.args.m.now.exprs.now c.args.m
 pub bounds-m-at : goal.bounds-m-at
 bounds-m-at c = kind_inside c.args.m.now.exprs.now c.args.m.now.stmts.now (tabled_of c.args.m.now).readable c.args.e c.requires c.start-at.result c.start-at.ensures
 
-pub bounds-m-at-then-kind-eq1 : goal.bounds-m-at-then-kind-eq1
-bounds-m-at-then-kind-eq1 c = read_inside c.args.m.now.exprs.now c.args.m.now.stmts.now (tabled_of c.args.m.now).readable c.args.e c.requires c.start-at.result c.start-at.ensures c.if-kind-eq1.true
+pub bounds-m-at-then-kind-eq-READ : goal.bounds-m-at-then-kind-eq-READ
+bounds-m-at-then-kind-eq-READ c = read_inside c.args.m.now.exprs.now c.args.m.now.stmts.now (tabled_of c.args.m.now).readable c.args.e c.requires c.start-at.result c.start-at.ensures c.if-kind-eq-READ.true
 
 pub overflow_sub-wide : goal.overflow_sub-wide
 overflow_sub-wide c = omega (arith, word_least c.args.m.now.exprs.now c.args.m.now.stmts.now (tabled_of c.args.m.now).readable c.args.e c.requires c.start-at.result c.start-at.ensures, c.wide-2.ensures)
@@ -24,11 +24,11 @@ overflow_sub-wide c = omega (arith, word_least c.args.m.now.exprs.now c.args.m.n
 pub all_marked-requires : goal.all_marked-requires
 all_marked-requires c = omega (arith, operands_inside c.args.m.now.exprs.now c.args.m.now.stmts.now (tabled_of c.args.m.now).readable c.args.e c.requires c.start-at.result c.start-at.ensures, c.wide-2.ensures)
 
-pub returns-then-kind-eq0 : goal.returns-then-kind-eq0
-returns-then-kind-eq0 c = ready_none c.args.m.now.exprs.now c.args.m.now.stmts.now (tabled_of c.args.m.now).readable c.args.e c.requires c.start-at.result c.start-at.ensures c.args.marks.now c.if-kind-eq0.true
+pub returns-then-kind-eq-CONST : goal.returns-then-kind-eq-CONST
+returns-then-kind-eq-CONST c = ready_none c.args.m.now.exprs.now c.args.m.now.stmts.now (tabled_of c.args.m.now).readable c.args.e c.requires c.start-at.result c.start-at.ensures c.args.marks.now c.if-kind-eq-CONST.true
 
-pub returns-then-kind-eq1 : goal.returns-then-kind-eq1
-returns-then-kind-eq1 c = ready_driver c.args.m.now.exprs.now c.args.m.now.stmts.now (tabled_of c.args.m.now).readable c.args.e c.requires c.start-at.result c.start-at.ensures c.args.marks.now c.if-kind-eq1.true (c.driver_marked.ensures ∙ ap (λ (y : ℕ). driver_marked c.args.m.now.stmts.now c.args.marks.now y true) c.wide.ensures)
+pub returns-then-kind-eq-READ : goal.returns-then-kind-eq-READ
+returns-then-kind-eq-READ c = ready_driver c.args.m.now.exprs.now c.args.m.now.stmts.now (tabled_of c.args.m.now).readable c.args.e c.requires c.start-at.result c.start-at.ensures c.args.marks.now c.if-kind-eq-READ.true (c.driver_marked.ensures ∙ ap (λ (y : ℕ). driver_marked c.args.m.now.stmts.now c.args.marks.now y true) c.wide.ensures)
 
 pub returns : goal.returns
-returns c = ready_operands c.args.m.now.exprs.now c.args.m.now.stmts.now (tabled_of c.args.m.now).readable c.args.e c.requires c.start-at.result c.start-at.ensures c.args.marks.now c.if-kind-eq0.false c.if-kind-eq1.false (c.all_marked.ensures ∙ ap (λ (k : ℕ). all (marked c.args.marks.now) (take (k - 3) (drop (c.start-at.result + 3) c.args.m.now.exprs.now))) c.wide-2.ensures)
+returns c = ready_operands c.args.m.now.exprs.now c.args.m.now.stmts.now (tabled_of c.args.m.now).readable c.args.e c.requires c.start-at.result c.start-at.ensures c.args.marks.now c.if-kind-eq-CONST.false c.if-kind-eq-READ.false (c.all_marked.ensures ∙ ap (λ (k : ℕ). all (marked c.args.marks.now) (take (k - 3) (drop (c.start-at.result + 3) c.args.m.now.exprs.now))) c.wide-2.ensures)

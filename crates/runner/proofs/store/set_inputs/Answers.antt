@@ -5,7 +5,7 @@ use Rattle.evaluation.proofs.Storing.{taking_start, taking_end, input_room, inpu
 use Rattle.runner.proofs.Models.{read_signals_of}
 use Rattle.runner.proofs.Turns.{turns_start, turns_out, turn_size, turn_some, turn_next, signal_turn, signal_first, signal_second}
 use Rattle.runner.proofs.store.set_inputs.Goals as goal
-use Rattle.runner.proofs.store.set_inputs.Goals.{then-fields-eq0, else-fields-eq0}
+use Rattle.runner.proofs.store.set_inputs.Goals.{then-fields-eq-INPUT, else-fields-eq-INPUT}
 
 pub loop-fields-init : goal.loop-fields-init
 loop-fields-init c = (taking_start (read_signals_of c.args.m.now) c.requires.0 _, turns_start c.into_iter-fields-iterator.ensures.into_iter_gives c.new-fields-items.ensures)
@@ -27,7 +27,7 @@ copy-requires c =
     let h = read_signals_of c.args.m.now in
     let v = c.loop-fields.invariant in
     let s = c.in-Some.ensures.steps in
-    input_copies h c.requires.0 v.0 (turn_size v.1 s) (turn_some v.1 s) (c.wide-width.ensures ∙ signal_second v.1 s h v.0.walked) (sym (signal_first v.1 s h v.0.walked) ∙ c.if-fields-eq0.true) c.requires.1
+    input_copies h c.requires.0 v.0 (turn_size v.1 s) (turn_some v.1 s) (c.wide-width.ensures ∙ signal_second v.1 s h v.0.walked) (sym (signal_first v.1 s h v.0.walked) ∙ c.if-fields-eq-INPUT.true) c.requires.1
 
 pub overflow_add-to : goal.overflow_add-to
 overflow_add-to c =
@@ -42,9 +42,9 @@ loop-fields-preserved c =
     let v = c.loop-fields.invariant in
     let s = c.in-Some.ensures.steps in
     let w = c.wide-width.ensures ∙ signal_second v.1 s h v.0.walked in
-    elim c.if-fields-eq0.branch [
-      | then-fields-eq0 b ↦ rw (b.bytes-is, b.pos-is) (input_taken h c.requires.0 v.0 (turn_size v.1 s) (turn_some v.1 s) w (sym (signal_first v.1 s h v.0.walked) ∙ b.if-fields-eq0.true) b.copy.auto.to b.copy.ensures, turn_next v.1 s)
-      | else-fields-eq0 b ↦ rw (b.bytes-is, b.pos-is) (input_none h c.requires.0 v.0 (turn_size v.1 s) (turn_some v.1 s) w (λ z. b.if-fields-eq0.false (signal_first v.1 s h v.0.walked ∙ z)), turn_next v.1 s)
+    elim c.if-fields-eq-INPUT.branch [
+      | then-fields-eq-INPUT b ↦ rw (b.bytes-is, b.pos-is) (input_taken h c.requires.0 v.0 (turn_size v.1 s) (turn_some v.1 s) w (sym (signal_first v.1 s h v.0.walked) ∙ b.if-fields-eq-INPUT.true) b.copy.auto.to b.copy.ensures, turn_next v.1 s)
+      | else-fields-eq-INPUT b ↦ rw (b.bytes-is, b.pos-is) (input_none h c.requires.0 v.0 (turn_size v.1 s) (turn_some v.1 s) w (λ z. b.if-fields-eq-INPUT.false (signal_first v.1 s h v.0.walked ∙ z)), turn_next v.1 s)
     ]
 
 pub returns : goal.returns

@@ -6,8 +6,8 @@ use Rattle.runner.proofs.Call.{fine, signals_read_in, exprs_fit, signals_fit, va
 use Rattle.runner.proofs.WholeList.{quiet, inputs_are, shown_room, stopped_loop}
 use Rattle.runner.proofs.whole.run_unrefused.Goals as goal
 
-pub invariant_of-m : goal.invariant_of-m
-invariant_of-m c = let t = c.fill_tables.ensures in record { faultless = fine (quiet c.requires); started = t.started; expr_offsets = t.expr_offsets; signal_offsets = t.signal_offsets; driven = t.driven; expr_counted = c.count.ensures; signal_counted = c.count-2.ensures; ports_before = c.ports_end.ensures }
+pub invariant_of-checked : goal.invariant_of-checked
+invariant_of-checked c = let t = c.fill_tables.ensures in record { faultless = fine (quiet c.requires); started = t.started; expr_offsets = t.expr_offsets; signal_offsets = t.signal_offsets; driven = t.driven; expr_counted = c.count.ensures; signal_counted = c.count-2.ensures; ports_before = c.ports_end.ensures }
 
 pub ports_end-requires : goal.ports_end-requires
 ports_end-requires c = signals_read_in (quiet c.requires)
