@@ -1,6 +1,6 @@
 -- One expression's six words after the other's. Assumes nothing.
 use Prim.Native.Nat.{ℕ, zero, suc, ◌+◌, ◌*◌, ◌-◌, ◌≤◌, ◌<◌, min}
-use mathlib.Core.Path.{◌≡◌, refl, sym, ◌∙◌, ap, subst}
+use mathlib.Core.Path.{◌≡◌, refl, sym, ◌∙◌, ap, ap₂, subst}
 use mathlib.Core.List.{List, [], ◌∷◌, ◌++◌, append-nil}
 use native.Mathlib.Omega.{arith}
 use native.Mathlib.Nat.{not-suc-le-zero, add-zero}
@@ -14,7 +14,8 @@ use Rattle.simulation.proofs.Steps.{length_widths}
 use Rattle.fusing.specs.declared.join.Lut.{Lut}
 use Rattle.fusing.specs.Form.{form_at, Means, Formed}
 use Rattle.fusing.specs.Join.{form_of}
-use Rattle.fusing.specs.Finding.{Known, Formable, Entry, Finds, Puts, Behind}
+use Rattle.fusing.specs.Finding.{Known, Formable, Entry, Finds, form_words, Puts, Behind}
+use Rattle.std.specs.Prelude.{Option, None, Some}
 use Rattle.fusing.proofs.Finding.{entry_offset}
 
 -- SIX WORDS
@@ -48,9 +49,19 @@ sets_behind (a ∷ vs) l i n h = sets_behind vs (set l i a) (suc i) n (omega ari
 
 -- ONE EXPRESSION MORE
 
-module _ {e own : ℕ} {z : Lut} {forms forms' : List ℕ} (p : Puts e own z forms forms') where
+words_six : (o : Option ℕ) (z : Option Lut) → length (form_words o z) ≤ 6
+words_six None z = omega arith
+words_six (Some o) None = omega arith
+words_six (Some o) (Some z) = omega arith
+
+words_some : (o : Option ℕ) (z : Option Lut) → 0 < length (form_words o z)
+words_some None z = omega arith
+words_some (Some o) None = omega arith
+words_some (Some o) (Some z) = omega arith
+
+module _ {e : ℕ} {own : Option ℕ} {z : Option Lut} {forms forms' : List ℕ} (p : Puts e own z forms forms') where
   kept_before : (i : ℕ) → i < 6 * e → get_or forms' i 0 ≡ get_or forms i 0
-  kept_before i h = ap (λ (l : List ℕ). get_or l i 0) p.stored ∙ sets_before (p.table ∷ own ∷ z.a ∷ z.b ∷ z.c ∷ z.d ∷ []) forms (6 * e) i h
+  kept_before i h = ap (λ (l : List ℕ). get_or l i 0) p.stored ∙ sets_before (form_words own z) forms (6 * e) i h
 
   same_form : (i : ℕ) → i < e → form_at forms' i ≡ form_at forms i
   same_form i h =
@@ -62,33 +73,42 @@ module _ {e own : ℕ} {z : Lut} {forms forms' : List ℕ} (p : Puts e own z for
       cc
 
   pub kept_behind : {forms₀ : List ℕ} (n : ℕ) → e < n → Behind (6 * n) forms₀ forms → Behind (6 * n) forms₀ forms'
-  kept_behind n h b = record { kept = ap (drop (6 * n)) p.stored ∙ sets_behind (p.table ∷ own ∷ z.a ∷ z.b ∷ z.c ∷ z.d ∷ []) forms (6 * e) (6 * n) (omega arith) ∙ b.kept }
+  kept_behind n h b = record { kept = ap (drop (6 * n)) p.stored ∙ sets_behind (form_words own z) forms (6 * e) (6 * n) (omega (arith, words_six own z)) ∙ b.kept }
 
   module _ (room : 6 * e + 6 ≤ length forms) where
-    new_at : (j : ℕ) → j < 6 → get_or forms' (6 * e + j) 0 ≡ get_or (p.table ∷ own ∷ z.a ∷ z.b ∷ z.c ∷ z.d ∷ []) j 0
-    new_at j h = ap (λ (l : List ℕ). get_or l (6 * e + j) 0) p.stored ∙ sets_at (p.table ∷ own ∷ z.a ∷ z.b ∷ z.c ∷ z.d ∷ []) forms (6 * e) j h room
+    new_at : (j : ℕ) → j < length (form_words own z) → get_or forms' (6 * e + j) 0 ≡ get_or (form_words own z) j 0
+    new_at j h = ap (λ (l : List ℕ). get_or l (6 * e + j) 0) p.stored ∙ sets_at (form_words own z) forms (6 * e) j h (omega (arith, words_six own z))
 
-    new_table : get_or forms' (6 * e) 0 ≡ p.table
-    new_table = ap (λ (n : ℕ). get_or forms' n 0) (sym (add-zero (6 * e))) ∙ new_at 0 (omega arith)
+    new_table : get_or forms' (6 * e) 0 ≡ get_or (form_words own z) 0 0
+    new_table = ap (λ (n : ℕ). get_or forms' n 0) (sym (add-zero (6 * e))) ∙ new_at 0 (words_some own z)
 
-    new_form : p.table ≡ z.table → form_at forms' e ≡ form_of z
-    new_form t =
-        let e0 : get_or forms' (6 * e) 0 ≡ z.table = new_table ∙ t in
-        let e2 : get_or forms' (6 * e + 2) 0 ≡ z.a = new_at 2 (omega arith) in
-        let e3 : get_or forms' (6 * e + 3) 0 ≡ z.b = new_at 3 (omega arith) in
-        let e4 : get_or forms' (6 * e + 4) 0 ≡ z.c = new_at 4 (omega arith) in
-        let e5 : get_or forms' (6 * e + 5) 0 ≡ z.d = new_at 5 (omega arith) in
-        cc
+    -- what stands there where the table is one
+    module _ {signals exprs stmts starts expr_table signal_table driver_table : List ℕ} (k : Known signals exprs stmts starts expr_table signal_table driver_table) (q : e < length (records_in exprs)) (n : (o : ℕ) → own ≡ Some o → Entry expr_table e o) (g : (v : Lut) → z ≡ Some v → Finds signals exprs stmts forms e v) where
+      there : (o : Option ℕ) (y : Option Lut) → own ≡ o → z ≡ y → get_or forms' (6 * e) 0 < 65536 → Formed signals exprs stmts forms e → (get_or forms' (6 * e + 1) 0 ≡ offset (widths_in exprs) e) × Means signals exprs stmts e (form_at forms' e)
+      there None y ho hz t f = absurd (let x : get_or forms' (6 * e) 0 ≡ 65536 = new_table ∙ ap (λ (r : Option ℕ). get_or (form_words r z) 0 0) ho in omega arith)
+      there (Some o) None ho hz t f = absurd (let x : get_or forms' (6 * e) 0 ≡ 65536 = new_table ∙ ap₂ (λ (r : Option ℕ) (w : Option Lut). get_or (form_words r w) 0 0) ho hz in omega arith)
+      there (Some o) (Some v) ho hz t f =
+          let words : form_words own z ≡ form_words (Some o) (Some v) = ap₂ form_words ho hz in
+          let six : length (form_words own z) ≡ 6 = ap length words in
+          let at : (j : ℕ) → j < 6 → get_or forms' (6 * e + j) 0 ≡ get_or (form_words (Some o) (Some v)) j 0 = λ j h. new_at j (omega arith) ∙ ap (λ (l : List ℕ). get_or l j 0) words in
+          let e0 : get_or forms' (6 * e) 0 ≡ v.table = new_table ∙ ap (λ (l : List ℕ). get_or l 0 0) words in
+          let e2 : get_or forms' (6 * e + 2) 0 ≡ get_or v.inputs 0 0 = at 2 (omega arith) in
+          let e3 : get_or forms' (6 * e + 3) 0 ≡ get_or v.inputs 1 0 = at 3 (omega arith) in
+          let e4 : get_or forms' (6 * e + 4) 0 ≡ get_or v.inputs 2 0 = at 4 (omega arith) in
+          let e5 : get_or forms' (6 * e + 5) 0 ≡ get_or v.inputs 3 0 = at 5 (omega arith) in
+          let form : form_at forms' e ≡ form_of v = cc in (
+            at 1 (omega arith) ∙ entry_offset (n o ho) k.prepared.expr_offsets (omega (arith, length_widths exprs)),
+            subst (Means signals exprs stmts e) (sym form) ((g v hz).finds f),
+          )
 
-    module _ {signals exprs stmts starts expr_table signal_table driver_table : List ℕ} (k : Known signals exprs stmts starts expr_table signal_table driver_table) (q : e < length (records_in exprs)) (n : Entry expr_table e own) (g : Finds signals exprs stmts forms e z) where
       pub formed_next : Formed signals exprs stmts forms e → Formed signals exprs stmts forms' (e + 1)
       formed_next f = record {
         own_position = λ i h t. own_of i h t (dec_lt i e);
         formed = λ i h t. form_of_lem i h t (dec_lt i e);
       }
         where
-          small : (i : ℕ) → i ≡ e → get_or forms' (6 * i) 0 < 65536 → p.table < 65536
-          small i h t = let x : get_or forms' (6 * i) 0 ≡ p.table = ap (λ (j : ℕ). get_or forms' (6 * j) 0) h ∙ new_table in omega arith
+          new : (i : ℕ) → i ≡ e → get_or forms' (6 * i) 0 < 65536 → (get_or forms' (6 * e + 1) 0 ≡ offset (widths_in exprs) e) × Means signals exprs stmts e (form_at forms' e)
+          new i x t = there own z refl refl (subst (λ (j : ℕ). get_or forms' (6 * j) 0 < 65536) x t) f
 
           old_small : (i : ℕ) → i < e → get_or forms' (6 * i) 0 < 65536 → get_or forms (6 * i) 0 < 65536
           old_small i h t = let x = kept_before (6 * i) (omega arith) in omega arith
@@ -97,18 +117,13 @@ module _ {e own : ℕ} {z : Lut} {forms forms' : List ℕ} (p : Puts e own z for
           own_of i h t (yes y) = kept_before (6 * i + 1) (omega arith) ∙ f.own_position i y (old_small i y t)
           own_of i h t (no y) =
               let x : i ≡ e = omega arith in
-              ap (λ (j : ℕ). get_or forms' (6 * j + 1) 0) x
-              ∙ new_at 1 (omega arith)
-              ∙ entry_offset n k.prepared.expr_offsets (omega (arith, length_widths exprs)) (p.with_own (small i x t))
-              ∙ ap (offset (widths_in exprs)) (sym x)
+              subst (λ (j : ℕ). get_or forms' (6 * j + 1) 0 ≡ offset (widths_in exprs) j) (sym x) (new i x t).0
 
           form_of_lem : (i : ℕ) → i < e + 1 → get_or forms' (6 * i) 0 < 65536 → Dec (i < e) → Means signals exprs stmts i (form_at forms' i)
           form_of_lem i h t (yes y) = subst (Means signals exprs stmts i) (sym (same_form i y)) (f.formed i y (old_small i y t))
           form_of_lem i h t (no y) =
               let x : i ≡ e = omega arith in
-              let s : p.table < 65536 = small i x t in
-              let a : p.table ≡ z.table = p.as_found s in
-              subst (λ (j : ℕ). Means signals exprs stmts j (form_at forms' j)) (sym x) (subst (Means signals exprs stmts e) (sym (new_form a)) (g.finds (omega arith) f))
+              subst (λ (j : ℕ). Means signals exprs stmts j (form_at forms' j)) (sym x) (new i x t).1
 
 pub formed_none : (signals exprs stmts forms : List ℕ) → Formed signals exprs stmts forms 0
 formed_none signals exprs stmts forms = record { own_position = λ i h t. absurd (not-suc-le-zero h); formed = λ i h t. absurd (not-suc-le-zero h) }

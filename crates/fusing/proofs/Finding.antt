@@ -1,14 +1,16 @@
 -- The form of an expression, by its kind, shows its value. Assumes nothing.
-use Prim.Native.Nat.{ℕ, suc, ◌+◌, ◌*◌, ◌%◌, ◌≤◌, ◌<◌}
+use Prim.Native.Nat.{ℕ, suc, ◌+◌, ◌*◌, ◌-◌, ◌%◌, ◌≤◌, ◌<◌}
 use mathlib.Core.Path.{◌≡◌, refl, sym, ◌∙◌, ap, ap₂, subst}
 use mathlib.Core.Logic.{◌⊎◌, inl, inr}
 use mathlib.Core.Bool.{Bool, true, false}
 use mathlib.Core.List.{List, [], ◌∷◌}
 use Rattle.std.specs.Prelude.{Option, None, Some}
+use Rattle.std.specs.Option.{IfSome}
+use Rattle.bits.proofs.Options.{none_ne_some, some_injective}
 use native.Mathlib.Omega.{arith}
 use native.Mathlib.Nat.{add-zero}
-use lib.Dec.{eqb}
-use lib.ListN.{length, get_or, drop, replicate, length-replicate, get_or-append, get_or-eq_default}
+use native.Mathlib.Decide.{dec_lt}
+use lib.ListN.{length, get_or, drop, length-take, replicate, length-replicate, get_or-append}
 use lib.Seq.{get_or-take, get_or-drop, get_or-append-add}
 use borrow.Author.Tests.{eq-eqb, ne_eqb}
 use Rattle.bits.specs.Bits.{pick, Bits, binary, window, lowest, same, same_bits, table_bit}
@@ -18,9 +20,10 @@ use Rattle.recorder.specs.Read.{model_of}
 use Rattle.recorder.specs.Evaluate.{Signals, value_of, eval_expr}
 use Rattle.simulation.specs.Run.{flat}
 use Rattle.simulation.specs.Tick.{given, assigns, become}
-use Rattle.simulation.specs.Index.{records_in, widths_in, offset, start_of, clipped, stmts_in, driver_by, Indexed, Starts}
+use Rattle.simulation.specs.Index.{records_in, widths_in, offset, start_of, clipped, stmts_in, driver_by, fields_at, size_at, Indexed, Starts}
 use Rattle.simulation.proofs.Flat.{Wide, flat_part}
-use Rattle.simulation.proofs.Tables.{indexed_read, starts_read, driver_right}
+use Rattle.simulation.proofs.Tables.{indexed_read, starts_read, entry_said, driver_right}
+use Rattle.simulation.proofs.Offsets.{field_in}
 use Rattle.simulation.proofs.Steps.{length_widths}
 use Rattle.evaluation.specs.Bytes.{gate_of}
 use Rattle.evaluation.specs.Consistent.{assigned, Consistent}
@@ -32,82 +35,76 @@ use Rattle.evaluation.proofs.Whole.{ready, expr_fits_lem, driver_there, driver_w
 use Rattle.fusing.specs.declared.join.Lut.{Lut}
 use Rattle.fusing.specs.Form.{bit_at, Form, row, form_bit, form_at, Means, Formed}
 use Rattle.fusing.specs.Join.{form_of, gate_bit, Alone, Joins, bits_from, Matches}
-use Rattle.fusing.specs.Finding.{Known, Entry, spot_of, Spotted, OneBit, OneSpot, Own, Fused, Fuses, Compared, Equates, Finds}
+use Rattle.fusing.specs.Finding.{Known, Entry, spot_of, Spotted, Constant, Own, Fused, Compared, Finds}
 use Rattle.fusing.proofs.Joining.{row_under}
 
 -- WORDS AND TABLES
 
-pub word_past : (l : List ℕ) (at j : ℕ) → length l ≤ at → 0 ≡ get_or l (at + j) 0
-word_past l at j h = sym (get_or-eq_default l 0 (omega arith))
+-- what holds of a value, if there is one
+pub some_to : {A : Type 0} {P Q : A → Type 0} (o : Option A) → IfSome o P → ((x : A) → P x → Q x) → IfSome o Q
+some_to None h f = h
+some_to (Some x) h f = f x h
 
-pub word_behind : (l : List ℕ) (at j : ℕ) → length l ≤ at + j → 0 ≡ get_or l (at + j) 0
-word_behind l at j h = sym (get_or-eq_default l 0 h)
+pub of_some : {A : Type 0} (P : A → Type 0) (o : Option A) → IfSome o P → (x : A) → o ≡ Some x → P x
+of_some P None h x e = absurd (none_ne_some x e)
+of_some P (Some y) h x e = subst P (some_injective y x e) h
 
-pub entry_offset : {ws table : List ℕ} {k r : ℕ} → Entry table k r → Indexed ws table → k ≤ length ws → r < 4294967295 → r ≡ offset ws k
-entry_offset {ws} {table} {k} n i h s = let e = n.said s in e ∙ indexed_read i k (n.inside s) h (omega arith)
+-- a field of the record at a word
+pub field_word : (l f : List ℕ) (at j w : ℕ) → f ≡ fields_at l at (size_at l at) → w ≡ get_or f j 0 → j < length f → w ≡ get_or l (at + (j + 1)) 0
+field_word l f at j w e h q = h ∙ ap (λ (r : List ℕ). get_or r j 0) e ∙ inside (dec_lt j (size_at l at - 1))
+  where
+    there : j < length (fields_at l at (size_at l at))
+    there = subst (λ (r : List ℕ). j < length r) e q
 
-pub entry_start : {l table : List ℕ} {k r : ℕ} → Entry table k r → Starts l table → k < length (records_in l) → r < 4294967295 → r ≡ start_of l k
-entry_start {l} {table} {k} n i h s = let e = n.said s in e ∙ starts_read i k (n.inside s) h (omega arith)
+    inside : Dec (j < size_at l at - 1) → get_or (fields_at l at (size_at l at)) j 0 ≡ get_or l (at + (j + 1)) 0
+    inside (yes y) = let z : at + 1 + j ≡ at + (j + 1) = omega arith in sym (field_in l at (size_at l at) j y) ∙ ap (λ (n : ℕ). get_or l n 0) z
+    inside (no n) = absurd (omega (arith, there, length-take (size_at l at - 1) (drop (at + 1) l)))
+
+pub entry_offset : {ws table : List ℕ} {k r : ℕ} → Entry table k r → Indexed ws table → k ≤ length ws → r ≡ offset ws k
+entry_offset {ws} {table} {k} {r} n i h = let e = entry_said table k r n in e.1 ∙ indexed_read i k e.0 h (omega (arith, e.1, e.2))
+
+pub entry_start : {l table : List ℕ} {k r : ℕ} → Entry table k r → Starts l table → k < length (records_in l) → r ≡ start_of l k
+entry_start {l} {table} {k} {r} n i h = let e = entry_said table k r n in e.1 ∙ starts_read i k e.0 h (omega (arith, e.1, e.2))
 
 -- WHERE A SIGNAL'S BIT STANDS
 
 module _ (stmts expr_table signal_table driver_table : List ℕ) (base s l : ℕ) where
-  pub spot_by : (d : ℕ) → Some d ≡ driver_by stmts driver_table s → (w n : ℕ) → w ≡ d → Entry expr_table w n → (r : ℕ) → r ≡ clipped (n + l) → Spotted stmts expr_table signal_table driver_table base s l r
-  spot_by d e w n hw t r hr = record {
-    spotted = λ ew sw i j v b k g z.
+  pub spot_by : (d : ℕ) → Some d ≡ driver_by stmts driver_table s → (w n : ℕ) → w ≡ d → Entry expr_table w n → (r : ℕ) → r ≡ clipped (n + l) → r < 4294967295 → Spotted stmts expr_table signal_table driver_table base s l r
+  spot_by d e w n hw t r hr z = record {
+    spotted = λ ew sw i j v b k g.
         let o : given assigns (stmts_in stmts) s ≡ Some d = sym (driver_right _ _ _ e v) in
         let q : w ≤ length ew = (let m = g d o in omega arith) in
-        let p : n ≡ offset ew w = entry_offset t i q (omega arith) in
+        let p : n ≡ offset ew w = entry_offset t i q in
         let p' : n ≡ offset ew d = p ∙ ap (offset ew) hw in
         let y : r ≡ offset ew d + l = omega arith in
         y ∙ ap (spot_of ew sw s l) (sym o);
   }
 
-  pub spot_kept : None ≡ driver_by stmts driver_table s → (n : ℕ) → Entry signal_table s n → (m r : ℕ) → m ≡ clipped (base + n) → r ≡ clipped (m + l) → Spotted stmts expr_table signal_table driver_table base s l r
-  spot_kept e n t m r hm hr = record {
-    spotted = λ ew sw i j v b k g z.
+  pub spot_kept : None ≡ driver_by stmts driver_table s → (n : ℕ) → Entry signal_table s n → (m r : ℕ) → m ≡ clipped (base + n) → r ≡ clipped (m + l) → r < 4294967295 → Spotted stmts expr_table signal_table driver_table base s l r
+  spot_kept e n t m r hm hr z = record {
+    spotted = λ ew sw i j v b k g.
         let o : given assigns (stmts_in stmts) s ≡ None = sym (driver_right _ _ _ e v) in
-        let p : n ≡ offset sw s = entry_offset t j k (omega arith) in
+        let p : n ≡ offset sw s = entry_offset t j k in
         let y : r ≡ offset ew (length ew) + offset sw s + l = omega arith in
         y ∙ ap (spot_of ew sw s l) (sym o);
   }
 
 -- CONSTANTS
 
-module _ (exprs : List ℕ) (at : ℕ) (z : Lut) where
-  pub const_one : (w v : ℕ) → w ≡ get_or exprs (at + 2) 0 → v ≡ get_or exprs (at + 3) 0 → w ≡ 1 → v % 2 ≡ 1 → z.table ≡ 65535 → OneBit exprs at z
-  const_one w v hw hv h1 h2 t = record {
-    one_bit = sym hw ∙ h1;
-    bit = λ x. ap (λ (n : ℕ). table_bit n (row x (form_of z))) t ∙ bit_ones 16 (row x (form_of z)) (row_under x (form_of z)) ∙ sym (ap (λ (n : ℕ). eqb (n % 2) 1) (sym hv) ∙ eq-eqb (v % 2) 1 h2);
-  }
+module _ (v : ℕ) (z : Lut) where
+  pub const_one : v % 2 ≡ 1 → z.table ≡ 65535 → Constant v z
+  const_one h t = record { bit = λ x. ap (λ (n : ℕ). table_bit n (row x (form_of z))) t ∙ bit_ones 16 (row x (form_of z)) (row_under x (form_of z)) ∙ sym (eq-eqb (v % 2) 1 h) }
 
-  pub const_zero : (w v : ℕ) → w ≡ get_or exprs (at + 2) 0 → v ≡ get_or exprs (at + 3) 0 → w ≡ 1 → (v % 2 ≡ 1 → ⊥) → z.table ≡ 0 → OneBit exprs at z
-  const_zero w v hw hv h1 h2 t = record {
-    one_bit = sym hw ∙ h1;
-    bit = λ x. ap (λ (n : ℕ). table_bit n (row x (form_of z))) t ∙ bit_none (row x (form_of z)) ∙ sym (ap (λ (n : ℕ). eqb (n % 2) 1) (sym hv) ∙ ne_eqb (v % 2) 1 h2);
-  }
-
--- READS
-
-pub one_spot : (exprs stmts expr_table signal_table driver_table : List ℕ) (base at : ℕ) (z : Lut) (w v s l p : ℕ) → w ≡ get_or exprs (at + 2) 0 → w ≡ 1 → v ≡ get_or exprs (at + 3) 0 → s ≡ v → l ≡ get_or exprs (at + 4) 0 → Spotted stmts expr_table signal_table driver_table base s l p → (p ≡ 4294967295 → ⊥) → p < 4294967296 → Alone p z → OneSpot exprs stmts expr_table signal_table driver_table base at z
-one_spot exprs stmts expr_table signal_table driver_table base at z w v s l p hw h1 hv hs hl h d f a = record {
-  one_bit = sym hw ∙ h1;
-  spot = p;
-  small = omega arith;
-  spotted = subst (λ (n : ℕ). Spotted stmts expr_table signal_table driver_table base n (get_or exprs (at + 4) 0) p) (hs ∙ hv) (subst (λ (n : ℕ). Spotted stmts expr_table signal_table driver_table base s n p) hl h);
-  alone = a;
-}
+  pub const_zero : (v % 2 ≡ 1 → ⊥) → z.table ≡ 0 → Constant v z
+  const_zero h t = record { bit = λ x. ap (λ (n : ℕ). table_bit n (row x (form_of z))) t ∙ bit_none (row x (form_of z)) ∙ sym (ne_eqb (v % 2) 1 h) }
 
 -- OPERANDS
 
-pub view_is : (forms : List ℕ) (o w t a b c d : ℕ) → w ≡ o → t ≡ get_or forms (6 * w + 0) 0 → a ≡ get_or forms (6 * w + 2) 0 → b ≡ get_or forms (6 * w + 3) 0 → c ≡ get_or forms (6 * w + 4) 0 → d ≡ get_or forms (6 * w + 5) 0 → form_of (record { table = t; a = a; b = b; c = c; d = d }) ≡ form_at forms o
+pub view_is : (forms : List ℕ) (o w t a b c d : ℕ) → w ≡ o → t ≡ get_or forms (6 * w) 0 → a ≡ get_or forms (6 * w + 2) 0 → b ≡ get_or forms (6 * w + 3) 0 → c ≡ get_or forms (6 * w + 4) 0 → d ≡ get_or forms (6 * w + 5) 0 → form_of (record { table = t; inputs = a ∷ b ∷ c ∷ d ∷ [] }) ≡ form_at forms o
 view_is forms o w t a b c d hw ht ha hb hc hd = same_form ∙ ap (form_at forms) hw
   where
-    same_form : form_of (record { table = t; a = a; b = b; c = c; d = d }) ≡ form_at forms w
-    same_form =
-        let z : 6 * w + 0 ≡ 6 * w = omega arith in
-        let ht' : t ≡ get_or forms (6 * w) 0 = ht ∙ ap (λ (n : ℕ). get_or forms n 0) z in
-        cc
+    same_form : form_of (record { table = t; inputs = a ∷ b ∷ c ∷ d ∷ [] }) ≡ form_at forms w
+    same_form = cc
 
 pub alone_at : (forms : List ℕ) (o w p : ℕ) (z : Lut) → w ≡ o → p ≡ get_or forms (6 * w + 1) 0 → Alone p z → Alone (get_or forms (6 * o + 1) 0) z
 alone_at forms o w p z hw hp a = subst (λ (n : ℕ). Alone n z) (hp ∙ ap (λ (n : ℕ). get_or forms (6 * n + 1) 0) hw) a
@@ -115,47 +112,37 @@ alone_at forms o w p z hw hp a = subst (λ (n : ℕ). Alone n z) (hp ∙ ap (λ 
 gate_same : (kind : ℕ) {a b c a' b' c' : Bool} → a ≡ a' → b ≡ b' → c ≡ c' → gate_bit kind a b c ≡ gate_bit kind a' b' c'
 gate_same kind {a} {b} {c} {a'} {b'} {c'} ha hb hc = ap₂ (λ (x y : Bool). gate_bit kind x y c) ha hb ∙ ap (gate_bit kind a' b') hc
 
-module _ (forms : List ℕ) (kind a b c : ℕ) where
-  pub fused_none : (z : Lut) → z.table ≡ 65536 → Fuses forms kind a b c z
-  fused_none z e = record { fuses = λ s. absurd (omega arith) }
+module _ (forms : List ℕ) (kind a b c : ℕ) (p q r z : Lut) (hp : form_of p ≡ form_at forms a) (hq : form_of q ≡ form_at forms b) (hr : form_of r ≡ form_at forms c) (sp : p.table < 65536) (sq : q.table < 65536) (sr : r.table < 65536) where
+  formed : (o : ℕ) (v : Lut) → form_of v ≡ form_at forms o → v.table < 65536 → get_or forms (6 * o) 0 < 65536
+  formed o v h s = let e : v.table ≡ get_or forms (6 * o) 0 = ap (λ (f : Form). f.table) h in omega arith
 
-  module _ (p q r z : Lut) (hp : form_of p ≡ form_at forms a) (hq : form_of q ≡ form_at forms b) (hr : form_of r ≡ form_at forms c) (sp : p.table < 65536) (sq : q.table < 65536) (sr : r.table < 65536) where
-    formed : (o : ℕ) (v : Lut) → form_of v ≡ form_at forms o → v.table < 65536 → get_or forms (6 * o) 0 < 65536
-    formed o v h s = let e : v.table ≡ get_or forms (6 * o) 0 = ap (λ (f : Form). f.table) h in omega arith
+  -- of the operands' forms
+  pub fused_forms : Joins kind p q r z → Fused forms kind a b c z
+  fused_forms j = record {
+    first = formed a p hp sp;
+    second = formed b q hq sq;
+    third = formed c r hr sr;
+    shows = λ x oa ob oc. j.joins x ∙ gate_same kind (ap (form_bit x) hp) (ap (form_bit x) hq) (ap (form_bit x) hr);
+  }
 
-    -- of the operands' forms
-    pub fused_forms : Joins kind p q r z → Fuses forms kind a b c z
-    fused_forms j = record {
-      fuses = λ s. record {
-        first = formed a p hp sp;
-        second = formed b q hq sq;
-        third = formed c r hr sr;
-        shows = λ x oa ob oc. j.joins s x ∙ gate_same kind (ap (form_bit x) hp) (ap (form_bit x) hq) (ap (form_bit x) hr);
-      };
-    }
-
-    -- of the operands' values
-    pub fused_values : (u v w : Lut) → Alone (get_or forms (6 * a + 1) 0) u → Alone (get_or forms (6 * b + 1) 0) v → Alone (get_or forms (6 * c + 1) 0) w → Joins kind u v w z → Fuses forms kind a b c z
-    fused_values u v w hu hv hw j = record {
-      fuses = λ s. record {
-        first = formed a p hp sp;
-        second = formed b q hq sq;
-        third = formed c r hr sr;
-        shows = λ x oa ob oc. j.joins s x ∙ gate_same kind (hu.alone x ∙ oa) (hv.alone x ∙ ob) (hw.alone x ∙ oc);
-      };
-    }
+  -- of the operands' values
+  pub fused_values : (u v w : Lut) → Alone (get_or forms (6 * a + 1) 0) u → Alone (get_or forms (6 * b + 1) 0) v → Alone (get_or forms (6 * c + 1) 0) w → Joins kind u v w z → Fused forms kind a b c z
+  fused_values u v w hu hv hw j = record {
+    first = formed a p hp sp;
+    second = formed b q hq sq;
+    third = formed c r hr sr;
+    shows = λ x oa ob oc. j.joins x ∙ gate_same kind (hu.alone x ∙ oa) (hv.alone x ∙ ob) (hw.alone x ∙ oc);
+  }
 
 -- COMPARISONS WITH A CONSTANT
 
-pub is_compared : (exprs starts expr_table : List ℕ) (a b : ℕ) (z : Lut) (i begin at kind o own w v : ℕ) → i ≡ b → Entry starts i begin → (begin ≡ 4294967295 → ⊥) → begin < 4294967296 → at ≡ begin → kind ≡ get_or exprs (at + 1) 0 → kind ≡ 0 → o ≡ a → Entry expr_table o own → own < 4294967292 → w ≡ get_or exprs (at + 2) 0 → v ≡ get_or exprs (at + 3) 0 → Matches w v own z → Compared exprs starts expr_table a b z
-is_compared exprs starts expr_table a b z i begin at kind o own w v hi n d f ht hk h0 ho t s hw hv g = record {
+pub is_compared : (exprs starts expr_table : List ℕ) (a b : ℕ) (z : Lut) (i begin at o own w v : ℕ) → i ≡ b → Entry starts i begin → at ≡ begin → 0 ≡ get_or exprs (at + 1) 0 → o ≡ a → Entry expr_table o own → w ≡ get_or exprs (at + 2) 0 → v ≡ get_or exprs (at + 3) 0 → Matches w v own z → Compared exprs starts expr_table a b z
+is_compared exprs starts expr_table a b z i begin at o own w v hi n ht hk ho t hw hv g = record {
   begin = at;
   begins = subst (λ (m : ℕ). Entry starts m at) hi (subst (λ (m : ℕ). Entry starts i m) (sym ht) n);
-  there = omega arith;
-  constant = sym hk ∙ h0;
+  constant = sym hk;
   own = own;
   owned = subst (λ (m : ℕ). Entry expr_table m own) ho t;
-  small = omega arith;
   matches = subst (λ (m : ℕ). Matches m (get_or exprs (at + 3) 0) own z) hw (subst (λ (m : ℕ). Matches w m own z) hv g);
 }
 
@@ -243,10 +230,9 @@ module _ {signals exprs stmts starts expr_table signal_table driver_table : List
           ap (bit_at vs old) (f.own_position o lt t) ∙ at_first ew vs old wv o there (omega arith) ∙ ap lowest operand_value
 
   -- a gate of formed operands
-  fused_means : (forms : List ℕ) (kind a b c : ℕ) (z : Lut) → a < e → b < e → c < e → Fuses forms kind a b c z → ((σ : Signals) (vs : List Bits) (x y w : Bool) → get_or vs a [] ≡ x ∷ [] → get_or vs b [] ≡ y ∷ [] → get_or vs c [] ≡ w ∷ [] → eval_expr σ vs (expr_in exprs e) ≡ gate_bit kind x y w ∷ []) → Finds signals exprs stmts forms e z
-  fused_means forms kind a b c z la lb lc g value = record {
-    finds = λ s f.
-        let u : Fused forms kind a b c z = g.fuses s in
+  fused_means : (forms : List ℕ) (kind a b c : ℕ) (z : Lut) → a < e → b < e → c < e → Fused forms kind a b c z → ((σ : Signals) (vs : List Bits) (x y w : Bool) → get_or vs a [] ≡ x ∷ [] → get_or vs b [] ≡ y ∷ [] → get_or vs c [] ≡ w ∷ [] → eval_expr σ vs (expr_in exprs e) ≡ gate_bit kind x y w ∷ []) → Finds signals exprs stmts forms e z
+  fused_means forms kind a b c z la lb lc u value = record {
+    finds = λ f.
         record {
           means = λ old vs wo wv con.
               sym (own_value old vs wv con)
@@ -255,11 +241,8 @@ module _ {signals exprs stmts starts expr_table signal_table driver_table : List
         };
   }
 
-  pub begins : (r w : ℕ) → Entry starts e r → (r ≡ 4294967295 → ⊥) → r < 4294967296 → w ≡ r → w ≡ start_of exprs e
-  begins r w n d v h = h ∙ entry_start n k.started q (omega arith)
-
-  pub finds_none : (forms : List ℕ) (z : Lut) → z.table ≡ 65536 → Finds signals exprs stmts forms e z
-  finds_none forms z t = record { finds = λ s f. absurd (omega arith) }
+  pub begins : (r w : ℕ) → Entry starts e r → w ≡ r → w ≡ start_of exprs e
+  begins r w n h = h ∙ entry_start n k.started q
 
   module _ {at : ℕ} (b : at ≡ start_of exprs e) where
     rd : Ready exprs expr_table values at e
@@ -270,27 +253,26 @@ module _ {signals exprs stmts starts expr_table signal_table driver_table : List
 
     -- BY KIND
 
-    pub finds_const : (forms : List ℕ) (z : Lut) (kind : ℕ) → kind ≡ get_or exprs (at + 1) 0 → kind ≡ 0 → (z.table < 65536 → OneBit exprs at z) → Finds signals exprs stmts forms e z
-    finds_const forms z kind kd k0 g = record {
-      finds = λ s f.
-          let u : OneBit exprs at z = g s in
+    pub finds_const : (forms : List ℕ) (z : Lut) → 0 ≡ get_or exprs (at + 1) 0 → 1 ≡ get_or exprs (at + 2) 0 → (v : ℕ) → v ≡ get_or exprs (at + 3) 0 → Constant v z → Finds signals exprs stmts forms e z
+    finds_const forms z kd one v hv u = record {
+      finds = λ f.
           record {
             means = λ old vs wo wv con.
                 sym (own_value old vs wv con)
-                ∙ (const_ready rd (sym kd ∙ k0)).0.value (assigned m old vs) vs
-                ∙ ap (λ (n : ℕ). binary n (word 3)) u.one_bit
+                ∙ (const_ready rd (sym kd)).0.value (assigned m old vs) vs
+                ∙ ap₂ (λ (n w : ℕ). binary n w) (sym one) (sym hv)
                 ∙ ap (λ (y : Bool). y ∷ []) (sym (u.bit (bit_at vs old)));
           };
     }
 
     module _ (forms : List ℕ) (z : Lut) where
-      pub finds_not : (kind : ℕ) → kind ≡ get_or exprs (at + 1) 0 → kind ≡ 3 → (a : ℕ) → a ≡ get_or exprs (at + 3) 0 → Fuses forms kind a a a z → Finds signals exprs stmts forms e z
+      pub finds_not : (kind : ℕ) → kind ≡ get_or exprs (at + 1) 0 → kind ≡ 3 → (a : ℕ) → a ≡ get_or exprs (at + 3) 0 → Fused forms kind a a a z → Finds signals exprs stmts forms e z
       finds_not kind kd k3 a ha g =
           let r : Gate ew e 3 a a (expr_in exprs e) = subst (λ (n : ℕ). Gate ew e 3 n n (expr_in exprs e)) (sym ha) (not_ready rd (sym kd ∙ k3)).0 in
           fused_means forms kind a a a z r.first.before_it r.first.before_it r.first.before_it g
           (λ σ vs x y w hx hy hw. r.value σ vs ∙ ap (λ (v : Bits). gate_of 3 (lowest v) (lowest v) ∷ []) hx ∙ ap (λ (n : ℕ). gate_bit n x y w ∷ []) (sym k3))
 
-      pub finds_gate : (kind : ℕ) → kind ≡ get_or exprs (at + 1) 0 → 4 ≤ kind → kind ≤ 6 → (a i : ℕ) → a ≡ get_or exprs (at + 3) 0 → i ≡ get_or exprs (at + 4) 0 → Fuses forms kind a i i z → Finds signals exprs stmts forms e z
+      pub finds_gate : (kind : ℕ) → kind ≡ get_or exprs (at + 1) 0 → 4 ≤ kind → kind ≤ 6 → (a i : ℕ) → a ≡ get_or exprs (at + 3) 0 → i ≡ get_or exprs (at + 4) 0 → Fused forms kind a i i z → Finds signals exprs stmts forms e z
       finds_gate kind kd lo hi a i ha hi' g =
           let r : Gate ew e kind a i (expr_in exprs e) = subst (λ (n : ℕ). Gate ew e kind n i (expr_in exprs e)) (sym ha) (subst (λ (n : ℕ). Gate ew e kind (word 3) n (expr_in exprs e)) (sym hi') (gate_ready rd kd lo hi).0) in
           fused_means forms kind a i i z r.first.before_it r.second.before_it r.second.before_it g
@@ -299,10 +281,10 @@ module _ {signals exprs stmts starts expr_table signal_table driver_table : List
       -- a comparison by the operands' forms
       forms_equal : (a i : ℕ) → Equal (widths_in exprs) e a i (expr_in exprs e) → Fused forms 8 a i i z → Finds signals exprs stmts forms e z
       forms_equal a i r u =
-          fused_means forms 8 a i i z r.first r.second.before_it r.second.before_it (record { fuses = λ s. u })
+          fused_means forms 8 a i i z r.first r.second.before_it r.second.before_it u
           (λ σ vs x y w hx hy hw. r.value σ vs ∙ ap₂ (λ (u v : Bits). same_bits u v ∷ []) hx hy ∙ ap (λ (v : Bool). v ∷ []) (same_alike x y))
 
-      pub finds_mux : (kind : ℕ) → kind ≡ get_or exprs (at + 1) 0 → kind ≡ 7 → (a i j : ℕ) → a ≡ get_or exprs (at + 3) 0 → i ≡ get_or exprs (at + 4) 0 → j ≡ get_or exprs (at + 5) 0 → Fuses forms kind a i j z → Finds signals exprs stmts forms e z
+      pub finds_mux : (kind : ℕ) → kind ≡ get_or exprs (at + 1) 0 → kind ≡ 7 → (a i j : ℕ) → a ≡ get_or exprs (at + 3) 0 → i ≡ get_or exprs (at + 4) 0 → j ≡ get_or exprs (at + 5) 0 → Fused forms kind a i j z → Finds signals exprs stmts forms e z
       finds_mux kind kd k7 a i j ha hi' hj g =
           let r : Mux ew e (word 2) a i j (expr_in exprs e) = subst (λ (n : ℕ). Mux ew e (word 2) n i j (expr_in exprs e)) (sym ha) (subst (λ (n : ℕ). Mux ew e (word 2) (word 3) n j (expr_in exprs e)) (sym hi') (subst (λ (n : ℕ). Mux ew e (word 2) (word 3) (word 4) n (expr_in exprs e)) (sym hj) (mux_ready rd (sym kd ∙ k7)).0)) in
           fused_means forms kind a i j z r.select.before_it r.if_one.before_it r.if_zero.before_it g
@@ -335,20 +317,21 @@ module _ {signals exprs stmts starts expr_table signal_table driver_table : List
         spot_bit None h = sym (at_signal ew vs old wv sw wo s l reading.there (omega (arith, reading.inside)))
         spot_bit (Some d) h = sym (at_value ew vs old wv d l (driver_there k.prepared s h) (omega (arith, reading.inside, driver_wide k.prepared s h)))
 
-      pub finds_read : (z.table < 65536 → OneSpot exprs stmts expr_table signal_table driver_table base at z) → Finds signals exprs stmts forms e z
+      pub finds_read : 1 ≡ get_or exprs (at + 2) 0 → (v l p : ℕ) → v ≡ get_or exprs (at + 3) 0 → l ≡ get_or exprs (at + 4) 0 → (i : ℕ) → i ≡ v → Spotted stmts expr_table signal_table driver_table base i l p → Alone p z → Finds signals exprs stmts forms e z
       unfolding model_of
-      finds_read g = record {
-        finds = λ t f.
-            let u : OneSpot exprs stmts expr_table signal_table driver_table base at z = g t in
+      finds_read hone v l' p hv hl i hi u a = record {
+        finds = λ f.
+            let one : get_or exprs (at + 2) 0 ≡ 1 = sym hone in
             let there : get_or exprs (at + 3) 0 ≤ length sw = omega (arith, reading.there) in
             let based : base ≡ clipped (offset ew (length ew)) = hb ∙ ap (λ (n : ℕ). clipped (offset ew n)) (sym (length_widths exprs)) in
-            let spot_is : u.spot ≡ spot_of ew sw s l choice = u.spotted.spotted ew sw k.prepared.expr_offsets k.prepared.signal_offsets k.driven based there (λ d h. let x = driver_there k.prepared s h in omega arith) u.small in
+            let placed : Spotted stmts expr_table signal_table driver_table base s l p = subst (λ (n : ℕ). Spotted stmts expr_table signal_table driver_table base n l p) (hi ∙ hv) (subst (λ (n : ℕ). Spotted stmts expr_table signal_table driver_table base i n p) hl u) in
+            let spot_is : p ≡ spot_of ew sw s l choice = placed.spotted ew sw k.prepared.expr_offsets k.prepared.signal_offsets k.driven based there (λ d h. let x = driver_there k.prepared s h in omega arith) in
             record {
               means = λ old vs wo wv con.
                   sym (own_value old vs wv con)
                   ∙ reading.value (assigned m old vs) vs
-                  ∙ ap (window (assigned m old vs s) l) u.one_bit
-                  ∙ ap (λ (y : Bool). y ∷ []) (spot_bit u.one_bit old vs wo wv choice refl ∙ ap (bit_at vs old) (sym spot_is) ∙ sym (u.alone.alone (bit_at vs old)));
+                  ∙ ap (window (assigned m old vs s) l) one
+                  ∙ ap (λ (y : Bool). y ∷ []) (spot_bit one old vs wo wv choice refl ∙ ap (bit_at vs old) (sym spot_is) ∙ sym (a.alone (bit_at vs old)));
             };
       }
 
@@ -364,7 +347,7 @@ module _ {signals exprs stmts starts expr_table signal_table driver_table : List
     other_there = omega (arith, r.first, length_widths exprs)
 
     starts_at : u.begin ≡ start_of exprs i
-    starts_at = entry_start u.begins k.started constant_there u.there
+    starts_at = entry_start u.begins k.started constant_there
 
     constant : Const (get_or exprs (u.begin + 2) 0) (get_or exprs (u.begin + 3) 0) (expr_in exprs i)
     constant = (const_ready (rd k constant_there starts_at) u.constant).0
@@ -373,7 +356,7 @@ module _ {signals exprs stmts starts expr_table signal_table driver_table : List
     wide = sym r.second.as_wide ∙ own_width (rd k constant_there starts_at) ∙ constant.is_wide
 
     stands : u.own ≡ offset (widths_in exprs) a
-    stands = entry_offset u.owned k.prepared.expr_offsets (omega (arith, other_there)) u.small
+    stands = entry_offset u.owned k.prepared.expr_offsets (omega (arith, other_there))
 
     other_bits : (old vs : List Bits) → Wide (widths_in exprs) vs → get_or vs a [] ≡ bits_from (bit_at vs old) u.own (get_or exprs (u.begin + 2) 0)
     other_bits old vs wv =
@@ -381,21 +364,21 @@ module _ {signals exprs stmts starts expr_table signal_table driver_table : List
         bits_from_lem (bit_at vs old) (get_or vs a []) u.own (λ l h. ap (λ (n : ℕ). bit_at vs old (n + l)) stands ∙ at_value (widths_in exprs) vs old wv a l other_there (omega arith))
         ∙ ap (bits_from (bit_at vs old) u.own) (long ∙ wide)
 
-    constant_equal : z.table < 65536 → Means signals exprs stmts e (form_of z)
-    constant_equal s = record {
+    constant_equal : Means signals exprs stmts e (form_of z)
+    constant_equal = record {
       means = λ old vs wo wv con.
           sym (own_value k q old vs wv con)
           ∙ r.value (assigned (model_in signals exprs stmts) old vs) vs
           ∙ ap₂ (λ (x y : Bits). same_bits x y ∷ []) (other_bits old vs wv) (sym (own_value k constant_there old vs wv con) ∙ constant.value (assigned (model_in signals exprs stmts) old vs) vs)
-          ∙ ap (λ (y : Bool). y ∷ []) (sym (u.matches.matches s (bit_at vs old)));
+          ∙ ap (λ (y : Bool). y ∷ []) (sym (u.matches.matches (bit_at vs old)));
     }
 
-  pub finds_equal : {at : ℕ} → at ≡ start_of exprs e → (forms : List ℕ) (z : Lut) (kind : ℕ) → kind ≡ get_or exprs (at + 1) 0 → kind ≡ 8 → (a i : ℕ) → a ≡ get_or exprs (at + 3) 0 → i ≡ get_or exprs (at + 4) 0 → Equates exprs starts expr_table forms a i z → Finds signals exprs stmts forms e z
-  finds_equal {at} b forms z kind kd k8 a i ha hi g = record { finds = λ s f. go s f (g.equates s) }
+  pub finds_equal : {at : ℕ} → at ≡ start_of exprs e → (forms : List ℕ) (z : Lut) (kind : ℕ) → kind ≡ get_or exprs (at + 1) 0 → kind ≡ 8 → (a i : ℕ) → a ≡ get_or exprs (at + 3) 0 → i ≡ get_or exprs (at + 4) 0 → Fused forms 8 a i i z ⊎ Compared exprs starts expr_table a i z → Finds signals exprs stmts forms e z
+  finds_equal {at} b forms z kind kd k8 a i ha hi g = record { finds = λ f. go f g }
     where
       r : Equal (widths_in exprs) e a i (expr_in exprs e)
       r = subst (λ (n : ℕ). Equal (widths_in exprs) e n i (expr_in exprs e)) (sym ha) (subst (λ (n : ℕ). Equal (widths_in exprs) e (get_or exprs (at + 3) 0) n (expr_in exprs e)) (sym hi) (equal_ready (rd k q b) (sym kd ∙ k8)).0)
 
-      go : z.table < 65536 → Formed signals exprs stmts forms e → Fused forms 8 a i i z ⊎ Compared exprs starts expr_table a i z → Means signals exprs stmts e (form_of z)
-      go s f (inl u) = (forms_equal k q b forms z a i r u).finds s f
-      go s f (inr u) = constant_equal r u s
+      go : Formed signals exprs stmts forms e → Fused forms 8 a i i z ⊎ Compared exprs starts expr_table a i z → Means signals exprs stmts e (form_of z)
+      go f (inl u) = (forms_equal k q b forms z a i r u).finds f
+      go f (inr u) = constant_equal r u

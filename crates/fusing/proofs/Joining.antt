@@ -2,7 +2,8 @@
 use Prim.Native.Nat.{ℕ, zero, suc, ◌+◌, ◌-◌, ◌*◌, ◌/◌, ◌%◌, ◌^◌, ◌≤◌, ◌<◌}
 use mathlib.Core.Path.{◌≡◌, refl, sym, ◌∙◌, ap, ap₂, subst}
 use mathlib.Core.Bool.{Bool, true, false, not, ◌&&◌, ◌||◌}
-use mathlib.Core.List.{[], ◌∷◌}
+use mathlib.Core.List.{List, [], ◌∷◌}
+use lib.ListN.{get_or}
 use native.Mathlib.Omega.{arith}
 use native.Mathlib.Nat.{pow-succ', zero-add, add-zero}
 use lib.Dec.{eqb}
@@ -12,7 +13,6 @@ use Rattle.bits.specs.Bits.{pick, digit, binary, same, same_bits, table_bit}
 use Rattle.bits.proofs.TableBits.{bit_first, bit_next, bit_none, bit_ones}
 use Rattle.settle.specs.Tests.{and_left, and_right}
 use Rattle.fusing.specs.declared.join.Lut.{Lut}
-use Rattle.fusing.specs.declared.join.Spots.{Spots}
 use Rattle.fusing.specs.Form.{Form, row, form_bit}
 use Rattle.fusing.specs.Join.{form_of, gate_bit, look_in, among, row_of, row_bit, Tabled, flat_table, Covers, Alone, Joins, bits_from, Matches}
 
@@ -44,24 +44,24 @@ gate_else kind p q r h4 h5 h6 h7 h8 = rw (ne_eqb kind 7 h7, ne_eqb kind 8 h8, ne
 
 -- ROWS
 
-module _ (s : Spots) (i p : ℕ) where
-  pub look_a : p ≡ s.a → i % 2 ≡ digit (look_in s i p)
-  look_a h = rw (eq-eqb p s.a h) (low_bit i)
+module _ (s : List ℕ) (i p : ℕ) where
+  pub look_a : p ≡ get_or s 0 0 → i % 2 ≡ digit (look_in s i p)
+  look_a h = rw (eq-eqb p (get_or s 0 0) h) (low_bit i)
 
-  module _ (na : p ≡ s.a → ⊥) where
-    pub look_b : p ≡ s.b → i / 2 % 2 ≡ digit (look_in s i p)
-    look_b h = rw (ne_eqb p s.a na, eq-eqb p s.b h) (low_bit (i / 2))
+  module _ (na : p ≡ get_or s 0 0 → ⊥) where
+    pub look_b : p ≡ get_or s 1 0 → i / 2 % 2 ≡ digit (look_in s i p)
+    look_b h = rw (ne_eqb p (get_or s 0 0) na, eq-eqb p (get_or s 1 0) h) (low_bit (i / 2))
 
-    module _ (nb : p ≡ s.b → ⊥) where
-      pub look_c : p ≡ s.c → i / 4 % 2 ≡ digit (look_in s i p)
-      look_c h = rw (ne_eqb p s.a na, ne_eqb p s.b nb, eq-eqb p s.c h) (low_bit (i / 4))
+    module _ (nb : p ≡ get_or s 1 0 → ⊥) where
+      pub look_c : p ≡ get_or s 2 0 → i / 4 % 2 ≡ digit (look_in s i p)
+      look_c h = rw (ne_eqb p (get_or s 0 0) na, ne_eqb p (get_or s 1 0) nb, eq-eqb p (get_or s 2 0) h) (low_bit (i / 4))
 
-      module _ (nc : p ≡ s.c → ⊥) where
-        pub look_d : p ≡ s.d → i / 8 % 2 ≡ digit (look_in s i p)
-        look_d h = rw (ne_eqb p s.a na, ne_eqb p s.b nb, ne_eqb p s.c nc, eq-eqb p s.d h) (low_bit (i / 8))
+      module _ (nc : p ≡ get_or s 2 0 → ⊥) where
+        pub look_d : p ≡ get_or s 3 0 → i / 8 % 2 ≡ digit (look_in s i p)
+        look_d h = rw (ne_eqb p (get_or s 0 0) na, ne_eqb p (get_or s 1 0) nb, ne_eqb p (get_or s 2 0) nc, eq-eqb p (get_or s 3 0) h) (low_bit (i / 8))
 
-        pub look_none : (p ≡ s.d → ⊥) → 0 ≡ digit (look_in s i p)
-        look_none nd = rw (ne_eqb p s.a na, ne_eqb p s.b nb, ne_eqb p s.c nc, ne_eqb p s.d nd)
+        pub look_none : (p ≡ get_or s 3 0 → ⊥) → 0 ≡ digit (look_in s i p)
+        look_none nd = rw (ne_eqb p (get_or s 0 0) na, ne_eqb p (get_or s 1 0) nb, ne_eqb p (get_or s 2 0) nc, ne_eqb p (get_or s 3 0) nd)
 
 pub row_small : (a b c d : Bool) → digit a + 2 * digit b + 4 * digit c + 8 * digit d < 16
 row_small a b c d = omega (arith, digit_small a, digit_small b, digit_small c, digit_small d)
@@ -70,29 +70,29 @@ pub row_under : (x : ℕ → Bool) (f : Form) → row x f < 16
 row_under x f = row_small (x f.first) (x f.second) (x f.third) (x f.fourth)
 
 -- the bit at a position of the row that some bits make is the bit there
-module _ (s : Spots) (x : ℕ → Bool) where
+module _ (s : List ℕ) (x : ℕ → Bool) where
   abbrev n : ℕ
   n = row_of x s
 
-  at_a : eqb (row_of x s % 2) 1 ≡ x s.a
+  at_a : eqb (row_of x s % 2) 1 ≡ x (get_or s 0 0)
   at_a =
-      let e : n % 2 ≡ digit (x s.a) = omega (arith, digit_small (x s.a), digit_small (x s.b), digit_small (x s.c), digit_small (x s.d)) in
-      ap (λ (k : ℕ). eqb k 1) e ∙ one_digit (x s.a)
+      let e : n % 2 ≡ digit (x (get_or s 0 0)) = omega (arith, digit_small (x (get_or s 0 0)), digit_small (x (get_or s 1 0)), digit_small (x (get_or s 2 0)), digit_small (x (get_or s 3 0))) in
+      ap (λ (k : ℕ). eqb k 1) e ∙ one_digit (x (get_or s 0 0))
 
-  at_b : eqb (row_of x s / 2 % 2) 1 ≡ x s.b
+  at_b : eqb (row_of x s / 2 % 2) 1 ≡ x (get_or s 1 0)
   at_b =
-      let e : n / 2 % 2 ≡ digit (x s.b) = omega (arith, digit_small (x s.a), digit_small (x s.b), digit_small (x s.c), digit_small (x s.d)) in
-      ap (λ (k : ℕ). eqb k 1) e ∙ one_digit (x s.b)
+      let e : n / 2 % 2 ≡ digit (x (get_or s 1 0)) = omega (arith, digit_small (x (get_or s 0 0)), digit_small (x (get_or s 1 0)), digit_small (x (get_or s 2 0)), digit_small (x (get_or s 3 0))) in
+      ap (λ (k : ℕ). eqb k 1) e ∙ one_digit (x (get_or s 1 0))
 
-  at_c : eqb (row_of x s / 4 % 2) 1 ≡ x s.c
+  at_c : eqb (row_of x s / 4 % 2) 1 ≡ x (get_or s 2 0)
   at_c =
-      let e : n / 4 % 2 ≡ digit (x s.c) = omega (arith, digit_small (x s.a), digit_small (x s.b), digit_small (x s.c), digit_small (x s.d)) in
-      ap (λ (k : ℕ). eqb k 1) e ∙ one_digit (x s.c)
+      let e : n / 4 % 2 ≡ digit (x (get_or s 2 0)) = omega (arith, digit_small (x (get_or s 0 0)), digit_small (x (get_or s 1 0)), digit_small (x (get_or s 2 0)), digit_small (x (get_or s 3 0))) in
+      ap (λ (k : ℕ). eqb k 1) e ∙ one_digit (x (get_or s 2 0))
 
-  at_d : eqb (row_of x s / 8 % 2) 1 ≡ x s.d
+  at_d : eqb (row_of x s / 8 % 2) 1 ≡ x (get_or s 3 0)
   at_d =
-      let e : n / 8 % 2 ≡ digit (x s.d) = omega (arith, digit_small (x s.a), digit_small (x s.b), digit_small (x s.c), digit_small (x s.d)) in
-      ap (λ (k : ℕ). eqb k 1) e ∙ one_digit (x s.d)
+      let e : n / 8 % 2 ≡ digit (x (get_or s 3 0)) = omega (arith, digit_small (x (get_or s 0 0)), digit_small (x (get_or s 1 0)), digit_small (x (get_or s 2 0)), digit_small (x (get_or s 3 0))) in
+      ap (λ (k : ℕ). eqb k 1) e ∙ one_digit (x (get_or s 3 0))
 
   step : (p a : ℕ) (here rest : Bool) → here ≡ x a → (eqb p a ≡ false → rest ≡ x p) → pick (eqb p a) here rest ≡ x p
   step p a here rest h g = go (eqb p a) refl
@@ -106,11 +106,11 @@ module _ (s : Spots) (x : ℕ → Bool) where
 
   pub found : (p : ℕ) → among s p ≡ true → look_in s (row_of x s) p ≡ x p
   found p h =
-      step p s.a _ _ at_a
-      (λ ea. step p s.b _ _ at_b
-      (λ eb. step p s.c _ _ at_c
-      (λ ec. step p s.d _ _ at_d
-      (λ ed. absurd (none_false (eqb p s.a) (eqb p s.b) (eqb p s.c) (eqb p s.d) h ea eb ec ed)))))
+      step p (get_or s 0 0) _ _ at_a
+      (λ ea. step p (get_or s 1 0) _ _ at_b
+      (λ eb. step p (get_or s 2 0) _ _ at_c
+      (λ ec. step p (get_or s 3 0) _ _ at_d
+      (λ ed. absurd (none_false (eqb p (get_or s 0 0)) (eqb p (get_or s 1 0)) (eqb p (get_or s 2 0)) (eqb p (get_or s 3 0)) h ea eb ec ed)))))
 
 -- WHAT A TABLE SHOWS
 
@@ -129,22 +129,22 @@ flat_at t i h q = go (eqb t 0) refl (eqb t 65535) refl
         ap (λ (n : ℕ). table_bit n i) z ∙ bit_ones 16 i q ∙ sym f
     go false e false f = absurd (let z : ◌≡◌ {A = Bool} false true = (rw (e, f) at h) in let y : ◌≡◌ {A = ℕ} 0 1 = cc in omega arith)
 
-module _ (s : Spots) (v : Lut) where
+module _ (s : List ℕ) (v : Lut) where
   pub covers_flat : flat_table v.table ≡ true → Covers s v
   covers_flat h = record {
     covers = λ x. flat_at v.table (row (look_in s (row_of x s)) (form_of v)) h (row_under (look_in s (row_of x s)) (form_of v)) ∙ sym (flat_at v.table (row x (form_of v)) h (row_under x (form_of v)));
   }
 
-  pub covers_all : among s v.a ≡ true → among s v.b ≡ true → among s v.c ≡ true → among s v.d ≡ true → Covers s v
+  pub covers_all : among s (get_or v.inputs 0 0) ≡ true → among s (get_or v.inputs 1 0) ≡ true → among s (get_or v.inputs 2 0) ≡ true → among s (get_or v.inputs 3 0) ≡ true → Covers s v
   covers_all ha hb hc hd = record {
-    covers = λ x. ap (table_bit v.table) (same_row _ _ _ _ _ _ _ _ (found s x v.a ha) (found s x v.b hb) (found s x v.c hc) (found s x v.d hd));
+    covers = λ x. ap (table_bit v.table) (same_row _ _ _ _ _ _ _ _ (found s x (get_or v.inputs 0 0) ha) (found s x (get_or v.inputs 1 0) hb) (found s x (get_or v.inputs 2 0) hc) (found s x (get_or v.inputs 3 0) hd));
   }
 
 alone_bit : (b : Bool) → table_bit 43690 (digit b + 2 * digit b + 4 * digit b + 8 * digit b) ≡ b
 alone_bit true = refl
 alone_bit false = refl
 
-pub is_alone : (p : ℕ) (v : Lut) → v.table ≡ 43690 → v.a ≡ p → v.b ≡ p → v.c ≡ p → v.d ≡ p → Alone p v
+pub is_alone : (p : ℕ) (v : Lut) → v.table ≡ 43690 → get_or v.inputs 0 0 ≡ p → get_or v.inputs 1 0 ≡ p → get_or v.inputs 2 0 ≡ p → get_or v.inputs 3 0 ≡ p → Alone p v
 is_alone p v t a b c d = record {
   alone = λ x. ap₂ table_bit t (same_row _ _ _ _ _ _ _ _ (ap x a) (ap x b) (ap x c) (ap x d)) ∙ alone_bit (x p);
 }
@@ -188,32 +188,32 @@ tabled_done {f} {t} {i} h q =
     let z : i ≡ 0 = omega arith in
     subst (λ (n : ℕ). Tabled f t n) z h
 
-pub tabled_joins : (kind : ℕ) (s : Spots) (p q r z : Lut) → Tabled (row_bit kind s p q r) z.table 0 → Covers s p → Covers s q → Covers s r → z.a ≡ s.a → z.b ≡ s.b → z.c ≡ s.c → z.d ≡ s.d → Joins kind p q r z
+pub tabled_joins : (kind : ℕ) (s : List ℕ) (p q r z : Lut) → Tabled (row_bit kind s p q r) z.table 0 → Covers s p → Covers s q → Covers s r → get_or z.inputs 0 0 ≡ get_or s 0 0 → get_or z.inputs 1 0 ≡ get_or s 1 0 → get_or z.inputs 2 0 ≡ get_or s 2 0 → get_or z.inputs 3 0 ≡ get_or s 3 0 → Joins kind p q r z
 tabled_joins kind s p q r z t cp cq cr ha hb hc hd = record {
-  joins = λ small x.
+  joins = λ x.
       ap (table_bit z.table) (same_row _ _ _ _ _ _ _ _ (ap x ha) (ap x hb) (ap x hc) (ap x hd))
-      ∙ t.rows (row_of x s) (omega (arith, row_small (x s.a) (x s.b) (x s.c) (x s.d)))
+      ∙ t.rows (row_of x s) (omega (arith, row_small (x (get_or s 0 0)) (x (get_or s 1 0)) (x (get_or s 2 0)) (x (get_or s 3 0))))
       ∙ ap (row_bit kind s p q r) (zero-add (row_of x s))
       ∙ ap₂ (λ (a b : Bool). gate_bit kind a b (form_bit (look_in s (row_of x s)) (form_of r))) (cp.covers x) (cq.covers x)
       ∙ ap (λ (c : Bool). gate_bit kind (form_bit x (form_of p)) (form_bit x (form_of q)) c) (cr.covers x);
 }
 
-pub none_joins : (kind : ℕ) (p q r z : Lut) → z.table ≡ 65536 → Joins kind p q r z
-none_joins kind p q r z e = record { joins = λ small x. absurd (omega arith) }
-
 -- ONE FUNCTION'S STEPS
 
-pub among_a : (s : Spots) (p : ℕ) → p ≡ s.a → true ≡ among s p
-among_a s p h = rw (eq-eqb p s.a h)
+pub not_both : (b : Bool) → b ≡ true → b ≡ false → ⊥
+not_both b h k = let z : ◌≡◌ {A = Bool} false true = sym k ∙ h in let y : ◌≡◌ {A = ℕ} 0 1 = cc in omega arith
 
-pub among_b : (s : Spots) (p : ℕ) → (p ≡ s.a → ⊥) → p ≡ s.b → true ≡ among s p
-among_b s p na h = rw (ne_eqb p s.a na, eq-eqb p s.b h)
+pub among_a : (s : List ℕ) (p : ℕ) → p ≡ get_or s 0 0 → true ≡ among s p
+among_a s p h = rw (eq-eqb p (get_or s 0 0) h)
 
-pub among_c : (s : Spots) (p : ℕ) → (p ≡ s.a → ⊥) → (p ≡ s.b → ⊥) → p ≡ s.c → true ≡ among s p
-among_c s p na nb h = rw (ne_eqb p s.a na, ne_eqb p s.b nb, eq-eqb p s.c h)
+pub among_b : (s : List ℕ) (p : ℕ) → (p ≡ get_or s 0 0 → ⊥) → p ≡ get_or s 1 0 → true ≡ among s p
+among_b s p na h = rw (ne_eqb p (get_or s 0 0) na, eq-eqb p (get_or s 1 0) h)
 
-pub among_d : (s : Spots) (p : ℕ) → (p ≡ s.a → ⊥) → (p ≡ s.b → ⊥) → (p ≡ s.c → ⊥) → eqb p s.d ≡ among s p
-among_d s p na nb nc = rw (ne_eqb p s.a na, ne_eqb p s.b nb, ne_eqb p s.c nc)
+pub among_c : (s : List ℕ) (p : ℕ) → (p ≡ get_or s 0 0 → ⊥) → (p ≡ get_or s 1 0 → ⊥) → p ≡ get_or s 2 0 → true ≡ among s p
+among_c s p na nb h = rw (ne_eqb p (get_or s 0 0) na, ne_eqb p (get_or s 1 0) nb, eq-eqb p (get_or s 2 0) h)
+
+pub among_d : (s : List ℕ) (p : ℕ) → (p ≡ get_or s 0 0 → ⊥) → (p ≡ get_or s 1 0 → ⊥) → (p ≡ get_or s 2 0 → ⊥) → eqb p (get_or s 3 0) ≡ among s p
+among_d s p na nb nc = rw (ne_eqb p (get_or s 0 0) na, ne_eqb p (get_or s 1 0) nb, ne_eqb p (get_or s 2 0) nc)
 
 pub flat_zero : (t : ℕ) → t ≡ 0 → true ≡ flat_table t
 flat_zero t h = rw (eq-eqb t 0 h)
@@ -222,10 +222,10 @@ pub flat_ones : (t : ℕ) → (t ≡ 0 → ⊥) → eqb t 65535 ≡ flat_table t
 flat_ones t h = rw (ne_eqb t 0 h)
 
 -- what row i shows, from what it has at the four positions
-pub shown : (x : ℕ → Bool) (v : Lut) (a b c d : ℕ) (z : Bool) → a ≡ digit (x v.a) → b ≡ digit (x v.b) → c ≡ digit (x v.c) → d ≡ digit (x v.d) → z ≡ table_bit v.table (a + 2 * b + 4 * c + 8 * d) → z ≡ form_bit x (form_of v)
+pub shown : (x : ℕ → Bool) (v : Lut) (a b c d : ℕ) (z : Bool) → a ≡ digit (x (get_or v.inputs 0 0)) → b ≡ digit (x (get_or v.inputs 1 0)) → c ≡ digit (x (get_or v.inputs 2 0)) → d ≡ digit (x (get_or v.inputs 3 0)) → z ≡ table_bit v.table (a + 2 * b + 4 * c + 8 * d) → z ≡ form_bit x (form_of v)
 shown x v a b c d z ha hb hc hd hz = hz ∙ ap (table_bit v.table) (cc)
 
-pub row_is : (kind : ℕ) (s : Spots) (p q r : Lut) (i : ℕ) (x y z w : Bool) → x ≡ form_bit (look_in s i) (form_of p) → y ≡ form_bit (look_in s i) (form_of q) → z ≡ form_bit (look_in s i) (form_of r) → w ≡ gate_bit kind x y z → w ≡ row_bit kind s p q r i
+pub row_is : (kind : ℕ) (s : List ℕ) (p q r : Lut) (i : ℕ) (x y z w : Bool) → x ≡ form_bit (look_in s i) (form_of p) → y ≡ form_bit (look_in s i) (form_of q) → z ≡ form_bit (look_in s i) (form_of r) → w ≡ gate_bit kind x y z → w ≡ row_bit kind s p q r i
 row_is kind s p q r i x y z w hx hy hz hw = hw ∙ ap₂ (λ (a b : Bool). gate_bit kind a b z) hx hy ∙ ap (gate_bit kind (form_bit (look_in s i) (form_of p)) (form_bit (look_in s i) (form_of q))) hz
 
 -- A COMPARISON WITH A NUMBER
@@ -276,49 +276,46 @@ module _ (w v p : ℕ) (z : Lut) where
   abbrev bit : ℕ → Bool
   bit n = eqb (n % 2) 1
 
-  pub matches_none : z.table ≡ 65536 → Matches w v p z
-  matches_none e = record { matches = λ s x. absurd (omega arith) }
-
-  module _ (ha : z.a ≡ p) (hb : z.b ≡ p + 1) where
-    at_first : (x : ℕ → Bool) → x z.a ≡ x p
+  module _ (ha : get_or z.inputs 0 0 ≡ p) (hb : get_or z.inputs 1 0 ≡ p + 1) where
+    at_first : (x : ℕ → Bool) → x (get_or z.inputs 0 0) ≡ x p
     at_first x = ap x ha
 
-    at_second : (x : ℕ → Bool) → x z.b ≡ x (suc p)
-    at_second x = let e : z.b ≡ suc p = omega arith in ap x e
+    at_second : (x : ℕ → Bool) → x (get_or z.inputs 1 0) ≡ x (suc p)
+    at_second x = let e : get_or z.inputs 1 0 ≡ suc p = omega arith in ap x e
 
     pub matches_two : w ≡ 2 → z.table ≡ 4369 * 2 ^ (v % 4) % 2 ^ 32 → Matches w v p z
     matches_two hw ht = record {
-      matches = λ s x.
+      matches = λ x.
           let n : v % 4 ≡ digit (bit v) + 2 * digit (bit (v / 2)) = omega (arith, low_bit v, low_bit (v / 2)) in
           ap (λ (t : ℕ). table_bit t (row x (form_of z))) (ht ∙ ap (λ (k : ℕ). 4369 * 2 ^ k % 2 ^ 32) n)
-          ∙ two_rows (bit v) (bit (v / 2)) (x z.a) (x z.b) (x z.c) (x z.d)
+          ∙ two_rows (bit v) (bit (v / 2)) (x (get_or z.inputs 0 0)) (x (get_or z.inputs 1 0)) (x (get_or z.inputs 2 0)) (x (get_or z.inputs 3 0))
           ∙ ap₂ (λ (a b : Bool). same_bits (a ∷ b ∷ []) (binary 2 v)) (at_first x) (at_second x)
           ∙ ap (λ (k : ℕ). same_bits (bits_from x p k) (binary k v)) (sym hw);
     }
 
-    module _ (hc : z.c ≡ p + 2) where
-      at_third : (x : ℕ → Bool) → x z.c ≡ x (suc (suc p))
-      at_third x = let e : z.c ≡ suc (suc p) = omega arith in ap x e
+    module _ (hc : get_or z.inputs 2 0 ≡ p + 2) where
+      at_third : (x : ℕ → Bool) → x (get_or z.inputs 2 0) ≡ x (suc (suc p))
+      at_third x = let e : get_or z.inputs 2 0 ≡ suc (suc p) = omega arith in ap x e
 
       pub matches_three : w ≡ 3 → z.table ≡ 257 * 2 ^ (v % 8) % 2 ^ 32 → Matches w v p z
       matches_three hw ht = record {
-        matches = λ s x.
+        matches = λ x.
             let n : v % 8 ≡ digit (bit v) + 2 * digit (bit (v / 2)) + 4 * digit (bit (v / 2 / 2)) = omega (arith, low_bit v, low_bit (v / 2), low_bit (v / 2 / 2)) in
             ap (λ (t : ℕ). table_bit t (row x (form_of z))) (ht ∙ ap (λ (k : ℕ). 257 * 2 ^ k % 2 ^ 32) n)
-            ∙ three_rows (bit v) (bit (v / 2)) (bit (v / 2 / 2)) (x z.a) (x z.b) (x z.c) (x z.d)
-            ∙ ap₂ (λ (a b : Bool). same_bits (a ∷ b ∷ x z.c ∷ []) (binary 3 v)) (at_first x) (at_second x)
+            ∙ three_rows (bit v) (bit (v / 2)) (bit (v / 2 / 2)) (x (get_or z.inputs 0 0)) (x (get_or z.inputs 1 0)) (x (get_or z.inputs 2 0)) (x (get_or z.inputs 3 0))
+            ∙ ap₂ (λ (a b : Bool). same_bits (a ∷ b ∷ x (get_or z.inputs 2 0) ∷ []) (binary 3 v)) (at_first x) (at_second x)
             ∙ ap (λ (c : Bool). same_bits (x p ∷ x (suc p) ∷ c ∷ []) (binary 3 v)) (at_third x)
             ∙ ap (λ (k : ℕ). same_bits (bits_from x p k) (binary k v)) (sym hw);
       }
 
-      pub matches_four : z.d ≡ p + 3 → w ≡ 4 → z.table ≡ 1 * 2 ^ (v % 16) % 2 ^ 32 → Matches w v p z
+      pub matches_four : get_or z.inputs 3 0 ≡ p + 3 → w ≡ 4 → z.table ≡ 1 * 2 ^ (v % 16) % 2 ^ 32 → Matches w v p z
       matches_four hd hw ht = record {
-        matches = λ s x.
+        matches = λ x.
             let n : v % 16 ≡ digit (bit v) + 2 * digit (bit (v / 2)) + 4 * digit (bit (v / 2 / 2)) + 8 * digit (bit (v / 2 / 2 / 2)) = omega (arith, low_bit v, low_bit (v / 2), low_bit (v / 2 / 2), low_bit (v / 2 / 2 / 2)) in
-            let e : z.d ≡ suc (suc (suc p)) = omega arith in
+            let e : get_or z.inputs 3 0 ≡ suc (suc (suc p)) = omega arith in
             ap (λ (t : ℕ). table_bit t (row x (form_of z))) (ht ∙ ap (λ (k : ℕ). 1 * 2 ^ k % 2 ^ 32) n)
-            ∙ four_rows (bit v) (bit (v / 2)) (bit (v / 2 / 2)) (bit (v / 2 / 2 / 2)) (x z.a) (x z.b) (x z.c) (x z.d)
-            ∙ ap₂ (λ (a b : Bool). same_bits (a ∷ b ∷ x z.c ∷ x z.d ∷ []) (binary 4 v)) (at_first x) (at_second x)
+            ∙ four_rows (bit v) (bit (v / 2)) (bit (v / 2 / 2)) (bit (v / 2 / 2 / 2)) (x (get_or z.inputs 0 0)) (x (get_or z.inputs 1 0)) (x (get_or z.inputs 2 0)) (x (get_or z.inputs 3 0))
+            ∙ ap₂ (λ (a b : Bool). same_bits (a ∷ b ∷ x (get_or z.inputs 2 0) ∷ x (get_or z.inputs 3 0) ∷ []) (binary 4 v)) (at_first x) (at_second x)
             ∙ ap₂ (λ (c d : Bool). same_bits (x p ∷ x (suc p) ∷ c ∷ d ∷ []) (binary 4 v)) (at_third x) (ap x e)
             ∙ ap (λ (k : ℕ). same_bits (bits_from x p k) (binary k v)) (sym hw);
       }

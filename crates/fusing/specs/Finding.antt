@@ -1,13 +1,13 @@
 -- How the forms are found, from the words of a model and the tables that say where its records and values stand.
-use Rattle.std.specs.Prelude.{ℕ, ◌+◌, ◌*◌, ◌%◌, ◌≤◌, ◌<◌, ◌≡◌, ◌⊎◌, Bool, List, ◌∷◌, [], eqb, length, get_or, take, drop}
+use Rattle.std.specs.Prelude.{ℕ, ◌+◌, ◌*◌, ◌%◌, ◌≤◌, ◌<◌, ◌≡◌, Bool, List, ◌∷◌, [], eqb, length, get_or, take, drop}
 use Rattle.std.specs.Prelude.{Option, None, Some}
 use Rattle.std.proofs.lemmas.List.Edits.{sets}
 use Rattle.simulation.specs.Tick.{given, assigns}
-use Rattle.simulation.specs.Index.{records_in, offset, clipped, stmts_in, Indexed, Starts, Driven}
+use Rattle.simulation.specs.Index.{records_in, offset, clipped, stmts_in, tabled, Indexed, Starts, Driven}
 use Rattle.evaluation.specs.Ready.{Prepared}
 use Rattle.fusing.specs.declared.join.Lut.{Lut}
 use Rattle.fusing.specs.Form.{form_bit, form_at, Means, Formed}
-use Rattle.fusing.specs.Join.{form_of, gate_bit, Alone, Matches}
+use Rattle.fusing.specs.Join.{form_of, gate_bit, Matches}
 
 -- WHAT IS ASSUMED
 
@@ -27,10 +27,9 @@ pub record Formable (signals exprs stmts starts expr_table signal_table driver_t
 
 -- WHERE A BIT STANDS
 
--- an entry of a table, if it is less than the largest word
-pub record Entry (table : List ℕ) (k r : ℕ) : Type 0 where
-  pub inside : r < 4294967295 → k < length table
-  pub said : r < 4294967295 → r ≡ get_or table k 0
+-- what a table says at k; the largest word stands for what it does not say
+abbrev pub Entry : List ℕ → ℕ → ℕ → Type 0
+Entry table k r = Some r ≡ tabled table k Some None
 
 -- bit l of signal s, to which an expression or nothing is assigned
 abbrev pub spot_of : List ℕ → List ℕ → ℕ → ℕ → Option ℕ → ℕ
@@ -38,22 +37,13 @@ spot_of ew sw s l None = offset ew (length ew) + offset sw s + l
 spot_of ew sw s l (Some d) = offset ew d + l
 
 pub record Spotted (stmts expr_table signal_table driver_table : List ℕ) (base s l r : ℕ) : Type 0 where
-  pub spotted : (ew sw : List ℕ) → Indexed ew expr_table → Indexed sw signal_table → Driven stmts driver_table → base ≡ clipped (offset ew (length ew)) → s ≤ length sw → ((d : ℕ) → given assigns (stmts_in stmts) s ≡ Some d → d ≤ length ew) → r < 4294967295 → r ≡ spot_of ew sw s l (given assigns (stmts_in stmts) s)
+  pub spotted : (ew sw : List ℕ) → Indexed ew expr_table → Indexed sw signal_table → Driven stmts driver_table → base ≡ clipped (offset ew (length ew)) → s ≤ length sw → ((d : ℕ) → given assigns (stmts_in stmts) s ≡ Some d → d ≤ length ew) → r ≡ spot_of ew sw s l (given assigns (stmts_in stmts) s)
 
 -- BY KIND
 
--- a constant of one bit, whose record begins at a word
-pub record OneBit (exprs : List ℕ) (at : ℕ) (z : Lut) : Type 0 where
-  pub one_bit : get_or exprs (at + 2) 0 ≡ 1
-  pub bit : (x : ℕ → Bool) → form_bit x (form_of z) ≡ eqb (get_or exprs (at + 3) 0 % 2) 1
-
--- one bit of a signal
-pub record OneSpot (exprs stmts expr_table signal_table driver_table : List ℕ) (base at : ℕ) (z : Lut) : Type 0 where
-  pub one_bit : get_or exprs (at + 2) 0 ≡ 1
-  pub spot : ℕ
-  pub small : spot < 4294967295
-  pub spotted : Spotted stmts expr_table signal_table driver_table base (get_or exprs (at + 3) 0) (get_or exprs (at + 4) 0) spot
-  pub alone : Alone spot z
+-- the lowest bit of v
+pub record Constant (v : ℕ) (z : Lut) : Type 0 where
+  pub bit : (x : ℕ → Bool) → form_bit x (form_of z) ≡ eqb (v % 2) 1
 
 -- the bit at the own position of o is what its form shows
 abbrev pub Own : (ℕ → Bool) → List ℕ → ℕ → Type 0
@@ -66,36 +56,30 @@ pub record Fused (forms : List ℕ) (kind a b c : ℕ) (z : Lut) : Type 0 where
   pub third : get_or forms (6 * c) 0 < 65536
   pub shows : (x : ℕ → Bool) → Own x forms a → Own x forms b → Own x forms c → form_bit x (form_of z) ≡ gate_bit kind (form_bit x (form_at forms a)) (form_bit x (form_at forms b)) (form_bit x (form_at forms c))
 
-pub record Fuses (forms : List ℕ) (kind a b c : ℕ) (z : Lut) : Type 0 where
-  pub fuses : z.table < 65536 → Fused forms kind a b c z
-
 -- operand a has the value of b, a constant whose record begins at a word
 pub record Compared (exprs starts expr_table : List ℕ) (a b : ℕ) (z : Lut) : Type 0 where
   pub begin : ℕ
   pub begins : Entry starts b begin
-  pub there : begin < 4294967295
   pub constant : get_or exprs (begin + 1) 0 ≡ 0
   pub own : ℕ
   pub owned : Entry expr_table a own
-  pub small : own < 4294967295
   pub matches : Matches (get_or exprs (begin + 2) 0) (get_or exprs (begin + 3) 0) own z
-
--- a comparison, by the operands' forms or with a constant
-pub record Equates (exprs starts expr_table forms : List ℕ) (a b : ℕ) (z : Lut) : Type 0 where
-  pub equates : z.table < 65536 → Fused forms 8 a b b z ⊎ Compared exprs starts expr_table a b z
 
 -- ALL OF THEM
 
 -- expression e, where those before it have theirs
 pub record Finds (signals exprs stmts forms : List ℕ) (e : ℕ) (z : Lut) : Type 0 where
-  pub finds : z.table < 65536 → Formed signals exprs stmts forms e → Means signals exprs stmts e (form_of z)
+  pub finds : Formed signals exprs stmts forms e → Means signals exprs stmts e (form_of z)
 
--- six words are stored for it; without a position of its own it has no form
-pub record Puts (e own : ℕ) (z : Lut) (forms forms' : List ℕ) : Type 0 where
-  pub table : ℕ
-  pub stored : forms' ≡ sets forms (6 * e) (table ∷ own ∷ z.a ∷ z.b ∷ z.c ∷ z.d ∷ [])
-  pub as_found : table < 65536 → table ≡ z.table
-  pub with_own : table < 65536 → own < 4294967295
+-- six words: the table, the own position, the inputs; without a form or a position only a table that is none
+abbrev pub form_words : Option ℕ → Option Lut → List ℕ
+form_words None z = 65536 ∷ []
+form_words (Some own) None = 65536 ∷ []
+form_words (Some own) (Some z) = z.table ∷ own ∷ get_or z.inputs 0 0 ∷ get_or z.inputs 1 0 ∷ get_or z.inputs 2 0 ∷ get_or z.inputs 3 0 ∷ []
+
+-- they are stored for expression e
+pub record Puts (e : ℕ) (own : Option ℕ) (z : Option Lut) (forms forms' : List ℕ) : Type 0 where
+  pub stored : forms' ≡ sets forms (6 * e) (form_words own z)
 
 -- from word n on a list is as it was
 pub record Behind (n : ℕ) (l l' : List ℕ) : Type 0 where

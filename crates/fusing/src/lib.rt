@@ -10,32 +10,28 @@ ghost use Rattle.simulation.specs.Index.{records_in};
 ghost use Rattle.fusing.specs.Form.{Formed};
 ghost use Rattle.fusing.specs.Finding.{Known, Puts, Behind, Fills};
 
-use find::{Tables, entry, form_of};
+use find::{Tables, form_of};
 use join::Lut;
-use simulation::index::{clip, sum_to};
+use simulation::index::{clip, entry, sum_to};
 
-// Without a position of its own an expression has no form.
-fn placed(own: u32, table: u32) -> u32
-    ensures { result < 65536 → (result ≡ table) × (own < 4294967295) }
-{
-    if own < 4294967295 {
-        return table;
-    }
-    65536
-}
-
-// The six words of expression e.
-fn put(forms: &mut [u32], e: usize, own: u32, f: Lut)
+// The six words of expression e: a table, its own position, the table's inputs. Without a position of its own it has no form.
+fn put(forms: &mut [u32], e: usize, own: Option<u32>, f: Option<Lut>)
     requires { 6 * e + 6 ≤ length forms.old }
     ensures { Puts e own f forms.old forms.new }
 {
     let at = 6 * e;
-    forms[at] = placed(own, f.table);
-    forms[at + 1] = own;
-    forms[at + 2] = f.a;
-    forms[at + 3] = f.b;
-    forms[at + 4] = f.c;
-    forms[at + 5] = f.d;
+    match (own, f) {
+        (Some(own), Some(f)) => {
+            let [a, b, c, d] = f.inputs;
+            forms[at] = f.table;
+            forms[at + 1] = own;
+            forms[at + 2] = a;
+            forms[at + 3] = b;
+            forms[at + 4] = c;
+            forms[at + 5] = d;
+        }
+        _ => forms[at] = 65536,
+    }
 }
 
 // One expression after the other, as operands come first.

@@ -1,3 +1,2 @@
 -- The specs of listing.
 pub mod Listing
-pub mod Records

@@ -2,17 +2,15 @@
 
 #![tactic(auto)]
 
-pub mod records;
-
 ghost use Rattle.std.specs.Prelude.{◌≡◌, take, [], ◌∷◌, ◌++◌};
 ghost use Rattle.text.specs.Text.{Appended};
 ghost use Rattle.lines.specs.Ascii.{newline};
 ghost use Rattle.lines.specs.Lines.{record_text, counts_text};
 ghost use Rattle.listing.specs.Listing.{line_text, lines_of};
 
-use crate::records::Records;
 use lines::records::{Record, put_counts, put_record};
 use recorder::Tape;
+use recorder::records::Records;
 use text::{Full, Text};
 
 // The words of a list that are written.

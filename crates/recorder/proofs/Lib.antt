@@ -1,6 +1,7 @@
 -- The laws of recorder that other crates cite.
 pub mod Calls
 pub mod Events
+pub mod Left
 pub mod Makes
 pub mod Outcomes
 pub mod Played

@@ -9,3 +9,4 @@ pub mod Read
 pub mod Words
 pub mod Standing
 pub mod Outcome
+pub mod Records

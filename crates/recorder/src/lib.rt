@@ -5,6 +5,7 @@
 pub mod builder; // builder.rt: a method for each kind of record
 pub mod list; // list.rt: one record behind another
 pub mod read; // read.rt: lists read back
+pub mod records; // records.rt: a list's records, one by one
 
 // The number of an expression.
 #[derive(Clone, Copy, Debug, PartialEq, Eq)]

@@ -6,9 +6,9 @@ use native.Mathlib.Omega.{arith}
 use native.Mathlib.Decide.{ℕ_discrete}
 use lib.ListN.{length, get_or}
 use Rattle.std.specs.declared.iter.Enumerate.{Enumerate}
-use Rattle.simulation.specs.declared.records.Records.{Records}
+use Rattle.recorder.specs.declared.records.Records.{Records}
 use Rattle.simulation.specs.Index.{size_at, fields_at, records_in}
-use Rattle.simulation.specs.Records.{left}
+use Rattle.recorder.specs.Records.{left}
 use Rattle.simulation.proofs.Offsets.{fields_count, field_in}
 use Rattle.recorder.specs.Record.{Stmt, assign, reg, sized, signal_words, stmt_words}
 use Rattle.recorder.specs.Read.{read_signal, read_stmt}

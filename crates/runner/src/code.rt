@@ -21,8 +21,9 @@ use crate::lists::{list_controls, list_outputs, list_registers};
 use crate::marks::{MARK, driver_marked, is_marked, ready};
 use crate::tables::CheckedModel;
 use fusing::fill_forms;
+use recorder::read::word;
 use simulation::index;
-use simulation::index::{field, plus, size, wide};
+use simulation::index::{fields, wide};
 
 // The bits of all expressions, and of all signals; how many registers, signals that they ask for and outputs are listed; how many words the two
 // pieces have.
@@ -69,7 +70,7 @@ fn want_expr(m: &CheckedModel, e: u32, values: &mut [u8])
 
 // Some position of expression e is wanted.
 fn wanted(m: &CheckedModel, values: &[u8], e: usize) -> bool {
-    let end = index::offset(m.exprs, m.expr_table, plus(e, 1));
+    let end = index::offset(m.exprs, m.expr_table, e.saturating_add(1));
     let from = index::offset(m.exprs, m.expr_table, e);
     for p in from..end {
         if p >= values.len() {
@@ -83,18 +84,18 @@ fn wanted(m: &CheckedModel, values: &[u8], e: usize) -> bool {
 }
 
 // What a statement names.
-fn want_stmt(m: &CheckedModel, at: usize, size: usize, values: &mut [u8])
+fn want_stmt(m: &CheckedModel, fields: &[u32], values: &mut [u8])
     requires { Unplaced values.old }
     ensures { Unplaced values.new }
 {
-    want_expr(m, field(m.stmts, at, size, 2), values);
-    if field(m.stmts, at, size, 0) != REG {
+    want_expr(m, word(fields, 2), values);
+    if word(fields, 0) != REG {
         return;
     }
-    if field(m.stmts, at, size, 5) == 0 {
+    if word(fields, 5) == 0 {
         return;
     }
-    want_expr(m, field(m.stmts, at, size, 8), values);
+    want_expr(m, word(fields, 8), values);
 }
 
 // What the statements name that begin at k words of a list.
@@ -103,9 +104,7 @@ fn want_loads(m: &CheckedModel, order: &[u32], from: usize, k: usize, values: &m
     ensures { Unplaced values.new }
 {
     for j in 0..k {
-        let at = wide(order[from + j]);
-        let size = size(m.stmts, at);
-        want_stmt(m, at, size, values);
+        want_stmt(m, fields(m.stmts, wide(order[from + j])), values);
     }
 }
 
@@ -136,19 +135,15 @@ fn want_operands(m: &CheckedModel, e: usize, values: &mut [u8])
     requires { Unplaced values.old }
     ensures { Unplaced values.new }
 {
-    let at = index::start(m.exprs, m.starts, e);
-    let size = size(m.exprs, at);
-    let kind = field(m.exprs, at, size, 0);
-    if kind == CONST {
-        return;
-    }
-    if kind == READ {
-        let s = wide(field(m.exprs, at, size, 2));
-        want_driver(m, s, values);
-        return;
-    }
-    for i in 3..size {
-        want_expr(m, field(m.exprs, at, size, i - 1), values);
+    match fields(m.exprs, index::start(m.exprs, m.starts, e)) {
+        [CONST, ..] => {}
+        [READ, _, s, ..] => want_driver(m, wide(*s), values),
+        [_, _, operands @ ..] => {
+            for o in operands {
+                want_expr(m, *o, values);
+            }
+        }
+        _ => {}
     }
 }
 

@@ -9,8 +9,9 @@ ghost use Rattle.ordering.specs.Sorts.{Step, Sorts, SortsAll};
 use crate::kinds::{CONST, READ};
 use crate::marks::{MARK, is_marked, ready};
 use crate::tables::CheckedModel;
+use recorder::read::word;
 use simulation::index;
-use simulation::index::{clip, field, size, wide};
+use simulation::index::{clip, fields, wide};
 
 // Expression e can be marked, and is not yet.
 pub fn adds_one(m: &CheckedModel, marks: &[u8], e: usize) -> bool
@@ -60,13 +61,13 @@ fn sort_pass(m: &CheckedModel, marks: &mut [u8], order: &mut [u32], k: usize) ->
 
 // A GUESS of the order, depth first. It is tried, and nothing rests on it: where it is right, one pass along it marks all.
 
-// The expression that field j of the record at a word names as needed.
-fn need(m: &CheckedModel, at: usize, size: usize, j: usize) -> Option<usize> {
-    let kind = field(m.exprs, at, size, 0);
+// The expression that field j of a record names as needed.
+fn need(m: &CheckedModel, fields: &[u32], j: usize) -> Option<usize> {
+    let kind = word(fields, 0);
     if kind == CONST {
         return None;
     }
-    let x = wide(field(m.exprs, at, size, j));
+    let x = wide(word(fields, j));
     if kind != READ {
         return Some(x);
     }
@@ -95,14 +96,13 @@ struct Unmet {
 
 // The first new one that expression e needs, behind the needs that are passed.
 fn new_need(m: &CheckedModel, marks: &[u8], e: usize, passed: u32) -> Option<Unmet> {
-    let at = index::start(m.exprs, m.starts, e);
-    let size = size(m.exprs, at);
-    for i in wide(passed) + 3..size {
-        if let Some(x) = need(m, at, size, i - 1) {
+    let fields = fields(m.exprs, index::start(m.exprs, m.starts, e));
+    for j in wide(passed) + 2..fields.len() {
+        if let Some(x) = need(m, fields, j) {
             if is_new(marks, m.expr_count, x) {
                 return Some(Unmet {
                     expr: x,
-                    passed: clip(i - 2),
+                    passed: clip(j - 1),
                 });
             }
         }

@@ -3,8 +3,8 @@ pub mod vcd; // vcd.rt: the same as a VCD file
 
 use converter::Lowered;
 use lines::records::put_refused;
-use listing::records::Records;
 use listing::written;
+use recorder::records::Records;
 use std::io;
 use std::io::Write;
 use text::Text;

@@ -13,7 +13,7 @@ use Rattle.recorder.specs.Words.{raw_of}
 use Rattle.simulation.specs.Wellformed.{first_failing, or_else, behind, first_fault, unsplit, unsplit_all, malformed}
 use Rattle.simulation.specs.Index.{records_in, counted}
 use Rattle.simulation.specs.Fault.{signal_fault_of, expr_fault_of, stmt_fault_of}
-use Rattle.simulation.proofs.Steps.{records_count}
+use Rattle.recorder.proofs.Left.{records_count}
 
 -- HOW MANY RECORDS THERE ARE
 

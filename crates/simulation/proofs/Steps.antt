@@ -154,18 +154,3 @@ walked_end {l} {at} {k} w h =
 
 pub width_past : (l : List ℕ) (i : ℕ) → length (records_in l) ≤ i → 0 ≡ get_or (widths_in l) i 0
 width_past l i h = sym (get_or-eq_default (widths_in l) 0 (subst (λ (n : ℕ). n ≤ i) (sym (length_widths l)) h))
-
--- no more records than words
-cut_count : (k : ℕ) (ws : List ℕ) → length (read.cut k ws).records ≤ length ws
-cut_count zero ws = omega arith
-cut_count (suc k) [] = omega arith
-cut_count (suc k) (zero ∷ ws) = omega arith
-cut_count (suc k) (suc n ∷ ws) = go (leb n (length ws)) (cut_count k (drop n ws))
-  where
-    go : (b : Bool) → length (read.cut k (drop n ws)).records ≤ length (drop n ws) → length (elim b as (λ (x : Bool). read.Cut) [ true ↦ read.before (take n ws) (read.cut k (drop n ws)) | false ↦ read.stopped ]).records ≤ length (suc n ∷ ws)
-    go true h = omega (arith, length-drop n ws)
-    go false h = omega arith
-
-pub records_count : (l : List ℕ) → length (records_in l) ≤ length l
-unfolding split
-records_count l = cut_count (length l) l

@@ -4,6 +4,7 @@ use mathlib.Core.Path.{◌≡◌, refl, sym, ◌∙◌, ap}
 use mathlib.Core.Bool.{Bool, true, false}
 use mathlib.Core.List.{List, [], ◌∷◌}
 use Rattle.std.specs.Prelude.{Option, None, Some}
+use Rattle.std.specs.Option.{SomeIff}
 use native.Mathlib.Omega.{arith}
 use native.Mathlib.Numerals.{add-one}
 use native.Mathlib.Nat.{not-suc-le-zero}
@@ -11,8 +12,9 @@ use native.Mathlib.Decide.{dec_lt}
 use lib.Dec.{ltb}
 use lib.ListN.{length, get_or, set}
 use lib.Seq.{ext_get_or}
-use borrow.Author.Tests.{ltb-true, lt-ltb, le-ltb}
+use borrow.Author.Tests.{ltb-true}
 use Rattle.bits.specs.Bits.{pick}
+use Rattle.bits.proofs.Options.{none_ne_some, some_ne_none, some_injective}
 use Rattle.simulation.specs.Tick.{given, assigns}
 use Rattle.simulation.specs.Index.{records_in, widths_in, offset, start_of, Listed, Indexed, Starts, filling, width_entry, width_table, start_entry, start_table, offset_entry, offset_table, tabled, start_by, offset_by, stmts_in, coded, uncoded, Driven, driver_entry, driver_table, driver_by}
 use Rattle.simulation.proofs.Offsets.{offset_le}
@@ -114,14 +116,21 @@ coded_is (suc w) None e h = absurd (omega arith)
 coded_is zero (Some x) e h = absurd (omega arith)
 coded_is (suc w) (Some x) e h = let z : w ≡ x = omega arith in ap Some z
 
-module _ {A : Type 0} (t : List ℕ) (k : ℕ) (said : ℕ → A) (found : A) (w : ℕ) (e : w ≡ get_or t k 4294967295) where
-  tabled_said : w < 4294967295 → said w ≡ tabled t k said found
-  tabled_said h =
-      ap said e
-      ∙ sym (ap (λ (b : Bool). pick b (said (get_or t k 4294967295)) found) (lt-ltb (get_or t k 4294967295) 4294967295 (omega arith)))
+-- by what it says at k, or by what is found where it says nothing
+module _ {A : Type 0} (t : List ℕ) (k : ℕ) (said : ℕ → A) (found : A) where
+  tabled_said : (w : ℕ) → Some w ≡ tabled t k Some None → said w ≡ tabled t k said found
+  tabled_said w = go (ltb (get_or t k 4294967295) 4294967295)
+    where
+      go : (b : Bool) → Some w ≡ pick b (Some (get_or t k 4294967295)) None → said w ≡ pick b (said (get_or t k 4294967295)) found
+      go true e = ap said (some_injective w (get_or t k 4294967295) e)
+      go false e = absurd (some_ne_none w e)
 
-  tabled_found : 4294967295 ≤ w → found ≡ tabled t k said found
-  tabled_found h = sym (ap (λ (b : Bool). pick b (said (get_or t k 4294967295)) found) (le-ltb (get_or t k 4294967295) 4294967295 (omega arith)))
+  tabled_found : None ≡ tabled t k Some None → found ≡ tabled t k said found
+  tabled_found = go (ltb (get_or t k 4294967295) 4294967295)
+    where
+      go : (b : Bool) → None ≡ pick b (Some (get_or t k 4294967295)) None → found ≡ pick b (said (get_or t k 4294967295)) found
+      go true e = absurd (none_ne_some (get_or t k 4294967295) e)
+      go false e = refl
 
 -- within a table, what stands for its end does not matter
 pub entry_in : (t : List ℕ) (k : ℕ) → k < length t → get_or t k 0 ≡ get_or t k 4294967295
@@ -135,6 +144,18 @@ said_inside [] k h = absurd (omega arith)
 said_inside (x ∷ t) zero h = omega arith
 said_inside (x ∷ t) (suc k) h = let r = said_inside t k h in omega arith
 
+-- what a table says is one of its entries, and less than the largest word
+pub entry_said : (t : List ℕ) (k w : ℕ) → Some w ≡ tabled t k Some None → (k < length t) × (w ≡ get_or t k 0) × (w < 4294967295)
+entry_said t k w = go (ltb (get_or t k 4294967295) 4294967295) refl
+  where
+    go : (b : Bool) → ltb (get_or t k 4294967295) 4294967295 ≡ b → Some w ≡ pick b (Some (get_or t k 4294967295)) None → (k < length t) × (w ≡ get_or t k 0) × (w < 4294967295)
+    go true l e =
+        let h = ltb-true (get_or t k 4294967295) 4294967295 l in
+        let i = said_inside t k h in
+        let z : w ≡ get_or t k 4294967295 = some_injective w (get_or t k 4294967295) e in
+        (i, z ∙ sym (entry_in t k i), omega arith)
+    go false l e = absurd (some_ne_none w e)
+
 -- what holds of what the table says, and of what is found, holds of what is read
 tabled_is : {A : Type 0} (t : List ℕ) (k : ℕ) (said : ℕ → A) (found v : A) → (k < length t → get_or t k 0 < 4294967295 → said (get_or t k 0) ≡ v) → found ≡ v → tabled t k said found ≡ v
 tabled_is {A} t k said found v s f = go (ltb (get_or t k 4294967295) 4294967295) refl
@@ -147,38 +168,37 @@ tabled_is {A} t k said found v s f = go (ltb (get_or t k 4294967295) 4294967295)
         ap said (sym e) ∙ s i (omega arith)
     go false h = f
 
-module _ (l t : List ℕ) (k : ℕ) {w : ℕ} (e : w ≡ get_or t k 4294967295) where
-  pub start_said : w < 4294967295 → w ≡ start_by l t k
+-- an entry less one, where it is not 0
+pub less_one : (w : ℕ) (o : Option ℕ) → SomeIff o (1 ≤ w) (w - 1) → o ≡ uncoded w
+less_one zero None h = refl
+less_one (suc w) None h = absurd (h (omega arith))
+less_one zero (Some e) h = absurd (omega (arith, h.0))
+less_one (suc w) (Some e) h = let z : e ≡ w = omega (arith, h.1) in ap Some z
+
+module _ (l t : List ℕ) (k : ℕ) where
+  pub start_said : (w : ℕ) → Some w ≡ tabled t k Some None → w ≡ start_by l t k
   unfolding start_by
-  start_said = tabled_said t k (λ (v : ℕ). v) (start_of l k) w e
+  start_said = tabled_said t k (λ (v : ℕ). v) (start_of l k)
 
-  pub start_found : 4294967295 ≤ w → start_of l k ≡ start_by l t k
+  pub start_found : None ≡ tabled t k Some None → start_of l k ≡ start_by l t k
   unfolding start_by
-  start_found = tabled_found t k (λ (v : ℕ). v) (start_of l k) w e
+  start_found = tabled_found t k (λ (v : ℕ). v) (start_of l k)
 
-  pub offset_said : w < 4294967295 → w ≡ offset_by l t k
+  pub offset_said : (w : ℕ) → Some w ≡ tabled t k Some None → w ≡ offset_by l t k
   unfolding offset_by
-  offset_said = tabled_said t k (λ (v : ℕ). v) (min (offset (widths_in l) k) 18446744073709551615) w e
+  offset_said = tabled_said t k (λ (v : ℕ). v) (min (offset (widths_in l) k) 18446744073709551615)
 
-  pub offset_found : 4294967295 ≤ w → min (offset (widths_in l) k) 18446744073709551615 ≡ offset_by l t k
+  pub offset_found : None ≡ tabled t k Some None → min (offset (widths_in l) k) 18446744073709551615 ≡ offset_by l t k
   unfolding offset_by
-  offset_found = tabled_found t k (λ (v : ℕ). v) (min (offset (widths_in l) k) 18446744073709551615) w e
+  offset_found = tabled_found t k (λ (v : ℕ). v) (min (offset (widths_in l) k) 18446744073709551615)
 
-  pub driver_none : w ≡ 0 → None ≡ driver_by l t k
+  pub driver_said : (w : ℕ) → Some w ≡ tabled t k Some None → uncoded w ≡ driver_by l t k
   unfolding driver_by
-  driver_none z = ap uncoded (sym z) ∙ tabled_said t k uncoded (given assigns (stmts_in l) k) w e (omega arith)
+  driver_said = tabled_said t k uncoded (given assigns (stmts_in l) k)
 
-  pub driver_said : (w ≡ 0 → ⊥) → w < 4294967295 → Some (w - 1) ≡ driver_by l t k
+  pub driver_found : None ≡ tabled t k Some None → given assigns (stmts_in l) k ≡ driver_by l t k
   unfolding driver_by
-  driver_said d h = one w d ∙ tabled_said t k uncoded (given assigns (stmts_in l) k) w e h
-    where
-      one : (v : ℕ) → (v ≡ 0 → ⊥) → Some (v - 1) ≡ uncoded v
-      one zero d = absurd (d refl)
-      one (suc v) d = let z : suc v - 1 ≡ v = omega arith in ap Some z
-
-  pub driver_found : 4294967295 ≤ w → given assigns (stmts_in l) k ≡ driver_by l t k
-  unfolding driver_by
-  driver_found = tabled_found t k uncoded (given assigns (stmts_in l) k) w e
+  driver_found = tabled_found t k uncoded (given assigns (stmts_in l) k)
 
 -- WHERE THE TABLE IS RIGHT
 

@@ -9,10 +9,9 @@ use lib.Dec.{eqb, leb}
 use lib.ListN.{length, get_or, set, replicate, length-set}
 use lib.Seq.{get_or-set_same, get_or-set_other, set_out}
 use borrow.Author.Tests.{le-leb, lt-leb, eq-eqb, ne_eqb}
-use Rattle.std.specs.Prelude.{Option, None, Some}
+use Rattle.std.specs.Prelude.{None, Some}
 use Rattle.bits.specs.Bits.{pick}
-use Rattle.recorder.specs.Read.{Cut}
-use Rattle.simulation.specs.Wellformed.{drives, count_of, unsplit, behind}
+use Rattle.simulation.specs.Wellformed.{drives, count_of}
 use Rattle.simulation.specs.Fault.{stands, Tallied}
 
 -- zeros

@@ -1,9 +1,8 @@
 -- A list's records, one after the other. Assumes nothing.
-use Rattle.std.proofs.Common.{ℕ, zero, suc, ◌+◌, ◌-◌, ◌≤◌, ◌<◌, ◌≡◌, min, Bool, true, false, refl, sym, ◌∙◌, ap, List, [], ◌∷◌, length, get_or, take, drop, map, leb, Option, None, Some, arith, MatchOption, Bor, slice_get, unwrap_or, option_map}
+use Rattle.std.proofs.Common.{ℕ, zero, suc, ◌+◌, ◌-◌, ◌≤◌, ◌<◌, ◌≡◌, min, Bool, true, false, refl, sym, ◌∙◌, ap, List, [], ◌∷◌, length, get_or, take, drop, map, leb, Option, None, Some, arith, Bor, slice_get, unwrap_or, option_map}
 use Rattle.std.specs.Iterator.{YieldsFirstRef, Yields}
 use Rattle.std.specs.Iterator.Adapters.{take_steps}
-use Rattle.std.specs.List.{IsSplitAt, zip, range_with_len}
-use Rattle.std.specs.declared.iter.Enumerate.{Enumerate}
+use Rattle.std.specs.List.{zip, range_with_len}
 use Rattle.std.specs.declared.iter.Take.{Take}
 use Rattle.std.specs.declared.iter.Zip.{Zip}
 use Rattle.std.specs.declared.ops.Range.{Range}
@@ -18,26 +17,12 @@ use lib.ListN.{length-drop, length-map}
 use lib.Seq.{get_or-take, length-take-le}
 use borrow.Author.Tests.{leb-true}
 use Rattle.recorder.specs.Read.{Cut, cut, split, before, stopped}
-use Rattle.recorder.proofs.Roundtrip.{split_nil, split_zero, split_record, split_short}
-use Rattle.simulation.specs.declared.records.Records.{Records}
+use Rattle.recorder.specs.declared.records.Records.{Records}
 use Rattle.simulation.specs.Index.{records_in, widths_in, offset, start_of}
 use Rattle.simulation.specs.Wellformed.{widths}
-use Rattle.simulation.specs.Records.{left, is_empty, Splits}
+use Rattle.recorder.specs.Records.{left}
 use Rattle.simulation.proofs.Offsets.{offset_past, start_next}
-use Rattle.simulation.proofs.Steps.{width_of, length_widths, records_count}
-
--- THE FIRST RECORD
-
-pub splits_nothing : (ws : List ℕ) → length ws ≡ 0 → split ws ≡ record { records = []; whole = is_empty ws }
-splits_nothing [] h = split_nil
-splits_nothing (w ∷ ws) h = absurd (omega (arith, h))
-
-pub splits_none : {ws rest : List ℕ} {n : ℕ} → ws ≡ n ∷ rest → n ≡ 0 → split ws ≡ record { records = []; whole = is_empty ws }
-splits_none {rest = rest} e z = rw (e, z) (split_zero rest)
-
-pub splits_at : {ws rest : List ℕ} {n k : ℕ} (r : Option (Bor (List ℕ) × Bor (List ℕ))) → ws ≡ n ∷ rest → n ≡ suc k → MatchOption r (length rest < k) (λ p. IsSplitAt rest k p.0.now p.1.now) → Splits ws r
-splits_at {rest = rest} {k = k} None e z m = rw (e, z) (split_short k rest m)
-splits_at {rest = rest} {k = k} (Some p) e z m = rw (e, z, m.1, m.2) (split_record k rest m.0)
+use Rattle.simulation.proofs.Steps.{width_of, length_widths}
 
 -- HOW MANY THERE ARE
 
@@ -145,7 +130,3 @@ module _ (l : List ℕ) (i : ℕ) where
 
   pub width_got : (o : Option (List ℕ)) → o ≡ slice_get (records_in l) i → unwrap_or (option_map (λ r. get_or r 1 0) o) 0 ≡ get_or (widths_in l) i 0
   width_got = got (records_in l) i
-
--- there are few enough to number
-pub few : {s z : Enumerate Records} {w : Records} {l : List ℕ} → s ≡ z → z.iter ≡ w → z.count ≡ 0 → w.rest.now ≡ l → length l < 18446744073709551616 → s.count + length (left s.iter) < 18446744073709551616
-few {l = l} g f q e h = omega (arith, ap (λ (z : Enumerate Records). z.count) g, q, ap (λ (z : Enumerate Records). length (left z.iter)) g, ap (λ (w : Records). length (left w)) f, ap (λ (l : List ℕ). length (records_in l)) e, records_count l, h)

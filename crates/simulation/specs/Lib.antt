@@ -8,6 +8,5 @@ pub mod Kept
 pub mod Cases
 pub mod Index
 pub mod Model
-pub mod Records
 pub mod Fault
 pub mod Shown

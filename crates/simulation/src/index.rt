@@ -1,7 +1,7 @@
 // Where a list's records stand, their widths and offsets, and what is assigned to a signal. A table holds the first; for the others the list
 // is walked.
-ghost use Rattle.std.specs.Prelude.{◌≡◌, ◌+◌, ◌≤◌, min, length, get_or};
-ghost use Rattle.simulation.specs.Index.{size_at, fields_at, records_in, counted, widths_in, offset as sum_to, start_of, clipped, start_table, start_by, offset_table, offset_by, stmts_in, driver_table, driver_by, assigned, noted};
+ghost use Rattle.std.specs.Prelude.{◌≡◌, Some, None, min, length};
+ghost use Rattle.simulation.specs.Index.{size_at, fields_at, records_in, counted, widths_in, offset as sum_to, start_of, clipped, start_table, tabled, start_by, offset_table, offset_by, stmts_in, driver_table, driver_by, assigned, noted};
 ghost use Rattle.simulation.specs.Tick.{given, assigns as by_assign};
 
 use crate::records::Records;
@@ -14,45 +14,14 @@ pub fn wide(x: u32) -> usize
     x as usize
 }
 
-// A sum that stops at the largest number.
-pub fn plus(a: usize, b: usize) -> usize
-    ensures { result ≡ min (a + b) 18446744073709551615 }
-{
-    if b <= 18446744073709551615 - a {
-        a + b
-    } else {
-        18446744073709551615
-    }
-}
-
-// The length of the record at an index, 0 if no whole one stands there.
-pub fn size(list: &[u32], at: usize) -> usize
-    ensures { result ≡ size_at list.now at }
+// The fields of the record at an index, none if no whole one stands there.
+pub fn fields(list: &[u32], at: usize) -> &[u32]
+    ensures { result.now ≡ fields_at list.now at (size_at list.now at) }
 {
     match cut(list, at) {
-        Cut::Record(n) => n + 1,
-        Cut::End => 0,
-        Cut::Broken => 0,
+        Cut::Record(n) => &list[at + 1..at + 1 + n],
+        Cut::End | Cut::Broken => &[],
     }
-}
-
-// A field of the record at an index, 0 behind the last and behind the list.
-pub fn field(list: &[u32], at: usize, size: usize, j: usize) -> u32
-    ensures { result ≡ get_or (fields_at list.now at size) j 0 }
-{
-    if size == 0 {
-        return 0;
-    }
-    if j >= size - 1 {
-        return 0;
-    }
-    if at >= list.len() {
-        return 0;
-    }
-    if j >= list.len() - at - 1 {
-        return 0;
-    }
-    list[at + 1 + j]
 }
 
 // How many records stand whole from the left.
@@ -77,17 +46,15 @@ pub fn sum_to(list: &[u32], limit: usize) -> usize
 pub fn clip(x: usize) -> u32
     ensures { result ≡ clipped x }
 {
-    if x < 4294967295 { x as u32 } else { 4294967295 }
+    u32::try_from(x).unwrap_or(u32::MAX)
 }
 
 // What a table says at k: the largest word stands for what it does not say.
-fn entry(table: &[u32], k: usize) -> u32
-    ensures { result ≡ get_or table.now k 4294967295 }
+pub fn entry(table: &[u32], k: usize) -> Option<u32>
+    ensures { result ≡ tabled table.now k Some None }
 {
-    if k < table.len() {
-        return table[k];
-    }
-    4294967295
+    let w = *table.get(k)?;
+    if w < u32::MAX { Some(w) } else { None }
 }
 
 // The word at which record k begins; behind the last record, the word behind it.
@@ -105,11 +72,10 @@ fn walk_start(list: &[u32], k: usize) -> usize
 pub fn start(list: &[u32], table: &[u32], k: usize) -> usize
     ensures { result ≡ start_by list.now table.now k }
 {
-    let w = entry(table, k);
-    if w < 4294967295 {
-        return wide(w);
+    match entry(table, k) {
+        Some(w) => wide(w),
+        None => walk_start(list, k),
     }
-    walk_start(list, k)
 }
 
 // Fills the table with the words at which the first records begin; what it has room for behind them is kept.
@@ -127,11 +93,10 @@ pub fn fill_starts(list: &[u32], table: &mut [u32])
 pub fn offset(list: &[u32], table: &[u32], k: usize) -> usize
     ensures { result ≡ offset_by list.now table.now k }
 {
-    let w = entry(table, k);
-    if w < 4294967295 {
-        return wide(w);
+    match entry(table, k) {
+        Some(w) => wide(w),
+        None => sum_to(list, k),
     }
-    sum_to(list, k)
 }
 
 // Fills the table with the first offsets; what it has room for behind them is kept.
@@ -176,14 +141,10 @@ fn walk_driver(stmts: &[u32], s: usize) -> Option<u32>
 pub fn driver(stmts: &[u32], table: &[u32], s: usize) -> Option<u32>
     ensures { result ≡ driver_by stmts.now table.now s }
 {
-    let w = entry(table, s);
-    if w == 0 {
-        return None;
+    match entry(table, s) {
+        Some(w) => w.checked_sub(1),
+        None => walk_driver(stmts, s),
     }
-    if w < 4294967295 {
-        return Some(w - 1);
-    }
-    walk_driver(stmts, s)
 }
 
 // Notes a statement, if it is the first assignment on its signal.
@@ -193,7 +154,7 @@ fn note(fields: &[u32], table: &mut [u32])
     if let Some((t, e)) = assigned(fields) {
         let t = wide(t);
         if t < table.len() && table[t] == 0 {
-            table[t] = clip(wide(e) + 1);
+            table[t] = e.saturating_add(1);
         }
     }
 }

@@ -1,7 +1,8 @@
-use Rattle.std.proofs.Common.{◌∙◌, ap, inl, length, arith}
+use Rattle.std.proofs.Common.{◌∙◌, ap, inl, arith}
 use Rattle.std.specs.Iterator.Adapters.{enumerate_source, enumerate_count}
 use Rattle.text.proofs.Going.{going_start, going_as, going_step, going_stop, going_end}
-use Rattle.listing.specs.declared.records.Records.{Records}
+use Rattle.recorder.specs.declared.records.Records.{Records}
+use Rattle.recorder.proofs.Left.{few}
 use Rattle.listing.proofs.Left.{lines_start, lines_none, lines_next}
 use Rattle.listing.proofs.put_list.Goals as goal
 
@@ -9,12 +10,12 @@ pub loop-number-init : goal.loop-number-init
 loop-number-init g c =
     let counted = c.enumerate-number-items.ensures in
     let same = c.into_iter-number-iterator.ensures.into_iter_gives in
-    let words = ap (λ r. r.now) c.new.ensures in
+    let words = c.new.ensures in
     let source = ap (λ it. enumerate_source {I = Records} it) same ∙ counted.source in
     record {
-      can = (tt, tt, inl (rw same (omega (arith, counted.count, counted.remaining, ap length words))));
+      can = (tt, tt, inl (few same counted.source counted.count words (omega (arith, c.well_formed))));
       finite = tt;
-      going = going_as (lines_start _ _ _ (ap enumerate_count same ∙ counted.count) (ap (λ (r : Records). r.left.now) source ∙ words)) going_start;
+      going = going_as (lines_start _ _ (enumerate_source {I = Records} c.into_iter-number-iterator.result) (ap enumerate_count same ∙ counted.count) (ap (λ (r : Records). r.rest.now) source ∙ words)) going_start;
     }
 
 pub returns-in_err-put_line : goal.returns-in_err-put_line

@@ -1,6 +1,6 @@
 // The same as a VCD file: one scope, a variable for each input and output port and one that marks refused ticks; ten units of time a tick.
 use crate::print::{Outcome, Printer, digit};
-use listing::records::Records;
+use recorder::records::Records;
 use std::io;
 use std::io::Write;
 

@@ -1,5 +1,5 @@
 use Rattle.std.proofs.Common.{length}
-use Rattle.simulation.proofs.Steps.{records_count}
+use Rattle.recorder.proofs.Left.{records_count}
 use Rattle.simulation.proofs.Calls.{total_is}
 use Rattle.model_check.proofs.call.width_total.Goals as goal
 

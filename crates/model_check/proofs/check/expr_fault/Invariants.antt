@@ -1,6 +1,6 @@
 use Rattle.std.proofs.Common.{◌+◌, ◌≡◌, length}
 use Rattle.simulation.specs.Index.{records_in, widths_in}
-use Rattle.simulation.specs.Records.{left}
+use Rattle.recorder.specs.Records.{left}
 use Rattle.simulation.specs.Fault.{expr_test}
 use Rattle.simulation.proofs.Faults.{Seeking}
 use Rattle.model_check.proofs.check.expr_fault.Given as goal

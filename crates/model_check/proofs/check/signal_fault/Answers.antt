@@ -2,7 +2,7 @@ use Rattle.std.proofs.Common.{arith, inl, sym, ◌∙◌, length, ap, ℕ}
 use Rattle.recorder.specs.Read.{read_signal}
 use Rattle.simulation.specs.Wellformed.{fits, signal_fits}
 use Rattle.simulation.proofs.Faults.{seeking_found, seeking_more, signal_counts}
-use Rattle.simulation.proofs.Walking.{few}
+use Rattle.recorder.proofs.Left.{few}
 use Rattle.model_check.proofs.check.signal_fault.Goals as goal
 
 pub loop-n-init-derived : goal.loop-n-init-derived

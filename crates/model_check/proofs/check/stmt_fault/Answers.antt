@@ -1,6 +1,6 @@
 use Rattle.std.proofs.Common.{arith, inl, sym, ◌∙◌, length, ap}
 use Rattle.simulation.proofs.Faults.{seeking_found, seeking_more}
-use Rattle.simulation.proofs.Walking.{few}
+use Rattle.recorder.proofs.Left.{few}
 use Rattle.model_check.proofs.check.stmt_fault.Goals as goal
 
 pub loop-n-init-derived : goal.loop-n-init-derived

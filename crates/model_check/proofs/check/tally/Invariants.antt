@@ -1,5 +1,5 @@
 use Rattle.simulation.specs.Index.{records_in}
-use Rattle.simulation.specs.Records.{left}
+use Rattle.recorder.specs.Records.{left}
 use Rattle.simulation.proofs.Tally.{Tallying}
 use Rattle.model_check.proofs.check.tally.Given as goal
 

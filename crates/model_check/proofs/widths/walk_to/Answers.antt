@@ -1,7 +1,7 @@
 use Rattle.std.proofs.Common.{◌∙◌, ap, Some, None}
 use Rattle.std.proofs.lemmas.Iterator.Consumers.{YieldsList-from_first, nth_from_yields_List}
 use Rattle.simulation.specs.Index.{records_in}
-use Rattle.simulation.specs.Records.{left}
+use Rattle.recorder.specs.Records.{left}
 use Rattle.simulation.proofs.Walking.{width_got}
 use Rattle.model_check.proofs.widths.walk_to.Goals as goal
 

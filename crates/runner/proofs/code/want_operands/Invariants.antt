@@ -1,5 +1,5 @@
 use Rattle.coding.specs.Emitting.{Unplaced}
 use Rattle.runner.proofs.code.want_operands.Given as goal
 
-abbrev pub invariant-loop-i : goal.invariant-loop-i
-invariant-loop-i l = Unplaced l.values
+abbrev pub invariant-loop-o : goal.invariant-loop-o
+invariant-loop-o l = Unplaced l.values

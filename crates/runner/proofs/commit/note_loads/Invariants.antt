@@ -1,4 +1,4 @@
-use Rattle.simulation.specs.Records.{left}
+use Rattle.recorder.specs.Records.{left}
 use Rattle.simulation.specs.Run.{fired_of, firing}
 use Rattle.evaluation.proofs.Committing.{Noting}
 use Rattle.runner.proofs.Turns.{Ahead}

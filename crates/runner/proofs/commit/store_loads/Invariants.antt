@@ -1,4 +1,4 @@
-use Rattle.simulation.specs.Records.{left}
+use Rattle.recorder.specs.Records.{left}
 use Rattle.evaluation.proofs.Committing.{Loading}
 use Rattle.runner.proofs.Turns.{Ahead}
 use Rattle.runner.proofs.commit.store_loads.Given as goal

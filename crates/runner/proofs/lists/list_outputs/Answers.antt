@@ -1,7 +1,7 @@
 use Rattle.std.proofs.Common.{arith, ap, ◌∙◌, inl, ◌+◌, set}
 use Rattle.std.specs.declared.iter.Enumerate.{Enumerate}
-use Rattle.simulation.specs.declared.records.Records.{Records}
-use Rattle.simulation.proofs.Walking.{few}
+use Rattle.recorder.specs.declared.records.Records.{Records}
+use Rattle.recorder.proofs.Left.{few}
 use Rattle.runner.proofs.Listing.{outputs_start, outputs_end, outputs_three, outputs_other, outputs_taken}
 use Rattle.runner.proofs.Models.{read_signals_of}
 use Rattle.runner.proofs.Turns.{turns_numbered}

@@ -1,4 +1,4 @@
-use Rattle.simulation.specs.Records.{left}
+use Rattle.recorder.specs.Records.{left}
 use Rattle.runner.proofs.Listing.{ListsOutputs}
 use Rattle.runner.proofs.lists.list_outputs.Given as goal
 

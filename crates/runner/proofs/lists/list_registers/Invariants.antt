@@ -1,4 +1,4 @@
-use Rattle.simulation.specs.Records.{left}
+use Rattle.recorder.specs.Records.{left}
 use Rattle.runner.proofs.Listing.{ListsRegisters}
 use Rattle.runner.proofs.lists.list_registers.Given as goal
 

@@ -1,4 +1,4 @@
-use Rattle.simulation.specs.Records.{left}
+use Rattle.recorder.specs.Records.{left}
 use Rattle.runner.proofs.Showing.{Summing}
 use Rattle.runner.proofs.show.output_total.Given as goal
 

@@ -1,4 +1,4 @@
-use Rattle.simulation.specs.Records.{left}
+use Rattle.recorder.specs.Records.{left}
 use Rattle.runner.proofs.Showing.{Ending}
 use Rattle.runner.proofs.Turns.{Ahead}
 use Rattle.runner.proofs.show.ports_end.Given as goal

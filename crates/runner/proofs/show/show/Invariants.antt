@@ -1,4 +1,4 @@
-use Rattle.simulation.specs.Records.{left}
+use Rattle.recorder.specs.Records.{left}
 use Rattle.runner.proofs.Showing.{Showing}
 use Rattle.runner.proofs.Turns.{Ahead}
 use Rattle.runner.proofs.show.show.Given as goal

@@ -1,4 +1,4 @@
-use Rattle.simulation.specs.Records.{left}
+use Rattle.recorder.specs.Records.{left}
 use Rattle.evaluation.proofs.Storing.{Taking}
 use Rattle.runner.proofs.Turns.{Ahead}
 use Rattle.runner.proofs.store.set_inputs.Given as goal

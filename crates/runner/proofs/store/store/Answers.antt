@@ -1,5 +1,5 @@
 use Rattle.std.proofs.Common.{arith}
-use Rattle.simulation.proofs.Steps.{records_count}
+use Rattle.recorder.proofs.Left.{records_count}
 use Rattle.evaluation.proofs.Storing.{one_less, one_room, one_stored}
 use Rattle.runner.proofs.store.store.Goals as goal
 

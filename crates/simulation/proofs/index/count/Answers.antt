@@ -1,6 +1,6 @@
 use Rattle.std.proofs.Common.{arith, ap, length, inl}
 use Rattle.simulation.specs.Index.{records_in}
-use Rattle.simulation.proofs.Steps.{records_count}
+use Rattle.recorder.proofs.Left.{records_count}
 use Rattle.simulation.proofs.index.count.Goals as goal
 
 pub count-requires-clause-fits : goal.count-requires-clause-fits

@@ -1,4 +1,4 @@
-use Rattle.simulation.specs.Records.{left}
+use Rattle.recorder.specs.Records.{left}
 use Rattle.simulation.proofs.Driving.{Noting}
 use Rattle.simulation.proofs.index.fill_drivers.Given as goal
 

@@ -2,10 +2,8 @@ use Rattle.std.proofs.Common.{◌∙◌}
 use Rattle.simulation.proofs.Tables.{start_said, start_found}
 use Rattle.simulation.proofs.index.start.Goals as goal
 
--- src/index.rt:149:9
-pub returns-then-w-lt4294967295 : goal.returns-then-w-lt4294967295
-returns-then-w-lt4294967295 c = c.wide.ensures ∙ start_said _ _ _ c.entry-w.ensures c.if-w-lt4294967295.true
+pub returns-in-Some : goal.returns-in-Some
+returns-in-Some c = c.wide.ensures ∙ start_said _ _ _ _ c.in-Some.ensures
 
--- src/index.rt:144:1
-pub returns : goal.returns
-returns c = c.walk_start.ensures ∙ start_found _ _ _ c.entry-w.ensures c.if-w-lt4294967295.false
+pub returns-in-None : goal.returns-in-None
+returns-in-None c = c.walk_start.ensures ∙ start_found _ _ _ c.in-None.ensures

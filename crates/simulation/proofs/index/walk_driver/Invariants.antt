@@ -1,4 +1,4 @@
-use Rattle.simulation.specs.Records.{left}
+use Rattle.recorder.specs.Records.{left}
 use Rattle.simulation.proofs.Driving.{Driving}
 use Rattle.simulation.proofs.index.walk_driver.Given as goal
 

@@ -1,6 +1,6 @@
 use Rattle.std.proofs.Common.{arith, ap, length}
 use Rattle.recorder.specs.Read.{Cut}
-use Rattle.simulation.proofs.Steps.{records_count}
+use Rattle.recorder.proofs.Left.{records_count}
 use Rattle.simulation.proofs.records.count_whole.Goals as goal
 
 pub overflow_add-n : goal.overflow_add-n

@@ -2,11 +2,10 @@
 use Rattle.std.specs.Prelude.{ℕ, ◌≡◌, Bool, true, false, List, [], ◌∷◌, Option, MatchOption}
 use Rattle.std.specs.Borrow.{Bor}
 use Rattle.recorder.specs.Read.{split, before}
-use Rattle.simulation.specs.declared.records.Records.{Records}
-use Rattle.simulation.specs.Index.{records_in}
+use Rattle.recorder.specs.declared.records.Records.{Records}
 
 abbrev pub left : Records → List (List ℕ)
-left s = records_in s.rest.now
+left s = (split s.rest.now).records
 
 abbrev pub is_empty : List ℕ → Bool
 is_empty [] = true

@@ -1,6 +1,6 @@
 use Rattle.std.proofs.Common.{arith, ◌≡◌, suc}
-use Rattle.simulation.proofs.Walking.{splits_nothing, splits_none, splits_at}
-use Rattle.simulation.proofs.records.split_first.Goals as goal
+use Rattle.recorder.proofs.Left.{splits_nothing, splits_none, splits_at}
+use Rattle.recorder.proofs.records.split_first.Goals as goal
 
 pub returns-in_err-n : goal.returns-in_err-n
 returns-in_err-n c = rw c.from_residual.ensures (splits_nothing _ c.in_err-n.ensures.cases)
