@@ -14,8 +14,6 @@ use Rattle.lowering.specs.Reserve.{signal_of, insert_bits}
 use Rattle.converter.specs.declared.Reserver.{Reserver}
 use Rattle.converter.specs.declared.Content.{Content}
 use Rattle.converter.specs.declared.Content.TheVariants as C
-use Rattle.converter.specs.declared.Label.{Label}
-use Rattle.converter.specs.declared.Label.TheVariants as L
 
 -- the wire map in the tables
 abbrev pub map_in : Reserver → Wires
@@ -68,22 +66,3 @@ held_bits words content at n = records_at (held_bit words content) after n at
 -- a signal of n bits
 abbrev pub reserve_bits : Wires → ℕ → ℕ → ℕ → List Bit → Writer Wires
 reserve_bits m label owner n bits = declare (signal_of label n owner) >>= λ s. insert_bits m s n 0 bits
-
--- a label's number
-abbrev pub label_of : Label → ℕ
-label_of L.Input = 0
-label_of L.Output = 1
-label_of L.Lut4 = 2
-label_of L.Pfumx = 3
-label_of L.L6mux21 = 4
-label_of L.Ccu2c = 5
-label_of L.Multiplier = 6
-label_of L.FlipFlops = 7
-label_of L.BlockRam = 8
-label_of L.DistributedRam = 9
-label_of L.Io = 10
-label_of L.Jtagg = 11
-label_of L.Pll = 12
-label_of L.RamWord = 13
-label_of L.Zero = 14
-label_of L.One = 15

@@ -35,27 +35,6 @@ use refusal::Refusal;
 // The work that lowering is lent: five buffers of so many words.
 pub const WORK: usize = 16384;
 
-// What a signal is of, numbered from 0 in this order.
-#[derive(Clone, Copy, Debug, PartialEq, Eq)]
-pub enum Label {
-    Input,
-    Output,
-    Lut4,
-    Pfumx,
-    L6mux21,
-    Ccu2c,
-    Multiplier,
-    FlipFlops,
-    BlockRam,
-    DistributedRam,
-    Io,
-    Jtagg,
-    Pll,
-    RamWord,
-    Zero,
-    One,
-}
-
 // The wire map as it is filled, and where the signals are recorded.
 #[derive(Drop)]
 pub struct Reserver<'a, 'b> {

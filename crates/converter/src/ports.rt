@@ -6,8 +6,9 @@ ghost use Rattle.lowering.specs.Reserve.{reserve_port, reserve_ports};
 ghost use Rattle.converter.specs.Tables.{map_in, Reserves};
 ghost use Rattle.converter.specs.Reserves.{Fitting};
 
-use crate::{Content, Label, Reserver};
+use crate::{Content, Reserver};
 use netlist::fields::Fields;
+use recorder::Label;
 use refusal::Refusal;
 
 impl Reserver<'_, '_> {

@@ -6,9 +6,10 @@ ghost use Rattle.lowering.specs.Reserve.{reserve_cell_output, reserve_cells};
 ghost use Rattle.converter.specs.Tables.{map_in, Reserves};
 ghost use Rattle.converter.specs.Reserves.{Fitting};
 
-use crate::{Content, Label, Reserver};
+use crate::{Content, Reserver};
 use netlist::Kind;
 use netlist::fields::Fields;
+use recorder::Label;
 use refusal::Refusal;
 
 impl Reserver<'_, '_> {

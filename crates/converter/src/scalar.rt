@@ -2,13 +2,13 @@
 ghost use Rattle.std.specs.Prelude.{◌≡◌, ◌<◌, get_or};
 ghost use Rattle.netlist.specs.Fields.{wires_at};
 ghost use Rattle.netlist.specs.Shape.{Each, FitsBit, FitsWire};
-ghost use Rattle.recorder.specs.Calls.{declared};
+ghost use Rattle.recorder.specs.Calls.{declared, label_of};
 ghost use Rattle.lowering.specs.Reserve.{signal_of, reserve_scalar, reserve_scalars, reserve_unless, reserve_absent};
-ghost use Rattle.converter.specs.Tables.{map_in, Reserves, held_bits, label_of, reserve_bits, Declares};
+ghost use Rattle.converter.specs.Tables.{map_in, Reserves, held_bits, reserve_bits, Declares};
 
-use crate::{Content, Label, Reserver};
+use crate::{Content, Reserver};
 use netlist::fields::{Fields, word};
-use recorder::SignalId;
+use recorder::{Label, SignalId};
 use refusal::Refusal;
 use wires::WireRef;
 
@@ -17,7 +17,7 @@ impl Reserver<'_, '_> {
     pub fn signal(&mut self, label: Label, width: u32, owner: u32) -> Result<SignalId, Refusal>
         ensures { Declares self.old (signal_of (label_of label) width owner) (declared result) self.new }
     {
-        self.recorder.signal(label as u32, width, owner)
+        self.recorder.signal(label, width, owner)
     }
 
     // A signal of one bit for a wire.

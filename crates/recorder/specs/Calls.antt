@@ -8,6 +8,8 @@ use Rattle.recorder.specs.declared.ExprId.{ExprId}
 use Rattle.recorder.specs.declared.SignalId.{SignalId}
 use Rattle.recorder.specs.declared.AsyncReset.{AsyncReset}
 use Rattle.recorder.specs.declared.Enable.{Enable}
+use Rattle.recorder.specs.declared.Label.{Label}
+use Rattle.recorder.specs.declared.Label.TheVariants as L
 use Rattle.recorder.specs.Record.{Signal, Expr, Stmt, RegReset, RegEnable, signal_words, expr_words, stmt_words}
 use Rattle.recorder.specs.Writer.{End, End.ok, End.no, Writer, declare, emit, state}
 use Rattle.recorder.specs.Lists.{Lists, lists, count_of, reached, Answer, Answer.Done, Answer.Failed, Wrote}
@@ -69,3 +71,22 @@ reset_of (Some r) = Some (record { signal = r.signal.0; active = r.active; value
 abbrev pub enable_of : Option Enable → Option RegEnable
 enable_of None = None
 enable_of (Some e) = Some (record { signal = e.signal.0; active = e.active })
+
+-- a label's number
+abbrev pub label_of : Label → ℕ
+label_of L.Input = 0
+label_of L.Output = 1
+label_of L.Lut4 = 2
+label_of L.Pfumx = 3
+label_of L.L6mux21 = 4
+label_of L.Ccu2c = 5
+label_of L.Multiplier = 6
+label_of L.FlipFlops = 7
+label_of L.BlockRam = 8
+label_of L.DistributedRam = 9
+label_of L.Io = 10
+label_of L.Jtagg = 11
+label_of L.Pll = 12
+label_of L.RamWord = 13
+label_of L.Zero = 14
+label_of L.One = 15

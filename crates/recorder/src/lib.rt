@@ -22,6 +22,27 @@ impl ExprId {
     pub const ONE: ExprId = ExprId(1);
 }
 
+// What a signal is of, numbered from 0 in this order.
+#[derive(Clone, Copy, Debug, PartialEq, Eq)]
+pub enum Label {
+    Input,
+    Output,
+    Lut4,
+    Pfumx,
+    L6mux21,
+    Ccu2c,
+    Multiplier,
+    FlipFlops,
+    BlockRam,
+    DistributedRam,
+    Io,
+    Jtagg,
+    Pll,
+    RamWord,
+    Zero,
+    One,
+}
+
 // How far a list is written: its words and its records.
 #[derive(Clone, Copy, Debug, PartialEq, Eq)]
 pub struct Tape {

@@ -1,7 +1,7 @@
 use Rattle.std.proofs.Common.{arith}
 use Rattle.netlist.specs.Fields.{word_at}
 use Rattle.netlist.specs.Shape.{FitsWire}
-use Rattle.converter.specs.Tables.{label_of}
+use Rattle.recorder.specs.Calls.{label_of}
 use Rattle.converter.proofs.Reserving.{loop_step, loop_err, loop_end}
 use Rattle.converter.proofs.Rows.{absent_start, row_is, row_fits}
 use Rattle.converter.proofs.Reserver.reserve_absent.Goals as goal

@@ -1,4 +1,4 @@
-use Rattle.converter.specs.Tables.{label_of}
+use Rattle.recorder.specs.Calls.{label_of}
 use Rattle.converter.proofs.Rows.{AbsentLoop}
 use Rattle.converter.proofs.Reserver.reserve_absent.Given as goal
 

@@ -1,4 +1,4 @@
-use Rattle.converter.specs.Tables.{label_of}
+use Rattle.recorder.specs.Calls.{label_of}
 use Rattle.converter.proofs.Reserving.{reserves_none, reserves_as}
 use Rattle.converter.proofs.CellSignals.{unless_there, unless_not}
 use Rattle.converter.proofs.Reserver.reserve_unless.Goals as goal
