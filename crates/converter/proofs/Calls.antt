@@ -1,13 +1,15 @@
 -- The call: short works, zeroed lists, zeroed works. Assumes nothing.
-use Prim.Native.Nat.{ℕ, ◌≤◌}
+use Prim.Native.Nat.{ℕ, zero, suc, ◌+◌, ◌≤◌, ◌<◌}
 use mathlib.Core.Path.{◌≡◌, refl, sym, ◌∙◌, ap, subst}
 use mathlib.Core.Bool.{Bool, true, false}
 use mathlib.Core.List.{List, [], ◌∷◌}
 use native.Mathlib.Omega.{arith}
-use lib.ListN.{length, replicate, length-replicate}
+use lib.ListN.{length, drop, get_or, replicate, length-replicate, drop_of_length-le}
 use borrow.Author.Tests.{ltb-false}
+use Rattle.std.proofs.lemmas.Bool.{lt-ltb, le-ltb}
 use Rattle.bits.specs.Bits.{pick}
 use Rattle.std.specs.Prelude.{Result, Ok, Err}
+use Rattle.std.specs.Result.{is_err}
 use Rattle.refusal.specs.declared.Refusal.{Refusal}
 use Rattle.refusal.specs.declared.Refusal.TheVariants.{BufferTooShort}
 use Rattle.recorder.specs.declared.Tapes.{Tapes}
@@ -52,6 +54,27 @@ long_here n ns q = go (short n) refl q
     go : (b : Bool) → short n ≡ b → pick b true (any_short ns) ≡ false → (16384 ≤ n) × (any_short ns ≡ false)
     go true p h = let z : ◌≡◌ {A = ℕ} 0 1 = cc in absurd (omega arith)
     go false p h = (long n p, h)
+
+-- the works from the i-th on
+short_next : (ns : List ℕ) (i : ℕ) → i < length ns → any_short (drop i ns) ≡ pick (short (get_or ns i 0)) true (any_short (drop (suc i) ns))
+unfolding any_short
+short_next [] i h = absurd (omega (arith, h))
+short_next (n ∷ ns) zero h = refl
+short_next (n ∷ ns) (suc i) h = short_next ns i (omega (arith, h))
+
+pub short_here : (ns : List ℕ) (i : ℕ) → any_short ns ≡ any_short (drop i ns) → i < length ns → get_or ns i 0 < 16384 → true ≡ any_short ns
+unfolding short
+short_here ns i s h less = sym (s ∙ short_next ns i h ∙ ap (λ (b : Bool). pick b true (any_short (drop (suc i) ns))) (lt-ltb (get_or ns i 0) 16384 less))
+
+pub short_behind : (ns : List ℕ) (i : ℕ) → any_short ns ≡ any_short (drop i ns) → i < length ns → 16384 ≤ get_or ns i 0 → any_short ns ≡ any_short (drop (i + 1) ns)
+unfolding short
+short_behind ns i s h more =
+    let on : suc i ≡ i + 1 = omega arith in
+    s ∙ short_next ns i h ∙ ap (λ (b : Bool). pick b true (any_short (drop (suc i) ns))) (le-ltb (get_or ns i 0) 16384 more) ∙ ap (λ (k : ℕ). any_short (drop k ns)) on
+
+pub none_short : (ns : List ℕ) (i : ℕ) → any_short ns ≡ any_short (drop i ns) → length ns ≤ i → false ≡ any_short ns
+unfolding any_short
+none_short ns i s h = sym (s ∙ ap any_short (drop_of_length-le ns h))
 
 same_zeros : (l l' : List ℕ) → l' ≡ zeroed l → length l' ≡ length l
 same_zeros l l' p = ap length p ∙ length-replicate {A = ℕ} (length l) 0
@@ -102,6 +125,16 @@ module _ (limits : Limits) (words s e t : List ℕ) (a b d f g : List ℕ) where
             ∙ tried.value w (ready y (sym q ∙ p)) (length s) (length e) (length t) (zeroed_lists z)
             ∙ sym (by_short false (sym q ∙ p));
       }
+
+-- WHAT A REFUSAL LEAVES
+
+pub keeps_err : (r : Result Tapes Refusal) → is_err r ≡ true → (l : Lists) {l' : Lists} → l' ≡ blank_of l → Keeps r l l'
+keeps_err (Ok t) p l q = let z : ◌≡◌ {A = ℕ} 0 1 = cc in absurd (omega arith)
+keeps_err (Err x) p l q = q
+
+pub keeps_ok : (r : Result Tapes Refusal) → is_err r ≡ false → (l : Lists) → Keeps r l l
+keeps_ok (Ok t) p l = refl
+keeps_ok (Err x) p l = let z : ◌≡◌ {A = ℕ} 0 1 = cc in absurd (omega arith)
 
 -- THE WORKS
 

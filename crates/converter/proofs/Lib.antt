@@ -19,4 +19,5 @@ pub mod OutputLaws
 pub mod KindLaws
 pub mod Sequence
 pub mod Judged
+pub mod Whole
 pub mod Calls

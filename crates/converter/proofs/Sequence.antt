@@ -201,7 +201,6 @@ module _ (words numbers : Bor (List ℕ)) (l : Layout) (count : ℕ) where
         subst (λ (t : Tapes). Wrote (lists_in r) t (lower_netlist shared (netlist_by words.now l)) (recorded q) (lists_in r')) begun
         (h.so few limits (record { within = c.within; ports_fit = c.ports; cells_fit = c.cells; few = c.few; noted = noted }) u (omega (arith, lp, room.parts_long)) (omega (arith, lv, room.values_long)));
   }
-
 -- the lists by other names
 pub by_lists : {l₀ : Lists} {wires places parts values banks words : List ℕ} {l : Layout} {shared : ℕ} {q : Result Tapes Refusal} {l₁ l₂ : Lists} → RecordsNetlist l₀ wires places parts values banks words l shared q l₁ → l₂.signals ≡ l₁.signals → l₂.exprs ≡ l₁.exprs → l₂.stmts ≡ l₁.stmts
     → RecordsNetlist l₀ wires places parts values banks words l shared q l₂

@@ -103,11 +103,16 @@ fn lower_checked(
     answered(signals, stmts, r)
 }
 
-// Whether one of the works has fewer words than lowering needs.
-fn short_work(a: &[u32], b: &[u32], c: &[u32], d: &[u32], e: &[u32]) -> bool
-    ensures { result ≡ any_short (length a.now ∷ length b.now ∷ length c.now ∷ length d.now ∷ length e.now ∷ []) }
+// Whether one of the works, of these sizes, has fewer words than lowering needs.
+fn short_work(sizes: &[usize]) -> bool
+    ensures { result ≡ any_short sizes.now }
 {
-    a.len() < WORK || b.len() < WORK || c.len() < WORK || d.len() < WORK || e.len() < WORK
+    for size in sizes {
+        if *size < WORK {
+            return true;
+        }
+    }
+    false
 }
 
 // All but the zeroing of the works. A refusal leaves lists of zeros.
@@ -128,7 +133,7 @@ fn lower_works(
     signals.fill(0);
     exprs.fill(0);
     stmts.fill(0);
-    if short_work(wires, places, parts, values, banks) {
+    if short_work(&[wires.len(), places.len(), parts.len(), values.len(), banks.len()]) {
         return Err(Refusal::BufferTooShort(WORK));
     }
     wires.fill(0);
@@ -185,7 +190,7 @@ pub fn lower(
     ensures { Lowers base words.now (lists signals.old exprs.old stmts.old) (wires.old ∷ places.old ∷ parts.old ∷ values.old ∷ banks.old ∷ []) result (lists signals.new exprs.new stmts.new) (wires.new ∷ places.new ∷ parts.new ∷ values.new ∷ banks.new ∷ []) }
 {
     lower_within(
-        Limits::base(),
+        Limits::BASE,
         words,
         signals,
         exprs,

@@ -1,4 +1,5 @@
 // The records of a checked netlist, in three lent lists.
+ghost use Rattle.std.specs.Prelude.{◌≡◌};
 ghost use Rattle.recorder.specs.Lists.{lists};
 ghost use Rattle.converter.specs.Steps.{RecordsParts, RecordsNetlist};
 
@@ -8,7 +9,7 @@ use crate::steps::{emit_netlist, reserve_netlist};
 use address_mux::Works;
 use netlist::Layout;
 use netlist::fields::Fields;
-use recorder::{RecordList, Recorder, Tape, Tapes};
+use recorder::{Recorder, Tapes};
 use refusal::Refusal;
 
 // The wire map first, and what is emitted through it.
@@ -22,7 +23,10 @@ fn record_parts(
     banks: Banks,
     shared: u32,
 ) -> Result<Tapes, Refusal>
-    ensures { RecordsParts recorder.old wires.old places.old works.old ports.entry n banks.entry shared result recorder.new }
+    ensures wrote { RecordsParts recorder.old wires.old places.old works.old ports.entry n banks.entry shared result recorder.new }
+    ensures signals { recorder.new.signals.words.ghost_name ≡ recorder.old.signals.words.ghost_name }
+    ensures exprs { recorder.new.exprs.words.ghost_name ≡ recorder.old.exprs.words.ghost_name }
+    ensures stmts { recorder.new.stmts.words.ghost_name ≡ recorder.old.stmts.words.ghost_name }
 {
     reserve_netlist(recorder, wires, places, ports, n, banks)?;
     emit_netlist(recorder, works, wires, places, ports, n, banks, shared)?;
@@ -57,16 +61,7 @@ pub fn record_netlist(
         numbers: banks,
         count,
     };
-    // Not by `Recorder::new`: its contract speaks of the signals alone.
-    let tape = Tape { used: 0, count: 0 };
-    let mut recorder = Recorder {
-        signals: RecordList {
-            words: signals,
-            tape,
-        },
-        exprs: RecordList { words: exprs, tape },
-        stmts: RecordList { words: stmts, tape },
-    };
+    let mut recorder = Recorder::new(signals, exprs, stmts);
     let mut works = Works { parts, values };
     record_parts(
         &mut recorder,

@@ -7,10 +7,9 @@ use Rattle.netlist.specs.Netlist.{Netlist}
 use Rattle.netlist.specs.Reader.{Read, netlist, refused, read_words}
 use Rattle.behaviour.specs.Banks.{collect_flip_flop_banks}
 use Rattle.recorder.specs.Record.{Signal, Expr.const, Stmt, Stmt.assign, target}
-use Rattle.recorder.specs.declared.Tape.{Tape}
 use Rattle.recorder.specs.declared.Tapes.{Tapes}
 use Rattle.recorder.specs.Writer.{Writer, pure, declare, emit, state, ◌>>=◌, ◌>>◌, model_of}
-use Rattle.recorder.specs.Lists.{Lists, tapes, Answer, Answer.Done, Answer.Failed, writing}
+use Rattle.recorder.specs.Lists.{Lists, tapes, unwritten, Answer, Answer.Done, Answer.Failed, writing}
 use Rattle.recorder.specs.Words.{blank}
 use Rattle.wires.specs.declared.Constants.{Constants}
 use Rattle.wires.specs.Wires.{Wires, no_wires}
@@ -68,7 +67,7 @@ lower_netlist shared n = do
 
 -- no record yet
 abbrev pub start : Tapes
-start = let t : Tape = record { used = 0; count = 0 } in tapes t t t
+start = tapes unwritten unwritten unwritten
 
 pub data Lowered : Type 0 where
   -- each list's records and words used

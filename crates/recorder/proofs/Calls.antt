@@ -1,5 +1,5 @@
 -- Laws of `Writes`: one call after another, a call that stops, none, a loop.
-use Rattle.std.specs.Prelude.{◌≡◌, Bool, true, false, List, [], ◌∷◌, ◌++◌, ℕ, Result, Ok, Err, IsErrAnd}
+use Rattle.std.specs.Prelude.{◌≡◌, Bool, true, false, List, [], ◌∷◌, ◌++◌, ℕ, Result, IsErrAnd}
 use Rattle.std.proofs.Common.{refl, ap, sym, ◌∙◌, subst, arith}
 use Rattle.std.proofs.lemmas.Result.{err_from_is_err_and}
 use Rattle.bits.specs.Bits.{pick}
@@ -10,7 +10,7 @@ use Rattle.recorder.specs.declared.Recorder.{Recorder}
 use Rattle.recorder.specs.Writer.{Event, Count, further, End, End.ok, End.no, Writer, pure, refuse, after, ◌>>=◌}
 use Rattle.recorder.specs.Lists.{Lists, count_of, Played, Played.going, Played.full, has_room, laid, advanced, list_of, onward, play, reached, Answer, Answer.Done, Answer.Failed, Left, finish, Wrote}
 use Rattle.recorder.specs.Calls.{lists_in, tapes_in, SameLists, answered, Writes, ended}
-use Rattle.recorder.proofs.Wrote.{play_counts, then_done, then_stop, wrote_as, wrote_pure, wrote_refuse}
+use Rattle.recorder.proofs.Wrote.{play_counts, then_done, then_stop, wrote_pure, wrote_refuse}
 
 -- ---- where the tapes stand
 

@@ -20,8 +20,8 @@ use Rattle.recorder.specs.declared.Enable.{Enable}
 use Rattle.std.specs.Prelude.{Option, Some, None}
 use Rattle.recorder.specs.Record.{Stmt.reg, sized, signal_words, expr_words, stmt_words}
 use Rattle.bits.specs.Bits.{pick}
-use Rattle.recorder.specs.Writer.{Event, Event.signal, Event.expr, Event.stmt, declare, emit, state, Count, End, End.ok, End.no, Writer}
-use Rattle.recorder.specs.Lists.{fits, over, behind, put_in, Puts, Lists, lists, tapes, list_of, has_room, laid, advanced, count_of, play, reached, writing}
+use Rattle.recorder.specs.Writer.{Event, Event.signal, Event.expr, Event.stmt, declare, emit, state, Count, End, End.ok, End.no}
+use Rattle.recorder.specs.Lists.{fits, over, behind, Puts, lists, tapes, list_of, has_room, laid, advanced, count_of, play, reached}
 use Rattle.recorder.specs.Calls.{lists_in, tapes_in, SameLists, Writes, PushedSignal, PushedExpr, PushedStmt, reset_of, enable_of}
 
 -- WORDS OVER A LIST

@@ -8,9 +8,8 @@ use native.Mathlib.Omega.{arith}
 use lib.ListN.{length}
 use Rattle.bits.specs.Bits.{pick}
 use Rattle.recorder.specs.declared.Tapes.{Tapes}
-use Rattle.recorder.specs.Record.{Signal, Expr, Stmt, signal_words, expr_words, stmt_words}
-use Rattle.recorder.specs.Writer.{Event, Event.signal, Event.expr, Event.stmt, signals_of, exprs_of, stmts_of, Count, further, End, End.ok, End.no, Writer, pure, refuse, declare, emit, state, after, ◌>>=◌}
-use Rattle.recorder.specs.Lists.{Lists, lists, tapes, count_of, Played, Played.going, Played.full, list_of, has_room, laid, advanced, put, onward, play, Answer, Answer.Done, Answer.Failed, Left, finish, writing, Wrote}
+use Rattle.recorder.specs.Writer.{Event, Event.signal, Event.expr, Event.stmt, signals_of, exprs_of, stmts_of, Count, further, End, End.ok, End.no, Writer, pure, refuse, after, ◌>>=◌}
+use Rattle.recorder.specs.Lists.{Lists, count_of, Played, Played.going, Played.full, list_of, has_room, laid, advanced, put, onward, play, Answer, Answer.Done, Answer.Failed, Left, finish, writing, Wrote}
 
 one_more : (a b : ℕ) → a + 1 + b ≡ a + suc b
 one_more a b = omega arith

@@ -1,5 +1,5 @@
 -- A call on a recorder: what it writes, what it answers, and the recorder that it leaves.
-use Rattle.std.specs.Prelude.{List, [], ◌≡◌, ◌≤◌, ℕ, Option, Some, None, Result, Ok, Err}
+use Rattle.std.specs.Prelude.{List, ◌≡◌, ◌≤◌, ℕ, Option, Some, None, Result, Ok, Err}
 use Rattle.refusal.specs.declared.Refusal.{Refusal}
 use Rattle.refusal.specs.Refusal.{number_of, place_of}
 use Rattle.recorder.specs.declared.Tapes.{Tapes}

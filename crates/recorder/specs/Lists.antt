@@ -6,8 +6,8 @@ use Rattle.bits.specs.Bits.{pick}
 use Rattle.recorder.specs.declared.Tape.{Tape}
 use Rattle.recorder.specs.declared.Tapes.{Tapes}
 use Rattle.recorder.specs.declared.RecordList.{RecordList}
-use Rattle.recorder.specs.Record.{Signal, Expr, Stmt, signal_words, expr_words, stmt_words}
-use Rattle.recorder.specs.Writer.{Event, Event.signal, Event.expr, Event.stmt, Count, End, End.ok, End.no, Writer, declare, emit, state}
+use Rattle.recorder.specs.Record.{signal_words, expr_words, stmt_words}
+use Rattle.recorder.specs.Writer.{Event, Event.signal, Event.expr, Event.stmt, Count, End, End.ok, End.no, Writer}
 
 -- ONE LIST
 
@@ -45,6 +45,10 @@ lists s e t = record { signals = s; exprs = e; stmts = t }
 
 abbrev pub tapes : Tape → Tape → Tape → Tapes
 tapes s e t = record { signals = s; exprs = e; stmts = t }
+
+-- no record yet
+abbrev pub unwritten : Tape
+unwritten = record { used = 0; count = 0 }
 
 abbrev pub count_of : Tapes → Count
 count_of t = record { signals = t.signals.count; exprs = t.exprs.count; stmts = t.stmts.count }

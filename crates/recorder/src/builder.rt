@@ -1,6 +1,7 @@
 // A method for each kind of record. Each answers with the record's number, or that its list is full.
 ghost use Rattle.std.specs.Prelude.{◌≡◌, ◌++◌};
 ghost use Rattle.recorder.specs.Record.{sized, Expr.const as const_e, Expr.read as read_e, Expr.concat as concat_e, Expr.not as not_e, Expr.and as and_e, Expr.or as or_e, Expr.xor as xor_e, Expr.mux as mux_e, Expr.eq as eq_e, Expr.mul as mul_e, Stmt.assign as assign_s, Stmt.reg as reg_s};
+ghost use Rattle.recorder.specs.Lists.{unwritten};
 ghost use Rattle.recorder.specs.Writer.{declare, emit, state};
 ghost use Rattle.recorder.specs.Calls.{Writes, PushedSignal, PushedExpr, PushedStmt, emitted, declared, stated, reset_of, enable_of, tapes_in};
 
@@ -10,7 +11,9 @@ use refusal::Refusal;
 impl<'a> Recorder<'a> {
     // Nothing is recorded yet.
     pub fn new(signals: &'a mut [u32], exprs: &'a mut [u32], stmts: &'a mut [u32]) -> Recorder<'a>
-        ensures signals { (result.signals.words.ghost_name ≡ signals.entry.ghost_name) × (result.signals.words.now ≡ signals.old) }
+        ensures signals { (result.signals.words.ghost_name ≡ signals.entry.ghost_name) × (result.signals.words.now ≡ signals.old) × (result.signals.tape ≡ unwritten) }
+        ensures exprs { (result.exprs.words.ghost_name ≡ exprs.entry.ghost_name) × (result.exprs.words.now ≡ exprs.old) × (result.exprs.tape ≡ unwritten) }
+        ensures stmts { (result.stmts.words.ghost_name ≡ stmts.entry.ghost_name) × (result.stmts.words.now ≡ stmts.old) × (result.stmts.tape ≡ unwritten) }
     {
         let tape = Tape { used: 0, count: 0 };
         Recorder {
@@ -171,8 +174,9 @@ impl<'a> Recorder<'a> {
                 1, target.0, next.0, clock.0, edge, 1, r.signal.0, r.active, r.value.0, 0,
             ]),
             (Some(r), Some(e)) => self.push_stmt(&[
-                1, target.0, next.0, clock.0, edge, 1, r.signal.0, r.active, r.value.0, 1,
-                e.signal.0, e.active,
+                1, target.0, next.0, clock.0, edge, 1, r.signal.0, r.active, r.value.0, 1, e
+                    .signal
+                    .0, e.active,
             ]),
         }
     }

@@ -1,4 +1,4 @@
-use Rattle.std.proofs.Common.{refl, rules, arith, length-set}
+use Rattle.std.proofs.Common.{refl, arith, length-set}
 use Rattle.recorder.proofs.Calls.{writes_as, writes_pure, writes_refuse}
 use Rattle.converter.proofs.Tables.{insert_free, insert_taken}
 use Rattle.converter.proofs.Reserving.{tables_themselves}

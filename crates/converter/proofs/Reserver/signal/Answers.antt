@@ -1,4 +1,4 @@
-use Rattle.std.proofs.Common.{refl, ◌≡◌, ap, sym, subst, ℕ}
+use Rattle.std.proofs.Common.{refl, ◌≡◌, subst, ℕ}
 use denote.Enum.Declared.{tag_of}
 use Rattle.recorder.specs.Writer.{declare}
 use Rattle.recorder.specs.Calls.{Writes, declared}

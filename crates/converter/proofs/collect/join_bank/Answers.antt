@@ -1,6 +1,4 @@
-use Rattle.std.proofs.Common.{sym, ◌∙◌, ◌+◌, subst, arith, ℕ, List}
-use Rattle.converter.specs.Banked.{JoinedBank}
-use Rattle.netlist.specs.Fields.{cell_at}
+use Rattle.std.proofs.Common.{sym, ◌∙◌, arith}
 use Rattle.converter.proofs.Keys.{join_none, fit, clock_is, bank_small, join_there, join_new, joined_as}
 use Rattle.converter.proofs.collect.join_bank.Goals.{then-bank-count, else-bank-count}
 use Rattle.converter.proofs.collect.join_bank.Goals as goal

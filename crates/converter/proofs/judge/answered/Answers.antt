@@ -1,4 +1,4 @@
-use Rattle.converter.proofs.Judged.{answered_done, answered_refused}
+use Rattle.converter.proofs.Judged.{answered_done}
 use Rattle.converter.proofs.judge.answered.Goals as goal
 
 pub returns-in-Ok : goal.returns-in-Ok

@@ -1,4 +1,3 @@
-use Rattle.std.proofs.Common.{length}
 use Rattle.wires.specs.Wires.{wires_in}
 use Rattle.converter.specs.Members.{members_left}
 use Rattle.converter.proofs.NextBits.{Counting, Nexting}

@@ -1,4 +1,3 @@
-use Rattle.std.proofs.Common.{refl}
 use Rattle.wires.specs.Wires.{wires_in}
 use Rattle.converter.proofs.OutputLaws.{port_other, port_err, port_done}
 use Rattle.converter.proofs.outputs.emit_output.Goals as goal

@@ -1,4 +1,4 @@
-use Rattle.std.proofs.Common.{sym, ◌∙◌, arith}
+use Rattle.std.proofs.Common.{sym, ◌∙◌}
 use Rattle.converter.proofs.Walking.{member_here, member_other, member_less, members_end}
 use Rattle.converter.proofs.members.MembersIterator.next.Goals as goal
 
