@@ -123,7 +123,7 @@ module _ (e₀ : Emitter) (works₀ : Works) (words : List ℕ) (at n : ℕ) whe
       abbrev x : Cell
       x = cell_at words place
 
-      fits_one : (limits : Limits) → Starts limits → CellFits works x limits
+      fits_one : (limits : Limits) → Starts limits → CellFits works.parts.now works.values.now x limits
       fits_one limits p = (omega (arith, p.0.0, now.lent.parts_size), omega (arith, p.0.1, now.lent.values_size), subst (λ (k : ℕ). FitsCell limits (cell_at words k)) (sym (is limits p.0)) (p.0.2.fit i inside))
 
       same_writer : cell_writer e i x ≡ one_cell i x

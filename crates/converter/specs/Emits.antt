@@ -53,11 +53,15 @@ pub record Shares (P : Limits → Type 0) (e : Emitter) (w : Writer (Unit {0})) 
 abbrev pub cell_writer : Emitter → ℕ → Cell → Writer (Unit {0})
 cell_writer e owner x = emit_cell (length e.seen.now) (wires_in e.map) e.map.constants owner x
 
-abbrev pub CellFits : Works → Cell → Limits → Type 0
-CellFits works x limits = Work works.parts.now × Work works.values.now × FitsCell limits x
+abbrev pub CellFits : List ℕ → List ℕ → Cell → Limits → Type 0
+CellFits parts values x limits = Work parts × Work values × FitsCell limits x
 
 abbrev pub EmitsCell : Emitter → Works → ℕ → Cell → End (Unit {0}) → Emitter → Type 0
-EmitsCell e works owner x r e' = Shares (CellFits works x) e (cell_writer e owner x) r e'
+EmitsCell e works owner x r e' = Shares (CellFits works.parts.now works.values.now x) e (cell_writer e owner x) r e'
+
+-- one whose works come as slices
+abbrev pub EmitsBlockRam : Emitter → List ℕ → List ℕ → ℕ → Cell → End (Unit {0}) → Emitter → Type 0
+EmitsBlockRam e parts values owner x r e' = Shares (CellFits parts values x) e (cell_writer e owner x) r e'
 
 -- one that takes no work
 abbrev pub EmitsAlone : Emitter → ℕ → Cell → End (Unit {0}) → Emitter → Type 0

@@ -61,7 +61,7 @@ fn emit_cell(
         Kind::Multiplier => emit_multiplier(emitter, cell),
         // It comes by its bank.
         Kind::FlipFlop => Ok(()),
-        Kind::BlockRam => block_ram_cell(emitter, works, owner, cell),
+        Kind::BlockRam => block_ram_cell(emitter, works.parts, works.values, owner, cell),
         Kind::DistributedRam => distributed_ram_cell(emitter, owner, cell),
         Kind::Io => emit_io(emitter, cell.io()),
         Kind::Jtagg => emit_idle_jtagg(emitter.recorder, emitter.map, cell),

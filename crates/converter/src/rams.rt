@@ -1,8 +1,7 @@
 // The RAMs: their addresses are read here, and works are lent as far as they are needed.
 ghost use Rattle.netlist.specs.Fields.{block_ram_at, distributed_ram_at};
 ghost use Rattle.recorder.specs.Calls.{stated};
-ghost use Rattle.address_mux.specs.Candidates.{SameWorks};
-ghost use Rattle.converter.specs.Emits.{EmitsCell, EmitsAlone};
+ghost use Rattle.converter.specs.Emits.{EmitsBlockRam, EmitsAlone};
 
 use address_mux::Works;
 use memories::block_ram::{block_ram_work, emit_block_ram};
@@ -11,23 +10,23 @@ use netlist::fields::Fields;
 use refusal::Refusal;
 use wires::Emitter;
 
-// Kept out of the loop over all cells.
+// Kept out of the loop over all cells. The works come as slices: what is lent of one field may not be kept while the other is lent.
 #[inline(never)]
 pub fn block_ram_cell(
     emitter: &mut Emitter,
-    works: &mut Works,
+    parts: &mut [u32],
+    values: &mut [u32],
     owner: u32,
     cell: Fields,
 ) -> Result<(), Refusal>
-    ensures wrote { EmitsCell emitter.old works.old owner (block_ram_at cell.entry.words.now cell.entry.at) (stated result) emitter.new }
-    ensures works { SameWorks works.old works.new }
+    ensures { EmitsBlockRam emitter.old parts.old values.old owner (block_ram_at cell.entry.words.now cell.entry.at) (stated result) emitter.new }
 {
     let work = block_ram_work(cell);
-    let p = work.min(works.parts.len());
-    let v = work.min(works.values.len());
+    let p = work.min(parts.len());
+    let v = work.min(values.len());
     let mut lent = Works {
-        parts: &mut works.parts[..p],
-        values: &mut works.values[..v],
+        parts: &mut parts[..p],
+        values: &mut values[..v],
     };
     let second = cell.second_port().bits(0);
     emit_block_ram(

@@ -1,9 +1,9 @@
 // A method for each kind of record. Each answers with the record's number, or that its list is full.
 ghost use Rattle.std.specs.Prelude.{◌≡◌, ◌++◌};
 ghost use Rattle.recorder.specs.Record.{sized, Expr.const as const_e, Expr.read as read_e, Expr.concat as concat_e, Expr.not as not_e, Expr.and as and_e, Expr.or as or_e, Expr.xor as xor_e, Expr.mux as mux_e, Expr.eq as eq_e, Expr.mul as mul_e, Stmt.assign as assign_s, Stmt.reg as reg_s};
-ghost use Rattle.recorder.specs.Lists.{unwritten};
+ghost use Rattle.recorder.specs.Lists.{lists, tapes, unwritten};
 ghost use Rattle.recorder.specs.Writer.{declare, emit, state};
-ghost use Rattle.recorder.specs.Calls.{Writes, PushedSignal, PushedExpr, PushedStmt, emitted, declared, stated, reset_of, enable_of, tapes_in};
+ghost use Rattle.recorder.specs.Calls.{Writes, PushedSignal, PushedExpr, PushedStmt, emitted, declared, stated, reset_of, enable_of, lists_in, tapes_in};
 
 use crate::{AsyncReset, Enable, ExprId, RecordList, Recorder, SignalId, Tape, Tapes};
 use refusal::Refusal;
@@ -11,9 +11,11 @@ use refusal::Refusal;
 impl<'a> Recorder<'a> {
     // Nothing is recorded yet.
     pub fn new(signals: &'a mut [u32], exprs: &'a mut [u32], stmts: &'a mut [u32]) -> Recorder<'a>
-        ensures signals { (result.signals.words.ghost_name ≡ signals.entry.ghost_name) × (result.signals.words.now ≡ signals.old) × (result.signals.tape ≡ unwritten) }
-        ensures exprs { (result.exprs.words.ghost_name ≡ exprs.entry.ghost_name) × (result.exprs.words.now ≡ exprs.old) × (result.exprs.tape ≡ unwritten) }
-        ensures stmts { (result.stmts.words.ghost_name ≡ stmts.entry.ghost_name) × (result.stmts.words.now ≡ stmts.old) × (result.stmts.tape ≡ unwritten) }
+        ensures same_signals { result.signals.words.ghost_name ≡ signals.entry.ghost_name }
+        ensures same_exprs { result.exprs.words.ghost_name ≡ exprs.entry.ghost_name }
+        ensures same_stmts { result.stmts.words.ghost_name ≡ stmts.entry.ghost_name }
+        ensures held { lists_in result ≡ lists signals.old exprs.old stmts.old }
+        ensures begun { tapes_in result ≡ tapes unwritten unwritten unwritten }
     {
         let tape = Tape { used: 0, count: 0 };
         Recorder {

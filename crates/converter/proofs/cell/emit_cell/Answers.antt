@@ -21,7 +21,10 @@ pub returns-in-FlipFlop-clause-wrote : goal.returns-in-FlipFlop-clause-wrote
 returns-in-FlipFlop-clause-wrote c = cell_alone c.args.emitter.now c.args.cell.words.now c.args.cell.at (sym c.kind.ensures ∙ c.in-FlipFlop.is) c.args.works.now c.args.owner (kind_flip_flop c.args.emitter.now c.args.cell.words.now c.args.cell.at c.args.owner)
 
 pub returns-in-BlockRam-clause-wrote : goal.returns-in-BlockRam-clause-wrote
-returns-in-BlockRam-clause-wrote c = cell_of c.args.emitter.now c.args.cell.words.now c.args.cell.at (sym c.kind.ensures ∙ c.in-BlockRam.is) c.args.works.now c.args.owner c.block_ram_cell.ensures.wrote
+returns-in-BlockRam-clause-wrote c = cell_of c.args.emitter.now c.args.cell.words.now c.args.cell.at (sym c.kind.ensures ∙ c.in-BlockRam.is) c.args.works.now c.args.owner c.block_ram_cell.ensures
+
+pub returns-in-BlockRam-clause-works : goal.returns-in-BlockRam-clause-works
+returns-in-BlockRam-clause-works c = record { parts = refl; values = refl; parts_size = c.block_ram_cell.auto.parts; values_size = c.block_ram_cell.auto.values }
 
 pub returns-in-DistributedRam-clause-wrote : goal.returns-in-DistributedRam-clause-wrote
 returns-in-DistributedRam-clause-wrote c = cell_alone c.args.emitter.now c.args.cell.words.now c.args.cell.at (sym c.kind.ensures ∙ c.in-DistributedRam.is) c.args.works.now c.args.owner (c.distributed_ram_cell.ensures)

@@ -1,5 +1,5 @@
 use Rattle.std.proofs.Common.{rules, subst}
-use Rattle.recorder.specs.Lists.{Lists, lists, tapes}
+use Rattle.recorder.specs.Lists.{Lists, lists}
 use Rattle.recorder.specs.Calls.{lists_in}
 use Rattle.converter.specs.Steps.{RecordsNetlist}
 use Rattle.converter.proofs.Sequence.{recorded_netlist, by_lists}
@@ -11,6 +11,6 @@ returns c =
     let n = c.collect_flip_flop_banks-count in
     let w : RecordsNetlist (lists c.args.signals.now c.args.exprs.now c.args.stmts.now) c.args.wires.now c.args.places.now c.args.parts.now c.args.values.now c.args.banks.now c.args.words.now c.args.layout c.args.shared c.record_parts.result (lists_in c.record_parts.new.recorder) =
       subst (λ (l : Lists). RecordsNetlist l c.args.wires.now c.args.places.now c.args.parts.now c.args.values.now c.args.banks.now c.args.words.now c.args.layout c.args.shared c.record_parts.result (lists_in c.record_parts.new.recorder))
-      (λ i. lists (r.ensures.signals.1 i) (r.ensures.exprs.1 i) (r.ensures.stmts.1 i))
-      (recorded_netlist c.args.words _ c.args.layout n.result _ c.args.wires.now c.args.places.now c.args.parts.now c.args.values.now c.args.banks.now _ c.args.shared (λ i. tapes (r.ensures.signals.2 i) (r.ensures.exprs.2 i) (r.ensures.stmts.2 i)) n.ensures n.auto.parts n.auto.values c.record_parts.ensures.wrote) in
+      r.ensures.held
+      (recorded_netlist c.args.words _ c.args.layout n.result _ c.args.wires.now c.args.places.now c.args.parts.now c.args.values.now c.args.banks.now _ c.args.shared r.ensures.begun n.ensures n.auto.parts n.auto.values c.record_parts.ensures.wrote) in
     by_lists w (search rules) (search rules) (search rules)
