@@ -9,7 +9,7 @@ use Rattle.recorder.specs.Lists.{Lists}
 use Rattle.lowering.specs.Lower.{Lowered, Accepted, Refused, Lowering}
 use Rattle.simulation.specs.Wellformed.{largest, malformed}
 use Rattle.simulation.specs.Run.{Call, call_model, zeroed, short, causes, first_of, bytes_after}
-use Rattle.refusal.specs.declared.Refusal as x
+use Rattle.refusal.specs.declared.Refusal.{Refusal}
 use Rattle.recorder.specs.declared.Tapes.{Tapes}
 use Rattle.converter.specs.Entry.{answer_of, any_short, call_of, blank_of}
 use Rattle.simulator.specs.Entry.{Simulation, Simulated, Simulates, refused_by}
@@ -49,7 +49,7 @@ simulate_call x buffer = pick (no_room x.works buffer) (refused_by x 1 8) (e.sim
 
 -- with room: demand 3 too
 pub record HandsSimulated (x : Simulation) (buffer : List ℕ) (code : ℕ) (l' : Lists) (answers' shown' buffer' : List ℕ) : Type 0 where
-  pub answer : Result Tapes x.Refusal
+  pub answer : Result Tapes Refusal
   pub value : record { answer = answer_of answer; lists = l'; answers = answers'; shown = shown' } ≡ simulate_call x buffer
   pub simulates : 8 ≤ length buffer → Simulates base x answer l' answers' shown'
   pub hands : Hands (numbers_of (answer_of answer)) buffer code buffer'

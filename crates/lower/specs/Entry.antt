@@ -1,7 +1,7 @@
 -- The program's call as a value: the answer and the three lists, for whatever bytes come in.
 use Rattle.std.specs.Prelude.{Bool, false, List, ◌≡◌, ℕ, ◌%◌, leb, eqb, length, Result}
 use Rattle.bits.specs.Bits.{pick}
-use Rattle.refusal.specs.declared.Refusal as x
+use Rattle.refusal.specs.declared.Refusal.{Refusal}
 use Rattle.recorder.specs.declared.Tapes.{Tapes}
 use Rattle.recorder.specs.Lists.{Lists}
 use Rattle.recorder.specs.Words.{zeroed}
@@ -24,11 +24,11 @@ lower_bytes bytes l = pick (whole_words (length bytes)) (lower_lent (words_of by
 
 -- bytes and lists at entry; the answer and the lists at exit
 
-pub record Unread (l : Lists) (r : Result Tapes x.Refusal) (l' : Lists) : Type 0 where
+pub record Unread (l : Lists) (r : Result Tapes Refusal) (l' : Lists) : Type 0 where
   pub said : answer_of r ≡ Refused 3 0
   pub signals : l'.signals ≡ zeroed l.signals
   pub exprs : l'.exprs ≡ zeroed l.exprs
   pub stmts : l'.stmts ≡ zeroed l.stmts
 
-pub record LowersBytes (bytes : List ℕ) (l : Lists) (r : Result Tapes x.Refusal) (l' : Lists) : Type 0 where
+pub record LowersBytes (bytes : List ℕ) (l : Lists) (r : Result Tapes Refusal) (l' : Lists) : Type 0 where
   pub value : record { answer = answer_of r; lists = l' } ≡ lower_bytes bytes l

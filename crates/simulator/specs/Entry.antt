@@ -13,7 +13,7 @@ use Rattle.simulation.specs.Run.{Ran, zeroed, tick_bits}
 use Rattle.simulation.specs.Run as s
 use Rattle.simulation.specs.Shown.{Entry, ByModel}
 use Rattle.forms.specs.Lowered.{lowered_model}
-use Rattle.refusal.specs.declared.Refusal as x
+use Rattle.refusal.specs.declared.Refusal.{Refusal}
 use Rattle.converter.specs.Entry.{answer_of, call_of, blank_of}
 use Rattle.runner.specs.Calls.{ListCall, ListOutcome, entries, answers_of, outputs_of, filled, run_list}
 use Rattle.runner.specs.Whole.{list_call}
@@ -88,7 +88,7 @@ pub record ShowsCells (shared : ℕ) (n : Netlist) (x : Simulation) (answers' sh
   pub shown_are : shown' ≡ filled x.shown (outputs_of ticks)
 
 -- lists, answers and outputs at exit
-pub record Simulates (limits : Limits) (x : Simulation) (r : Result Tapes x.Refusal) (l' : Lists) (answers' shown' : List ℕ) : Type 0 where
+pub record Simulates (limits : Limits) (x : Simulation) (r : Result Tapes Refusal) (l' : Lists) (answers' shown' : List ℕ) : Type 0 where
   pub value : record { answer = answer_of r; lists = l'; answers = answers'; shown = shown' } ≡ simulate_call limits x
   pub cells : (n : Netlist) → read_words limits x.words ≡ netlist n → NoWireLoop n → (t : Tapes) → answer_of r ≡ Accepted t → ShowsCells limits.wires n x answers' shown'
   -- a netlist that lowering accepts is refused only for a short buffer: 12 never comes, 13 and 14 are a tick's own

@@ -1,7 +1,7 @@
 -- What the parts of `simulate` leave, of a model's lists, a list of ticks and the run's tables.
 use Rattle.std.specs.Prelude.{◌≡◌, List, [], ◌∷◌, map, ℕ}
 use Rattle.std.specs.Prelude.{Option, None, Some, Result}
-use Rattle.refusal.specs.declared.Refusal as x
+use Rattle.refusal.specs.declared.Refusal.{Refusal}
 use Rattle.recorder.specs.declared.Tapes.{Tapes}
 use Rattle.recorder.specs.Lists.{Lists, lists}
 use Rattle.lowering.specs.Lower.{Lowered, Accepted, Refused, Lowering}
@@ -76,7 +76,7 @@ concluded l t (Some r) = record { answer = Refused r.0 r.1; lists = blank_of l }
 abbrev pub ends : ListCall → Tapes → ListOutcome → Simulated
 ends k t o = let z = concluded k.lists t o.answer in record { answer = z.answer; lists = z.lists; answers = o.answers; shown = o.shown }
 
-pub record RunsAccepted (k : ListCall) (t : Tapes) (r : Result Tapes x.Refusal) (l' : Lists) (answers' shown' : List ℕ) : Type 0 where
+pub record RunsAccepted (k : ListCall) (t : Tapes) (r : Result Tapes Refusal) (l' : Lists) (answers' shown' : List ℕ) : Type 0 where
   pub value : record { answer = answer_of r; lists = l'; answers = answers'; shown = shown' } ≡ ends k t (run_list largest (on_used k t))
 
 -- what lowering answered: ticks, or nothing to show
@@ -84,5 +84,5 @@ abbrev pub follows : ListCall → Lowered → Simulated
 follows k (Accepted t) = ends k t (run_list largest (on_used k t))
 follows k (Refused number place) = record { answer = Refused number place; lists = k.lists; answers = zeroed k.answers; shown = zeroed k.shown }
 
-pub record RunsLowered (k : ListCall) (a r : Result Tapes x.Refusal) (l' : Lists) (answers' shown' : List ℕ) : Type 0 where
+pub record RunsLowered (k : ListCall) (a r : Result Tapes Refusal) (l' : Lists) (answers' shown' : List ℕ) : Type 0 where
   pub value : record { answer = answer_of r; lists = l'; answers = answers'; shown = shown' } ≡ follows k (answer_of a)
