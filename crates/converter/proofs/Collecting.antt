@@ -15,14 +15,15 @@ use borrow.Author.Tests.{ltb-true, ltb-false}
 use Rattle.bits.specs.Bits.{pick}
 use Rattle.netlist.specs.declared.Limits.{Limits}
 use Rattle.netlist.specs.Netlist.{FlipFlop, Cell}
-use Rattle.netlist.specs.Fields.{records_at, end_at, cell_at, cell_end, cells_at}
+use Rattle.netlist.specs.declared.fields.Fields.{Fields}
+use Rattle.netlist.specs.Fields.{records_at, end_at, cell_at, cell_end, cells_at, cell_size}
 use Rattle.netlist.specs.Shape.{FitsCell}
 use Rattle.netlist.proofs.RecordLaws.{records_length}
 use Rattle.netlist.proofs.WordLaws.{records_more}
 use Rattle.behaviour.specs.Banks.{Member, flip_flop_of, also, flip_flops_from, bank_in, joined, leaders_from, leaders_of}
 use Rattle.behaviour.proofs.BankLaws.{bank_here}
 use Rattle.converter.specs.Reserves.{Fitting}
-use Rattle.converter.proofs.Reserving.{place_start, place_step}
+use Rattle.converter.proofs.Reserving.{Stands, stands_start, stands_is, stands_step}
 use Rattle.converter.specs.Banked.{larger, Keyed, number_of, number_in, with_cell, JoinedBank, Joins, Collected, Work}
 
 also_append : (o : Option FlipFlop) (c : ℕ) (xs ys : List Member) → also o c (xs ++ ys) ≡ also o c xs ++ ys
@@ -143,30 +144,31 @@ module _ (limits : Limits) (words : List ℕ) (at i count : ℕ) (banks parts va
 
 -- THE LOOP
 
-pub record Gathers (words : List ℕ) (at n : ℕ) (banks₀ parts₀ values₀ : List ℕ) (i count place : ℕ) (banks parts values : List ℕ) : Type 0 where
+pub record Gathers (words : List ℕ) (at n : ℕ) (banks₀ parts₀ values₀ : List ℕ) (i count : ℕ) (cell : Fields) (banks parts values : List ℕ) : Type 0 where
   pub so : (limits : Limits) → limits.wires < 1000000000 → Fitting (cell_at words) (cell_end words) (FitsCell limits) (length words) n at → Work n banks₀ parts₀ values₀
-      → Collecting limits words at i count banks parts values × (place ≡ end_at (cell_end words) i at)
+      → Collecting limits words at i count banks parts values × Stands words (cell_end words) at i cell
+
+pub gathers_start : (cells : Fields) (n : ℕ) (banks₀ parts₀ values₀ : List ℕ) → Gathers cells.words.now cells.at n banks₀ parts₀ values₀ 0 0 cells banks₀ parts₀ values₀
+gathers_start cells n banks₀ parts₀ values₀ = record { so = λ limits small fit work. (collecting_start limits cells.words.now cells.at banks₀ parts₀ values₀, stands_start (cell_end cells.words.now)) }
 
 module _ (words : List ℕ) (at n : ℕ) (banks₀ parts₀ values₀ : List ℕ) where
-  pub gathers_start : Gathers words at n banks₀ parts₀ values₀ 0 0 at banks₀ parts₀ values₀
-  gathers_start = record { so = λ limits small fit work. (collecting_start limits words at banks₀ parts₀ values₀, place_start (cell_end words) at) }
 
-  module _ {i count place : ℕ} {banks parts values : List ℕ} (now : Gathers words at n banks₀ parts₀ values₀ i count place banks parts values) where
+  module _ {i count : ℕ} {cell : Fields} {banks parts values : List ℕ} (now : Gathers words at n banks₀ parts₀ values₀ i count cell banks parts values) where
     pub gathers_step : length banks ≡ length banks₀ → length parts ≡ length parts₀ → length values ≡ length values₀ → i < n → n < 4294967296
-        → {r count' place' j : ℕ} {banks' parts' values' : List ℕ} → Joins words place parts values count r parts' values' → j ≡ i → banks' ≡ set banks j r → count' ≡ larger count r → place' ≡ min (cell_end words place) (length words)
-        → Gathers words at n banks₀ parts₀ values₀ (i + 1) count' place' banks' parts' values'
-    gathers_step lb lf ls h big {r} {count'} {place'} {j} {banks'} {parts'} {values'} join e b c p = record {
+        → {r count' size j : ℕ} {cell' : Fields} {banks' parts' values' : List ℕ} → Joins cell.words.now cell.at parts values count r parts' values' → j ≡ i → banks' ≡ set banks j r → count' ≡ larger count r → size ≡ cell_size cell.words.now cell.at → cell' ≡ record cell { at = min (cell.at + size) (length cell.words.now) }
+        → Gathers words at n banks₀ parts₀ values₀ (i + 1) count' cell' banks' parts' values'
+    gathers_step lb lf ls h big {r} {count'} {size} {j} {cell'} {banks'} {parts'} {values'} join e b c is on = record {
       so = λ limits small fit work.
           let s = now.so limits small fit work in
           let few : count ≤ i = s.0.few in
-          let here : cell_at words place ≡ cell_at words (end_at (cell_end words) i at) = ap (cell_at words) s.1 in
-          let fits : FitsCell limits (cell_at words place) = subst (FitsCell limits) (sym here) (fit.fit i h) in
+          let here : cell_at cell.words.now cell.at ≡ cell_at words (end_at (cell_end words) i at) = stands_is cell_at s.1 in
+          let fits : FitsCell limits (cell_at cell.words.now cell.at) = subst (FitsCell limits) (sym here) (fit.fit i h) in
           let done = join limits (leaders_of (cells_at words at i)) i small fits s.0.keyed (omega (arith, few, work.clocks)) (omega (arith, few, work.resets)) (omega (arith, few)) in
           let now' = subst (λ (x : Cell). JoinedBank limits (leaders_of (cells_at words at i)) i x count r parts' values') here done in (
             subst (λ (k : ℕ). Collecting limits words at (i + 1) k banks' parts' values') (sym c)
                 (subst (λ (l : List ℕ). Collecting limits words at (i + 1) (larger count r) l parts' values') (sym (b ∙ ap (λ (k : ℕ). set banks k r) e))
                 (collecting_step limits words at i count banks parts values s.0 r parts' values' now' (omega (arith, work.numbers)))),
-            place_step (cell_end words) fit h s.1 p,
+            stands_step cell_size fit h s.1 is on,
           );
     }
 

@@ -10,6 +10,7 @@ use Rattle.refusal.specs.declared.Refusal.{Refusal}
 use Rattle.refusal.specs.Refusal.{number_of, place_of}
 use Rattle.netlist.specs.declared.Limits.{Limits}
 use Rattle.netlist.specs.Netlist.{Cell, Port}
+use Rattle.netlist.specs.declared.fields.Fields.{Fields}
 use Rattle.netlist.specs.Fields.{records_at, end_at, cell_at, cell_end, cells_at, port_at, port_end, ports_at}
 use Rattle.netlist.specs.Shape.{FitsCell, FitsPort}
 use Rattle.netlist.proofs.RecordLaws.{end_more}
@@ -23,6 +24,7 @@ use Rattle.wires.specs.Wires.{Wires, wires_in}
 use Rattle.address_mux.specs.declared.Works.{Works}
 use Rattle.address_mux.specs.Candidates.{SameWorks}
 use Rattle.lowering.specs.Emit.{emit_cell, emit_cells, emit_outputs}
+use Rattle.converter.proofs.Reserving.{Stands, stands_is}
 use Rattle.converter.specs.Emits.{Emits, emit_output, SameEmitter, Old, OldAfter, cell_writer, CellFits, CellsFit, PortsFit, EmitsCell, EmitsCells, EmitsPort, EmitsPorts}
 
 unfoldable pub each_of : {A : Type 0} → (ℕ → A → Writer (Unit {0})) → ℕ → List A → Writer (Unit {0})
@@ -107,8 +109,8 @@ module _ (e₀ : Emitter) (works₀ : Works) (words : List ℕ) (at n : ℕ) whe
     pub old : (limits : Limits) → Starts limits → Old e
 
   -- where the code is
-  abbrev pub CellIs : ℕ → ℕ → Type 0
-  CellIs i place = (limits : Limits) → CellsFit works₀ words at n limits → place ≡ end_at (cell_end words) i at
+  abbrev pub CellIs : ℕ → Fields → Type 0
+  CellIs i f = (limits : Limits) → CellsFit works₀ words at n limits → Stands words (cell_end words) at i f
 
   pub cells_start : CellsLoop e₀ works₀ 0
   cells_start = record {
@@ -119,12 +121,12 @@ module _ (e₀ : Emitter) (works₀ : Works) (words : List ℕ) (at n : ℕ) whe
   }
 
   module _ {e : Emitter} {works : Works} {i : ℕ} (now : CellsLoop e works i) where
-    module _ {place : ℕ} (is : CellIs i place) (inside : i < n) where
+    module _ {f : Fields} (is : CellIs i f) (inside : i < n) where
       abbrev x : Cell
-      x = cell_at words place
+      x = cell_at f.words.now f.at
 
       fits_one : (limits : Limits) → Starts limits → CellFits works.parts.now works.values.now x limits
-      fits_one limits p = (omega (arith, p.0.0, now.lent.parts_size), omega (arith, p.0.1, now.lent.values_size), subst (λ (k : ℕ). FitsCell limits (cell_at words k)) (sym (is limits p.0)) (p.0.2.fit i inside))
+      fits_one limits p = (omega (arith, p.0.0, now.lent.parts_size), omega (arith, p.0.1, now.lent.values_size), subst (FitsCell limits) (sym (stands_is cell_at (is limits p.0))) (p.0.2.fit i inside))
 
       same_writer : cell_writer e i x ≡ one_cell i x
       same_writer = λ j. emit_cell (now.same.size j) (wires_in (now.same.map j)) (now.same.map j).constants i x
@@ -132,7 +134,7 @@ module _ (e₀ : Emitter) (works₀ : Works) (words : List ℕ) (at n : ℕ) whe
       module _ {r : End (Unit {0})} {e₁ : Emitter} (h : EmitsCell e works i x r e₁) where
         cells_one : (limits : Limits) → Starts limits → Writes e.recorder.now (one_cell i (cell_at words (end_at (cell_end words) i at))) r e₁.recorder.now
         cells_one limits p =
-            subst (λ (k : ℕ). Writes e.recorder.now (one_cell i (cell_at words k)) r e₁.recorder.now) (is limits p.0)
+            subst (λ (y : Cell). Writes e.recorder.now (one_cell i y) r e₁.recorder.now) (stands_is cell_at (is limits p.0))
             (subst (λ (w : Writer (Unit {0})). Writes e.recorder.now w r e₁.recorder.now) same_writer (h.so limits (fits_one limits p) (now.old limits p)))
 
       pub cells_step : {e₁ : Emitter} {works₁ : Works} → EmitsCell e works i x (ok tt) e₁ → SameWorks works works₁ → CellsLoop e₁ works₁ (i + 1)
@@ -170,8 +172,8 @@ module _ (m : Wires) (words : List ℕ) (at n : ℕ) (parts₀ : List ℕ) (r₀
     pub size : length parts ≡ length parts₀
     pub goes : Emitting (emit_output m) (port_at words) (port_end words) n at (PortsFit parts₀ words at n) (emit_outputs m 0 (ports_at words at n)) r₀ r i
 
-  abbrev pub PortIs : ℕ → ℕ → Type 0
-  PortIs i place = (limits : Limits) → PortsFit parts₀ words at n limits → place ≡ end_at (port_end words) i at
+  abbrev pub PortIs : ℕ → Fields → Type 0
+  PortIs i f = (limits : Limits) → PortsFit parts₀ words at n limits → Stands words (port_end words) at i f
 
   pub ports_start : PortsLoop r₀ parts₀ 0
   ports_start = record {
@@ -181,18 +183,21 @@ module _ (m : Wires) (words : List ℕ) (at n : ℕ) (parts₀ : List ℕ) (r₀
   }
 
   module _ {r : Recorder} {parts : List ℕ} {i : ℕ} (now : PortsLoop r parts i) where
-    module _ {place : ℕ} (is : PortIs i place) (inside : i < n) where
-      module _ {e : End (Unit {0})} {r₁ : Recorder} (h : EmitsPort r parts m i (port_at words place) e r₁) where
+    module _ {f : Fields} (is : PortIs i f) (inside : i < n) where
+      abbrev y : Port
+      y = port_at f.words.now f.at
+
+      module _ {e : End (Unit {0})} {r₁ : Recorder} (h : EmitsPort r parts m i y e r₁) where
         ports_one : (limits : Limits) → PortsFit parts₀ words at n limits → Writes r (emit_output m i (port_at words (end_at (port_end words) i at))) e r₁
         ports_one limits p =
-            subst (λ (k : ℕ). Writes r (emit_output m i (port_at words k)) e r₁) (is limits p)
-            (h.so limits (omega (arith, p.0, now.size), subst (λ (k : ℕ). FitsPort limits (port_at words k)) (sym (is limits p)) (p.1.fit i inside)))
+            subst (λ (z : Port). Writes r (emit_output m i z) e r₁) (stands_is port_at (is limits p))
+            (h.so limits (omega (arith, p.0, now.size), subst (FitsPort limits) (sym (stands_is port_at (is limits p))) (p.1.fit i inside)))
 
-      pub ports_step : {r₁ : Recorder} {parts₁ : List ℕ} → length parts₁ ≡ length parts → EmitsPort r parts m i (port_at words place) (ok tt) r₁ → PortsLoop r₁ parts₁ (i + 1)
+      pub ports_step : {r₁ : Recorder} {parts₁ : List ℕ} → length parts₁ ≡ length parts → EmitsPort r parts m i y (ok tt) r₁ → PortsLoop r₁ parts₁ (i + 1)
       ports_step k h = record { same = same_lists now.same h.same; size = k ∙ now.size; goes = emitting_step (emit_output m) (port_at words) (port_end words) n at now.goes inside (ports_one h) }
 
-      pub ports_err : (y : Refusal) {r₁ : Recorder} → EmitsPort r parts m i (port_at words place) (no (number_of y) (place_of y)) r₁ → {C : Type 0} (g : C → Unit {0}) (q : Result C Refusal) → IsErrAnd q (λ z. z ≡ y) → EmitsPorts r₀ parts₀ m words at n (ended g q) r₁
-      ports_err y {r₁} h g q d = subst (λ (e : End (Unit {0})). EmitsPorts r₀ parts₀ m words at n e r₁) (sym (handed g q y d)) (record {
+      pub ports_err : (x : Refusal) {r₁ : Recorder} → EmitsPort r parts m i y (no (number_of x) (place_of x)) r₁ → {C : Type 0} (g : C → Unit {0}) (q : Result C Refusal) → IsErrAnd q (λ z. z ≡ x) → EmitsPorts r₀ parts₀ m words at n (ended g q) r₁
+      ports_err x {r₁} h g q d = subst (λ (e : End (Unit {0})). EmitsPorts r₀ parts₀ m words at n e r₁) (sym (handed g q x d)) (record {
         same = same_lists now.same h.same;
         so = emitting_stop (emit_output m) (port_at words) (port_end words) n at now.goes inside (ports_one h);
       })

@@ -51,8 +51,8 @@ module _ {e : Emitter} {r : End (Unit {0})} {e' : Emitter} where
   pub shares_none : {P : Limits → Type 0} {cell : Writer (Unit {0})} → SameEmitter e e' → e'.seen.now ≡ e.seen.now → ((limits : Limits) → P limits → Writes e.recorder.now cell r e'.recorder.now) → Shares P e cell r e'
   shares_none same table h = record { same = same; so = λ limits p old. h limits p; old = λ limits p old. go r (h limits p).grows old }
     where
-      go : (r : End (Unit {0})) → e.recorder.now.exprs.tape.count ≤ e'.recorder.now.exprs.tape.count → Old e → OldAfter r e'
-      go (ok u) g old = λ w. let k : get_or e.seen.now w 0 ≤ e.recorder.now.exprs.tape.count = old w in omega (arith, ap (λ (l : List ℕ). get_or l w 0) table)
+      go : (r : End (Unit {0})) → e.recorder.now.tapes.exprs.count ≤ e'.recorder.now.tapes.exprs.count → Old e → OldAfter r e'
+      go (ok u) g old = λ w. let k : get_or e.seen.now w 0 ≤ e.recorder.now.tapes.exprs.count = old w in omega (arith, ap (λ (l : List ℕ). get_or l w 0) table)
       go (no x y) g old = tt
 
   -- one that may share
@@ -63,16 +63,16 @@ module _ {e : Emitter} {r : End (Unit {0})} {e' : Emitter} where
     table_is : first.seen.now ≡ e.seen.now
     table_is = ap (λ s. s.now) h.begins.seen
 
-    count_is : first.recorder.now.exprs.tape.count ≡ e.recorder.now.exprs.tape.count
-    count_is = ap (λ k. k.now.exprs.tape.count) h.begins.recorder
+    count_is : first.recorder.now.tapes.exprs.count ≡ e.recorder.now.tapes.exprs.count
+    count_is = ap (λ k. k.now.tapes.exprs.count) h.begins.recorder
 
     nothing_yet : Old e → seen_in first ≡ nothing_seen (length e.seen.now)
-    nothing_yet old = (λ i. seen_of (h.begins.first i) (table_is i)) ∙ seen_nothing e.recorder.now.exprs.tape.count e.seen.now old
+    nothing_yet old = (λ i. seen_of (h.begins.first i) (table_is i)) ∙ seen_nothing e.recorder.now.tapes.exprs.count e.seen.now old
 
     old_after : (r : End (Unit {0})) → Leaves first r e' → Old e → OldAfter r e'
     old_after (ok u) leaves old = λ v. go v (leaves v)
       where
-        go : (v : ℕ) → (get_or e'.seen.now v 0 ≡ get_or first.seen.now v 0) ⊎ ((first.first < get_or e'.seen.now v 0) × (get_or e'.seen.now v 0 ≤ e'.recorder.now.exprs.tape.count)) → get_or e'.seen.now v 0 ≤ e'.recorder.now.exprs.tape.count
+        go : (v : ℕ) → (get_or e'.seen.now v 0 ≡ get_or first.seen.now v 0) ⊎ ((first.first < get_or e'.seen.now v 0) × (get_or e'.seen.now v 0 ≤ e'.recorder.now.tapes.exprs.count)) → get_or e'.seen.now v 0 ≤ e'.recorder.now.tapes.exprs.count
         go v (inl p) = omega (arith, p, old v, ap (λ (l : List ℕ). get_or l v 0) table_is, count_is, h.does.wrote.grows)
         go v (inr p) = p.1
     old_after (no x y) leaves old = tt

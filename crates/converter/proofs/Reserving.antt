@@ -10,7 +10,8 @@ use Rattle.std.specs.Prelude.{Result, Ok, Err, IsErrAnd}
 use Rattle.netlist.specs.declared.Limits.{Limits}
 use Rattle.netlist.specs.Netlist.{Cell, Port}
 use Rattle.netlist.specs.declared.Bit.{Bit}
-use Rattle.netlist.specs.Fields.{records_at, end_at}
+use Rattle.netlist.specs.declared.fields.Fields.{Fields}
+use Rattle.netlist.specs.Fields.{records_at, end_at, word_at, port_size}
 use Rattle.netlist.proofs.RecordLaws.{end_more}
 use Rattle.refusal.specs.declared.Refusal.{Refusal}
 use Rattle.refusal.specs.Refusal.{number_of, place_of}
@@ -181,17 +182,37 @@ module _ {A : Type 0} {f : Wires → ℕ → A → Writer Wires} {value : ℕ �
     pub loop_end : n ≤ i → Reserves P r₀ whole (Ok tt) r
     loop_end h = reserving_end loop.now (λ limits p. left_done f value next n at (map_in r) i h)
 
--- where the code's index is
-pub place_start : (next : ℕ → ℕ) (at : ℕ) → at ≡ end_at next 0 at
-unfolding end_at
-place_start next at = refl
+-- the code has the fields of record i
+pub record Stands (words : List ℕ) (next : ℕ → ℕ) (at i : ℕ) (f : Fields) : Type 0 where
+  pub words_are : f.words.now ≡ words
+  pub place : f.at ≡ end_at next i at
 
-pub place_step : {A : Type 0} {value : ℕ → A} (next : ℕ → ℕ) {fits : A → Type 0} {end n at i : ℕ} {place q : ℕ} → Fitting value next fits end n at → i < n → place ≡ end_at next i at → q ≡ min (next place) end → q ≡ end_at next (i + 1) at
-place_step next {end = end} {at = at} {i = i} {place = place} fit h e c =
-    let b : next (end_at next i at) ≤ end = fit.inside i h in
-    let d : next place ≡ next (end_at next i at) = ap next e in
-    let g : end_at next (i + 1) at ≡ next (end_at next i at) = ap (λ (k : ℕ). end_at next k at) (add-one i) ∙ end_more next i at in
-    omega arith
+pub stands_start : (next : ℕ → ℕ) {f : Fields} → Stands f.words.now next f.at 0 f
+unfolding end_at
+stands_start next = record { words_are = refl; place = refl }
+
+-- what a definition says of that record
+pub stands_is : {A : Type 0} (value : List ℕ → ℕ → A) {words : List ℕ} {next : ℕ → ℕ} {at i : ℕ} {f : Fields} → Stands words next at i f → value f.words.now f.at ≡ value words (end_at next i at)
+stands_is value h = ap₂ value h.words_are h.place
+
+-- the size is of the words that the code has
+pub stands_step : {A : Type 0} {value : ℕ → A} {words : List ℕ} {fits : A → Type 0} {n at i size : ℕ} {f g : Fields} (sized : List ℕ → ℕ → ℕ)
+    → Fitting value (λ k. k + sized words k) fits (length words) n at → i < n → Stands words (λ k. k + sized words k) at i f → size ≡ sized f.words.now f.at → g ≡ record f { at = min (f.at + size) (length f.words.now) }
+    → Stands words (λ k. k + sized words k) at (i + 1) g
+stands_step {words = words} {at = at} {i = i} {size = size} {f = f} {g = g} sized fit h e is d =
+    let next : ℕ → ℕ = λ k. k + sized words k in
+    let kept : g.words.now ≡ words = ap (λ (x : Fields). x.words.now) d ∙ e.words_are in
+    let cut : g.at ≡ min (f.at + size) (length f.words.now) = ap (λ (x : Fields). x.at) d in
+    let long : length f.words.now ≡ length words = ap length e.words_are in
+    let behind : f.at + size ≡ next (end_at next i at) = ap (λ (k : ℕ). f.at + k) is ∙ ap₂ (λ (l : List ℕ) (k : ℕ). k + sized l k) e.words_are e.place in
+    let b : next (end_at next i at) ≤ length words = fit.inside i h in
+    let q : end_at next (i + 1) at ≡ next (end_at next i at) = ap (λ (k : ℕ). end_at next k at) (add-one i) ∙ end_more next i at in
+    record { words_are = kept; place = omega (arith, cut, long, behind, b, q) }
+
+-- a port's size, as the code counts it
+pub port_sized : (f : Fields) {width : ℕ} → width ≡ word_at f.words.now (f.at + 1) → 2 + width ≡ port_size f.words.now f.at
+unfolding port_size
+port_sized f e = ap (λ (k : ℕ). 2 + k) e
 
 -- the definitions are such loops
 abbrev pub held_one : ℕ → ℕ → Wires → ℕ → Bit → Writer Wires

@@ -22,7 +22,7 @@ use Rattle.converter.specs.declared.Content.{Content}
 use Rattle.converter.specs.declared.Content.TheVariants as C
 use Rattle.converter.specs.Tables.{map_in, Small, Reserves, held_bit, held_bits, reserve_bits}
 use Rattle.converter.specs.Reserves.{Fitting}
-use Rattle.converter.proofs.Reserving.{Under, Loop, loop_start, held_one, bits_each, scalars_each, absent_each, cells_each, ports_each}
+use Rattle.converter.proofs.Reserving.{Under, Stands, Loop, loop_start, held_one, bits_each, scalars_each, absent_each, cells_each, ports_each}
 
 -- a field of a row
 module _ {A : Type 0} (value : ℕ → A) (n at i : ℕ) {x : A} (is : x ≡ value (at + i)) where
@@ -80,11 +80,11 @@ module _ (words : List ℕ) (at n : ℕ) (r₀ : Reserver) where
   PortsLoop r i = Loop reserve_port (port_at words) (port_end words) n at PortsIn r₀ (reserve_ports (map_in r₀) 0 (ports_at words at n)) r i
 
   -- where the code is
-  abbrev pub CellIs : ℕ → ℕ → Type 0
-  CellIs i place = (limits : Limits) → CellsIn limits → place ≡ end_at (cell_end words) i at
+  abbrev pub CellIs : ℕ → Fields → Type 0
+  CellIs i f = (limits : Limits) → CellsIn limits → Stands words (cell_end words) at i f
 
-  abbrev pub PortIs : ℕ → ℕ → Type 0
-  PortIs i place = (limits : Limits) → PortsIn limits → place ≡ end_at (port_end words) i at
+  abbrev pub PortIs : ℕ → Fields → Type 0
+  PortIs i f = (limits : Limits) → PortsIn limits → Stands words (port_end words) at i f
 
   pub cells_start : CellsLoop r₀ 0
   cells_start = loop_start (cells_each (cells_at words at n) (map_in r₀) 0)

@@ -36,7 +36,7 @@ pub record SameEmitter (e e' : Emitter) : Type 0 where
 
 -- every word of the table of what cells have read is of an earlier expression: the next cell has read nothing
 abbrev pub Old : Emitter → Type 0
-Old e = (w : ℕ) → get_or e.seen.now w 0 ≤ e.recorder.now.exprs.tape.count
+Old e = (w : ℕ) → get_or e.seen.now w 0 ≤ e.recorder.now.tapes.exprs.count
 
 abbrev pub OldAfter : End (Unit {0}) → Emitter → Type 0
 OldAfter (ok u) e = Old e

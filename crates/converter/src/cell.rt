@@ -79,14 +79,10 @@ pub fn emit_cells(
     ensures wrote { EmitsCells emitter.old works.old cells.entry.words.now cells.entry.at n (stated result) emitter.new }
     ensures works { SameWorks works.old works.new }
 {
-    let mut at = cells.at;
+    let mut cell = cells;
     for owner in 0..n {
-        let cell = Fields {
-            words: cells.words,
-            at,
-        };
         emit_cell(emitter, works, owner, cell)?;
-        at = cell.cell_end();
+        cell = cell.from(cell.cell_size());
     }
     Ok(())
 }

@@ -92,16 +92,12 @@ pub fn collect_flip_flop_banks(
     ensures { Collects cells.entry.words.now cells.entry.at n numbers.old parts.old values.old result numbers.new }
 {
     let mut count = 0;
-    let mut at = cells.at;
+    let mut cell = cells;
     for i in 0..n {
-        let cell = Fields {
-            words: cells.words,
-            at,
-        };
         let bank = join_bank(cell, parts, values, count);
         store(numbers, i as usize, bank);
         count = larger(count, bank);
-        at = cell.cell_end();
+        cell = cell.from(cell.cell_size());
     }
     count
 }

@@ -40,14 +40,10 @@ pub fn emit_outputs(
 ) -> Result<(), Refusal>
     ensures { EmitsPorts recorder.old parts.old (wires_in map.entry) ports.entry.words.now ports.entry.at n (stated result) recorder.new }
 {
-    let mut at = ports.at;
+    let mut port = ports;
     for p in 0..n {
-        let port = Fields {
-            words: ports.words,
-            at,
-        };
         emit_output(recorder, parts, map, p, port)?;
-        at = port.port_end();
+        port = port.from(2 + port.word(1) as usize);
     }
     Ok(())
 }

@@ -27,14 +27,10 @@ impl Reserver<'_, '_> {
     pub fn reserve_ports(&mut self, ports: Fields, n: u32) -> Result<(), Refusal>
         ensures { Reserves (λ limits. Fitting (port_at ports.entry.words.now) (port_end ports.entry.words.now) (FitsPort limits) (length ports.entry.words.now) n ports.entry.at) self.old (reserve_ports (map_in self.old) 0 (ports_at ports.entry.words.now ports.entry.at n)) result self.new }
     {
-        let mut at = ports.at;
+        let mut port = ports;
         for p in 0..n {
-            let port = Fields {
-                words: ports.words,
-                at,
-            };
             self.reserve_port(p, port)?;
-            at = port.port_end();
+            port = port.from(2 + port.word(1) as usize);
         }
         Ok(())
     }

@@ -9,7 +9,7 @@ use crate::steps::{emit_netlist, reserve_netlist};
 use address_mux::Works;
 use netlist::Layout;
 use netlist::fields::Fields;
-use recorder::{Recorder, Tapes};
+use recorder::{Recorder, Tape, Tapes};
 use refusal::Refusal;
 
 // The wire map first, and what is emitted through it.
@@ -24,13 +24,13 @@ fn record_parts(
     shared: u32,
 ) -> Result<Tapes, Refusal>
     ensures wrote { RecordsParts recorder.old wires.old places.old works.old ports.entry n banks.entry shared result recorder.new }
-    ensures signals { recorder.new.signals.words.ghost_name ≡ recorder.old.signals.words.ghost_name }
-    ensures exprs { recorder.new.exprs.words.ghost_name ≡ recorder.old.exprs.words.ghost_name }
-    ensures stmts { recorder.new.stmts.words.ghost_name ≡ recorder.old.stmts.words.ghost_name }
+    ensures signals { recorder.new.signals.ghost_name ≡ recorder.old.signals.ghost_name }
+    ensures exprs { recorder.new.exprs.ghost_name ≡ recorder.old.exprs.ghost_name }
+    ensures stmts { recorder.new.stmts.ghost_name ≡ recorder.old.stmts.ghost_name }
 {
     reserve_netlist(recorder, wires, places, ports, n, banks)?;
     emit_netlist(recorder, works, wires, places, ports, n, banks, shared)?;
-    Ok(recorder.tapes())
+    Ok(recorder.tapes)
 }
 
 // A checked netlist, whose parts stand as the layout says.
@@ -61,7 +61,19 @@ pub fn record_netlist(
         numbers: banks,
         count,
     };
-    let mut recorder = Recorder::new(signals, exprs, stmts);
+    // Not by `Recorder::new`: a caller learns nothing of two lists that went into one value by one call.
+    let tape = Tape { used: 0, count: 0 };
+    let tapes = Tapes {
+        signals: tape,
+        exprs: tape,
+        stmts: tape,
+    };
+    let mut recorder = Recorder {
+        signals,
+        exprs,
+        stmts,
+        tapes,
+    };
     let mut works = Works { parts, values };
     record_parts(
         &mut recorder,

@@ -62,14 +62,10 @@ impl Reserver<'_, '_> {
     pub fn reserve_cells(&mut self, cells: Fields, n: u32) -> Result<(), Refusal>
         ensures { Reserves (λ limits. Fitting (cell_at cells.entry.words.now) (cell_end cells.entry.words.now) (FitsCell limits) (length cells.entry.words.now) n cells.entry.at) self.old (reserve_cells (map_in self.old) 0 (cells_at cells.entry.words.now cells.entry.at n)) result self.new }
     {
-        let mut at = cells.at;
+        let mut cell = cells;
         for owner in 0..n {
-            let cell = Fields {
-                words: cells.words,
-                at,
-            };
             self.reserve_cell_output(owner, cell)?;
-            at = cell.cell_end();
+            cell = cell.from(cell.cell_size());
         }
         Ok(())
     }

@@ -150,10 +150,10 @@ module _ (a : PortExprs) (b : Option Port) (owner width aw index : ℕ) where
       go None h = small_word _ _ _ _ _ l t h
       go (Some b) h = small_word _ _ _ _ _ l t h
 
-  pub word_made : {r r' : Recorder} {w : Word} → Writes r (ram_word a (second_in b) owner width aw index) (ok w) r' → Made r.signals.tape.count r.exprs.tape.count (last_of b) w (tapes_in r')
+  pub word_made : {r r' : Recorder} {w : Word} → Writes r (ram_word a (second_in b) owner width aw index) (ok w) r' → Made r.tapes.signals.count r.tapes.exprs.count (last_of b) w (tapes_in r')
   word_made {r} {r'} {w} h =
       let v = writes_value h in
-      let e : ok w ≡ ok (word_at r.signals.tape.count r.exprs.tape.count (last_of b)) = sym v.0 ∙ word_end (count_of (tapes_in r)) in
+      let e : ok w ≡ ok (word_at r.tapes.signals.count r.tapes.exprs.count (last_of b)) = sym v.0 ∙ word_end (count_of (tapes_in r)) in
       let c = v.1 ∙ word_count (count_of (tapes_in r)) in
       record {
         word = cc;
@@ -179,10 +179,10 @@ module _ (p : PortExprs) (owner clock edge i : ℕ) where
   unfolding dram_word ram_word write_word ◌>>=◌
   dram_small l t h = small_word _ _ _ _ _ l t h
 
-  pub dram_made : {r r' : Recorder} {w : Word} → Writes r (dram_word p owner clock edge i) (ok w) r' → Made r.signals.tape.count r.exprs.tape.count 4 w (tapes_in r')
+  pub dram_made : {r r' : Recorder} {w : Word} → Writes r (dram_word p owner clock edge i) (ok w) r' → Made r.tapes.signals.count r.tapes.exprs.count 4 w (tapes_in r')
   dram_made {r} {r'} {w} h =
       let v = writes_value h in
-      let e : ok w ≡ ok (word_at r.signals.tape.count r.exprs.tape.count 4) = sym v.0 ∙ dram_end (count_of (tapes_in r)) in
+      let e : ok w ≡ ok (word_at r.tapes.signals.count r.tapes.exprs.count 4) = sym v.0 ∙ dram_end (count_of (tapes_in r)) in
       let c = v.1 ∙ dram_count (count_of (tapes_in r)) in
       record {
         word = cc;
@@ -244,9 +244,9 @@ module _ (w : Words) where
 
 -- i of the words are made
 pub record Making (last : ℕ) (whole : Writer (List Word)) (left : ℕ → List Word → Writer (List Word)) (r₀ r : Recorder) (i : ℕ) : Type 0 where
-  pub does : Underway r₀ whole r (left i (words_from r₀.signals.tape.count r₀.exprs.tape.count last i))
-  pub signals : r.signals.tape.count ≡ r₀.signals.tape.count + i
-  pub exprs : r.exprs.tape.count ≡ read_at r₀.exprs.tape.count last i
+  pub does : Underway r₀ whole r (left i (words_from r₀.tapes.signals.count r₀.tapes.exprs.count last i))
+  pub signals : r.tapes.signals.count ≡ r₀.tapes.signals.count + i
+  pub exprs : r.tapes.exprs.count ≡ read_at r₀.tapes.exprs.count last i
   pub small : 1 ≤ i → Small (tapes_in r)
 
 module _ {last : ℕ} {whole : Writer (List Word)} {left : ℕ → List Word → Writer (List Word)} {r₀ : Recorder} where
@@ -255,24 +255,24 @@ module _ {last : ℕ} {whole : Writer (List Word)} {left : ℕ → List Word →
   making_start q = record {
     does = underway_start q;
     signals = omega arith;
-    exprs = sym (read_first r₀.exprs.tape.count last);
+    exprs = sym (read_first r₀.tapes.exprs.count last);
     small = λ h. absurd (omega arith);
   }
 
   module _ {r : Recorder} {i : ℕ} (doing : Making last whole left r₀ r i) where
     abbrev done : List Word
-    done = words_from r₀.signals.tape.count r₀.exprs.tape.count last i
+    done = words_from r₀.tapes.signals.count r₀.tapes.exprs.count last i
 
     module _ {one : Writer Word} (more : left i done ≡ (one >>= λ w. left (i + 1) (done ++ (w ∷ [])))) where
-      pub making_step : {w : Word} {r₁ : Recorder} → Writes r one (ok w) r₁ → Made r.signals.tape.count r.exprs.tape.count last w (tapes_in r₁) → Making last whole left r₀ r₁ (i + 1)
+      pub making_step : {w : Word} {r₁ : Recorder} → Writes r one (ok w) r₁ → Made r.tapes.signals.count r.tapes.exprs.count last w (tapes_in r₁) → Making last whole left r₀ r₁ (i + 1)
       making_step {w} {r₁} h made =
-          let ws : done ++ (w ∷ []) ≡ words_from r₀.signals.tape.count r₀.exprs.tape.count last (i + 1) =
+          let ws : done ++ (w ∷ []) ≡ words_from r₀.tapes.signals.count r₀.tapes.exprs.count last (i + 1) =
           ap (λ (x : Word). done ++ (x ∷ [])) (made.word ∙ ap₂ (λ (x y : ℕ). word_at x y last) doing.signals doing.exprs)
-          ∙ sym (words_more r₀.signals.tape.count r₀.exprs.tape.count last i) in
+          ∙ sym (words_more r₀.tapes.signals.count r₀.tapes.exprs.count last i) in
           record {
             does = subst (λ (l : List Word). Underway r₀ whole r₁ (left (i + 1) l)) ws (underway_step _ doing.does more h refl);
             signals = let p = made.signals in let q = doing.signals in omega arith;
-            exprs = made.exprs ∙ ap (λ (k : ℕ). k + (last + 1)) doing.exprs ∙ sym (read_next r₀.exprs.tape.count last i);
+            exprs = made.exprs ∙ ap (λ (k : ℕ). k + (last + 1)) doing.exprs ∙ sym (read_next r₀.tapes.exprs.count last i);
             small = λ g. made.small;
           }
 
@@ -284,7 +284,7 @@ module _ {last : ℕ} {whole : Writer (List Word)} {left : ℕ → List Word →
       pub making_end : left i done ≡ pure done → Writes r₀ whole (ok (words_from t.signals.count t.exprs.count last n)) r
       making_end e =
           underway_end doing.does
-          (e ∙ ap (λ (k : ℕ). pure (words_from r₀.signals.tape.count r₀.exprs.tape.count last k)) z ∙ ap (λ (u : Tapes). pure (words_from u.signals.count u.exprs.count last n)) (sym q))
+          (e ∙ ap (λ (k : ℕ). pure (words_from r₀.tapes.signals.count r₀.tapes.exprs.count last k)) z ∙ ap (λ (u : Tapes). pure (words_from u.signals.count u.exprs.count last n)) (sym q))
           writes_pure
 
 -- of a block RAM

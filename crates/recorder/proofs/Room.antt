@@ -6,6 +6,7 @@ use Prim.Native.Nat.{ℕ, suc, ◌+◌, ◌≤◌, ◌<◌, min}
 use native.Mathlib.Nat.{add-zero, add-suc, suc-add}
 use native.Mathlib.Numerals.{add-one}
 use native.Mathlib.Omega.{arith}
+use denote.MutBor.{MutBor}
 use lib.Dec.{leb}
 use lib.ListN.{length, take, drop, set, length-append}
 use lib.Seq.{sets, sets-eq, drop-drop}
@@ -13,7 +14,6 @@ use borrow.Rule.Slice.PartMut.{put_mid}
 use borrow.Author.Tests.{le-leb, lt-leb}
 use Rattle.recorder.specs.declared.Tape.{Tape}
 use Rattle.recorder.specs.declared.Tapes.{Tapes}
-use Rattle.recorder.specs.declared.RecordList.{RecordList}
 use Rattle.recorder.specs.declared.Recorder.{Recorder}
 use Rattle.recorder.specs.declared.AsyncReset.{AsyncReset}
 use Rattle.recorder.specs.declared.Enable.{Enable}
@@ -48,29 +48,28 @@ over_record l i fields more {l₁} p q =
 
 -- ROOM
 
-module _ {l : RecordList} {ws : List ℕ} where
-  no_room : fits (length l.words.now) l.tape (length ws) ≡ false → Puts l ws None l
-  no_room q = record { kept = refl; said = sym (rw q); held = sym (rw q); tape = sym (rw q) }
+module _ {l : List ℕ} {t : Tape} {ws : List ℕ} where
+  no_room : fits (length l) t (length ws) ≡ false → Puts l t ws None l
+  no_room q = record { said = sym (rw q); held = sym (rw q) }
 
   -- more records than words: none of ours
-  pub puts_odd : l.tape.used < l.tape.count → Puts l ws None l
+  pub puts_odd : t.used < t.count → Puts l t ws None l
   unfolding fits
-  puts_odd h = no_room (rw (lt-leb l.tape.count l.tape.used h))
+  puts_odd h = no_room (rw (lt-leb t.count t.used h))
 
-  pub puts_full : min (length l.words.now) 2147483648 < l.tape.used + length ws → Puts l ws None l
+  pub puts_full : min (length l) 2147483648 < t.used + length ws → Puts l t ws None l
   unfolding fits
-  puts_full h = no_room (go (leb l.tape.count l.tape.used))
+  puts_full h = no_room (go (leb t.count t.used))
     where
-      go : (b : Bool) → (b && leb (l.tape.used + length ws) (min (length l.words.now) 2147483648)) ≡ false
-      go true = lt-leb (l.tape.used + length ws) (min (length l.words.now) 2147483648) h
+      go : (b : Bool) → (b && leb (t.used + length ws) (min (length l) 2147483648)) ≡ false
+      go true = lt-leb (t.used + length ws) (min (length l) 2147483648) h
       go false = refl
 
-  pub puts_at : {l' : RecordList} → l.tape.count ≤ l.tape.used → l.tape.used + length ws ≤ min (length l.words.now) 2147483648
-      → l'.words.ghost_name ≡ l.words.ghost_name → l'.words.now ≡ over l.words.now l.tape.used ws → l'.tape ≡ behind l.tape (length ws) → Puts l ws (Some l.tape.count) l'
+  pub puts_at : {l' : List ℕ} {t' : Tape} → t.count ≤ t.used → t.used + length ws ≤ min (length l) 2147483648 → l' ≡ over l t.used ws → t' ≡ behind t (length ws) → Puts l t ws (Some t') l'
   unfolding fits
-  puts_at h g k p t =
-      let q : (leb l.tape.count l.tape.used && leb (l.tape.used + length ws) (min (length l.words.now) 2147483648)) ≡ true = rw (le-leb l.tape.count l.tape.used h, le-leb (l.tape.used + length ws) (min (length l.words.now) 2147483648) g) in
-      record { kept = k; said = sym (rw q); held = p ∙ sym (rw q); tape = t ∙ sym (rw q) }
+  puts_at h g p e =
+      let q : (leb t.count t.used && leb (t.used + length ws) (min (length l) 2147483648)) ≡ true = rw (le-leb t.count t.used h, le-leb (t.used + length ws) (min (length l) 2147483648) g) in
+      record { said = ap Some e ∙ sym (rw q); held = p ∙ sym (rw q) }
 
 -- ONE RECORD, whichever list it goes to
 
@@ -84,9 +83,9 @@ module _ {A : Type 0} (r r' : Recorder) (e : Event) (number : Count → A) (same
   one_grows (expr x) = omega arith
   one_grows (stmt x) = omega arith
 
-  grown : (b : Bool) → tapes_in r' ≡ pick b (advanced (tapes_in r) e) (tapes_in r) → r.exprs.tape.count ≤ r'.exprs.tape.count
-  grown true t = let k : r'.exprs.tape.count ≡ (advanced (tapes_in r) e).exprs.count = ap (λ (u : Tapes). u.exprs.count) t in omega (arith, k, one_grows e)
-  grown false t = let k : r'.exprs.tape.count ≡ r.exprs.tape.count = ap (λ (u : Tapes). u.exprs.count) t in omega (arith, k)
+  grown : (b : Bool) → tapes_in r' ≡ pick b (advanced (tapes_in r) e) (tapes_in r) → r.tapes.exprs.count ≤ r'.tapes.exprs.count
+  grown true t = let k : r'.tapes.exprs.count ≡ (advanced (tapes_in r) e).exprs.count = ap (λ (u : Tapes). u.exprs.count) t in omega (arith, k, one_grows e)
+  grown false t = let k : r'.tapes.exprs.count ≡ r.tapes.exprs.count = ap (λ (u : Tapes). u.exprs.count) t in omega (arith, k)
 
   writes_one : (b : Bool) → room ≡ b → lists_in r' ≡ pick b (laid (lists_in r) (tapes_in r) e) (lists_in r) → tapes_in r' ≡ pick b (advanced (tapes_in r) e) (tapes_in r)
       → Writes r (λ n. record { events = e ∷ []; end = ok (number n) }) (pick b (ok (number (count_of (tapes_in r)))) (no 2 (list_of e))) r'
@@ -95,60 +94,73 @@ module _ {A : Type 0} (r r' : Recorder) (e : Event) (number : Count → A) (same
   writes_one false q h t = record { same = same; wrote = record { wrote = rw (q, h) }; stands = t ∙ sym (rw q); grows = grown false t }
 
 -- the number of a record that was put, or that list i is full
-abbrev pub full_or : ℕ → Option ℕ → End ℕ
-full_or i (Some n) = ok n
-full_or i None = no 2 i
+abbrev pub full_or : ℕ → ℕ → Option Tape → End ℕ
+full_or i n (Some t) = ok n
+full_or i n None = no 2 i
 
-abbrev pub full_stmt : Option ℕ → End (Unit {0})
-full_stmt (Some n) = ok tt
+abbrev pub full_stmt : Option Tape → End (Unit {0})
+full_stmt (Some t) = ok tt
 full_stmt None = no 2 2
 
-full_pick : (i n : ℕ) (b : Bool) → full_or i (pick b (Some n) None) ≡ pick b (ok n) (no 2 i)
-full_pick i n true = refl
-full_pick i n false = refl
+-- the tape that a list then has
+abbrev pub tape_of : Tape → Option Tape → Tape
+tape_of t (Some t') = t'
+tape_of t None = t
+
+full_pick : (i n : ℕ) (t : Tape) (b : Bool) → full_or i n (pick b (Some t) None) ≡ pick b (ok n) (no 2 i)
+full_pick i n t true = refl
+full_pick i n t false = refl
+
+tape_pick : (t t' : Tape) (b : Bool) → tape_of t (pick b (Some t') None) ≡ pick b t' t
+tape_pick t t' true = refl
+tape_pick t t' false = refl
 
 -- a choice of one field is a choice of the whole
 chosen : {A B : Type 0} (f : A → B) (b : Bool) (x y : A) → f (pick b x y) ≡ pick b (f x) (f y)
 chosen f true x y = refl
 chosen f false x y = refl
 
-module _ {r : Recorder} {ws : List ℕ} {o : Option ℕ} {l' : RecordList} where
-  pub pushed_signal : Puts r.signals ws o l' → PushedSignal ws r (full_or 0 o) (record { signals = l'; exprs = r.exprs; stmts = r.stmts })
-  pushed_signal h x e =
-      let p = subst (λ (w : List ℕ). Puts r.signals w o l') (sym e) h in
-      let r' : Recorder = record { signals = l'; exprs = r.exprs; stmts = r.stmts } in
-      let b = fits (length r.signals.words.now) r.signals.tape (length (signal_words x)) in
-      subst (λ (y : End ℕ). Writes r (declare x) y r') (sym (ap (full_or 0) p.said ∙ full_pick 0 _ b))
-      (writes_one r r' (signal x) (λ n. n.signals) (record { signals = p.kept; exprs = refl; stmts = refl }) b refl
-      (ap (λ (w : List ℕ). lists w r.exprs.words.now r.stmts.words.now) p.held ∙ chosen (λ (w : List ℕ). lists w r.exprs.words.now r.stmts.words.now) b _ _)
-      (ap (λ (u : Tape). tapes u r.exprs.tape r.stmts.tape) p.tape ∙ chosen (λ (u : Tape). tapes u r.exprs.tape r.stmts.tape) b _ _))
+-- a list's name at exit, as a parameter gives it
+module _ {r : Recorder} {ws : List ℕ} {o : Option Tape} {l' : MutBor (List ℕ)} where
+  pub pushed_signal : Puts r.signals.now r.tapes.signals ws o l'.now → l'.ghost_name ≡ r.signals.ghost_name
+      → PushedSignal ws r (full_or 0 r.tapes.signals.count o) (record { signals = l'; exprs = r.exprs; stmts = r.stmts; tapes = tapes (tape_of r.tapes.signals o) r.tapes.exprs r.tapes.stmts })
+  pushed_signal h g x e =
+      let p = subst (λ (w : List ℕ). Puts r.signals.now r.tapes.signals w o l'.now) (sym e) h in
+      let r' : Recorder = record { signals = l'; exprs = r.exprs; stmts = r.stmts; tapes = tapes (tape_of r.tapes.signals o) r.tapes.exprs r.tapes.stmts } in
+      let b = fits (length r.signals.now) r.tapes.signals (length (signal_words x)) in
+      subst (λ (y : End ℕ). Writes r (declare x) y r') (sym (ap (full_or 0 r.tapes.signals.count) p.said ∙ full_pick 0 _ _ b))
+      (writes_one r r' (signal x) (λ n. n.signals) (record { signals = g; exprs = refl; stmts = refl }) b refl
+      (ap (λ (w : List ℕ). lists w r.exprs.now r.stmts.now) p.held ∙ chosen (λ (w : List ℕ). lists w r.exprs.now r.stmts.now) b _ _)
+      (ap (λ (u : Tape). tapes u r.tapes.exprs r.tapes.stmts) (ap (tape_of r.tapes.signals) p.said ∙ tape_pick _ _ b) ∙ chosen (λ (u : Tape). tapes u r.tapes.exprs r.tapes.stmts) b _ _))
 
-  pub pushed_expr : Puts r.exprs ws o l' → PushedExpr ws r (full_or 1 o) (record { signals = r.signals; exprs = l'; stmts = r.stmts })
-  pushed_expr h x e =
-      let p = subst (λ (w : List ℕ). Puts r.exprs w o l') (sym e) h in
-      let r' : Recorder = record { signals = r.signals; exprs = l'; stmts = r.stmts } in
-      let b = fits (length r.exprs.words.now) r.exprs.tape (length (expr_words x)) in
-      subst (λ (y : End ℕ). Writes r (emit x) y r') (sym (ap (full_or 1) p.said ∙ full_pick 1 _ b))
-      (writes_one r r' (expr x) (λ n. n.exprs) (record { signals = refl; exprs = p.kept; stmts = refl }) b refl
-      (ap (λ (w : List ℕ). lists r.signals.words.now w r.stmts.words.now) p.held ∙ chosen (λ (w : List ℕ). lists r.signals.words.now w r.stmts.words.now) b _ _)
-      (ap (λ (u : Tape). tapes r.signals.tape u r.stmts.tape) p.tape ∙ chosen (λ (u : Tape). tapes r.signals.tape u r.stmts.tape) b _ _))
+  pub pushed_expr : Puts r.exprs.now r.tapes.exprs ws o l'.now → l'.ghost_name ≡ r.exprs.ghost_name
+      → PushedExpr ws r (full_or 1 r.tapes.exprs.count o) (record { signals = r.signals; exprs = l'; stmts = r.stmts; tapes = tapes r.tapes.signals (tape_of r.tapes.exprs o) r.tapes.stmts })
+  pushed_expr h g x e =
+      let p = subst (λ (w : List ℕ). Puts r.exprs.now r.tapes.exprs w o l'.now) (sym e) h in
+      let r' : Recorder = record { signals = r.signals; exprs = l'; stmts = r.stmts; tapes = tapes r.tapes.signals (tape_of r.tapes.exprs o) r.tapes.stmts } in
+      let b = fits (length r.exprs.now) r.tapes.exprs (length (expr_words x)) in
+      subst (λ (y : End ℕ). Writes r (emit x) y r') (sym (ap (full_or 1 r.tapes.exprs.count) p.said ∙ full_pick 1 _ _ b))
+      (writes_one r r' (expr x) (λ n. n.exprs) (record { signals = refl; exprs = g; stmts = refl }) b refl
+      (ap (λ (w : List ℕ). lists r.signals.now w r.stmts.now) p.held ∙ chosen (λ (w : List ℕ). lists r.signals.now w r.stmts.now) b _ _)
+      (ap (λ (u : Tape). tapes r.tapes.signals u r.tapes.stmts) (ap (tape_of r.tapes.exprs) p.said ∙ tape_pick _ _ b) ∙ chosen (λ (u : Tape). tapes r.tapes.signals u r.tapes.stmts) b _ _))
 
-  pub pushed_stmt : Puts r.stmts ws o l' → PushedStmt ws r (full_stmt o) (record { signals = r.signals; exprs = r.exprs; stmts = l' })
-  pushed_stmt h x e =
-      let p = subst (λ (w : List ℕ). Puts r.stmts w o l') (sym e) h in
-      let r' : Recorder = record { signals = r.signals; exprs = r.exprs; stmts = l' } in
-      let b = fits (length r.stmts.words.now) r.stmts.tape (length (stmt_words x)) in
+  pub pushed_stmt : Puts r.stmts.now r.tapes.stmts ws o l'.now → l'.ghost_name ≡ r.stmts.ghost_name
+      → PushedStmt ws r (full_stmt o) (record { signals = r.signals; exprs = r.exprs; stmts = l'; tapes = tapes r.tapes.signals r.tapes.exprs (tape_of r.tapes.stmts o) })
+  pushed_stmt h g x e =
+      let p = subst (λ (w : List ℕ). Puts r.stmts.now r.tapes.stmts w o l'.now) (sym e) h in
+      let r' : Recorder = record { signals = r.signals; exprs = r.exprs; stmts = l'; tapes = tapes r.tapes.signals r.tapes.exprs (tape_of r.tapes.stmts o) } in
+      let b = fits (length r.stmts.now) r.tapes.stmts (length (stmt_words x)) in
       subst (λ (y : End (Unit {0})). Writes r (state x) y r') (sym (ap full_stmt p.said ∙ chosen full_stmt b _ _))
-      (writes_one r r' (stmt x) (λ n. tt) (record { signals = refl; exprs = refl; stmts = p.kept }) b refl
-      (ap (λ (w : List ℕ). lists r.signals.words.now r.exprs.words.now w) p.held ∙ chosen (λ (w : List ℕ). lists r.signals.words.now r.exprs.words.now w) b _ _)
-      (ap (λ (u : Tape). tapes r.signals.tape r.exprs.tape u) p.tape ∙ chosen (λ (u : Tape). tapes r.signals.tape r.exprs.tape u) b _ _))
+      (writes_one r r' (stmt x) (λ n. tt) (record { signals = refl; exprs = refl; stmts = g }) b refl
+      (ap (λ (w : List ℕ). lists r.signals.now r.exprs.now w) p.held ∙ chosen (λ (w : List ℕ). lists r.signals.now r.exprs.now w) b _ _)
+      (ap (λ (u : Tape). tapes r.tapes.signals r.tapes.exprs u) (ap (tape_of r.tapes.stmts) p.said ∙ tape_pick _ _ b) ∙ chosen (λ (u : Tape). tapes r.tapes.signals r.tapes.exprs u) b _ _))
 
 -- no more fields
 pub sized_nil : (ws : List ℕ) → sized (ws ++ []) ≡ sized ws
 sized_nil ws = ap sized (append-nil ws)
 
-pub puts_nil : {l : RecordList} (ws : List ℕ) {o : Option ℕ} {l' : RecordList} → Puts l (sized (ws ++ [])) o l' → Puts l (sized ws) o l'
-puts_nil {l} ws {o} {l'} h = subst (λ (x : List ℕ). Puts l x o l') (sized_nil ws) h
+pub puts_nil : {l : List ℕ} {t : Tape} (ws : List ℕ) {o : Option Tape} {l' : List ℕ} → Puts l t (sized (ws ++ [])) o l' → Puts l t (sized ws) o l'
+puts_nil {l} {t} ws {o} {l'} h = subst (λ (x : List ℕ). Puts l t x o l') (sized_nil ws) h
 
 pub sized_length : (fields more : List ℕ) → length (sized (fields ++ more)) ≡ 1 + length fields + length more
 sized_length fields more = omega (arith, length-append fields more)

@@ -10,20 +10,20 @@ use Rattle.recorder.specs.declared.AsyncReset.{AsyncReset}
 use Rattle.recorder.specs.declared.Enable.{Enable}
 use Rattle.recorder.specs.Record.{Signal, Expr, Stmt, RegReset, RegEnable, signal_words, expr_words, stmt_words}
 use Rattle.recorder.specs.Writer.{End, End.ok, End.no, Writer, declare, emit, state}
-use Rattle.recorder.specs.Lists.{Lists, lists, tapes, count_of, reached, Answer, Answer.Done, Answer.Failed, Wrote}
+use Rattle.recorder.specs.Lists.{Lists, lists, count_of, reached, Answer, Answer.Done, Answer.Failed, Wrote}
 
 -- what a recorder holds
 abbrev pub lists_in : Recorder → Lists
-lists_in r = lists r.signals.words.now r.exprs.words.now r.stmts.words.now
+lists_in r = lists r.signals.now r.exprs.now r.stmts.now
 
 abbrev pub tapes_in : Recorder → Tapes
-tapes_in r = tapes r.signals.tape r.exprs.tape r.stmts.tape
+tapes_in r = r.tapes
 
 -- it still has the lists that it was lent
 pub record SameLists (r r' : Recorder) : Type 0 where
-  pub signals : r'.signals.words.ghost_name ≡ r.signals.words.ghost_name
-  pub exprs : r'.exprs.words.ghost_name ≡ r.exprs.words.ghost_name
-  pub stmts : r'.stmts.words.ghost_name ≡ r.stmts.words.ghost_name
+  pub signals : r'.signals.ghost_name ≡ r.signals.ghost_name
+  pub exprs : r'.exprs.ghost_name ≡ r.exprs.ghost_name
+  pub stmts : r'.stmts.ghost_name ≡ r.stmts.ghost_name
 
 -- a call's answer, with the tapes where it went well
 abbrev pub answered : {A : Type 0} → End A → Tapes → Answer A
@@ -35,7 +35,7 @@ pub record Writes {A : Type 0} (r : Recorder) (w : Writer A) (e : End A) (r' : R
   pub same : SameLists r r'
   pub wrote : Wrote (lists_in r) (tapes_in r) w (answered e (tapes_in r')) (lists_in r')
   pub stands : tapes_in r' ≡ reached (lists_in r) (tapes_in r) (w (count_of (tapes_in r))).events
-  pub grows : r.exprs.tape.count ≤ r'.exprs.tape.count
+  pub grows : r.tapes.exprs.count ≤ r'.tapes.exprs.count
 
 -- of a call that was handed the words of some record
 abbrev pub PushedSignal : List ℕ → Recorder → End ℕ → Recorder → Type 0

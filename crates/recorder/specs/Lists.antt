@@ -5,7 +5,6 @@ use Rattle.std.proofs.lemmas.List.Edits.{sets}
 use Rattle.bits.specs.Bits.{pick}
 use Rattle.recorder.specs.declared.Tape.{Tape}
 use Rattle.recorder.specs.declared.Tapes.{Tapes}
-use Rattle.recorder.specs.declared.RecordList.{RecordList}
 use Rattle.recorder.specs.Record.{signal_words, expr_words, stmt_words}
 use Rattle.recorder.specs.Writer.{Event, Event.signal, Event.expr, Event.stmt, Count, End, End.ok, End.no, Writer}
 
@@ -26,12 +25,10 @@ behind t n = record { used = t.used + n; count = t.count + 1 }
 abbrev pub put_in : List ℕ → Tape → List ℕ → List ℕ
 put_in l t ws = pick (fits (length l) t (length ws)) (over l t.used ws) l
 
--- a record of these words was to go to a list: its number, if it fits, and the list as it is left
-pub record Puts (l : RecordList) (ws : List ℕ) (r : Option ℕ) (l' : RecordList) : Type 0 where
-  pub kept : l'.words.ghost_name ≡ l.words.ghost_name
-  pub said : r ≡ pick (fits (length l.words.now) l.tape (length ws)) (Some l.tape.count) None
-  pub held : l'.words.now ≡ put_in l.words.now l.tape ws
-  pub tape : l'.tape ≡ pick (fits (length l.words.now) l.tape (length ws)) (behind l.tape (length ws)) l.tape
+-- a record of these words was to go to a list: the tape behind it, if it fits, and the list as it is left
+pub record Puts (l : List ℕ) (t : Tape) (ws : List ℕ) (r : Option Tape) (l' : List ℕ) : Type 0 where
+  pub said : r ≡ pick (fits (length l) t (length ws)) (Some (behind t (length ws))) None
+  pub held : l' ≡ put_in l t ws
 
 -- ALL THREE
 

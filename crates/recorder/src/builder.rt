@@ -5,37 +5,30 @@ ghost use Rattle.recorder.specs.Lists.{lists, tapes, unwritten};
 ghost use Rattle.recorder.specs.Writer.{declare, emit, state};
 ghost use Rattle.recorder.specs.Calls.{Writes, PushedSignal, PushedExpr, PushedStmt, emitted, declared, stated, reset_of, enable_of, lists_in, tapes_in};
 
-use crate::{AsyncReset, Enable, ExprId, RecordList, Recorder, SignalId, Tape, Tapes};
+use crate::list::put_record;
+use crate::{AsyncReset, Enable, ExprId, Recorder, SignalId, Tape, Tapes};
 use refusal::Refusal;
 
 impl<'a> Recorder<'a> {
     // Nothing is recorded yet.
     pub fn new(signals: &'a mut [u32], exprs: &'a mut [u32], stmts: &'a mut [u32]) -> Recorder<'a>
-        ensures same_signals { result.signals.words.ghost_name ≡ signals.entry.ghost_name }
-        ensures same_exprs { result.exprs.words.ghost_name ≡ exprs.entry.ghost_name }
-        ensures same_stmts { result.stmts.words.ghost_name ≡ stmts.entry.ghost_name }
+        ensures same_signals { result.signals.ghost_name ≡ signals.entry.ghost_name }
+        ensures same_exprs { result.exprs.ghost_name ≡ exprs.entry.ghost_name }
+        ensures same_stmts { result.stmts.ghost_name ≡ stmts.entry.ghost_name }
         ensures held { lists_in result ≡ lists signals.old exprs.old stmts.old }
         ensures begun { tapes_in result ≡ tapes unwritten unwritten unwritten }
     {
         let tape = Tape { used: 0, count: 0 };
+        let tapes = Tapes {
+            signals: tape,
+            exprs: tape,
+            stmts: tape,
+        };
         Recorder {
-            signals: RecordList {
-                words: signals,
-                tape,
-            },
-            exprs: RecordList { words: exprs, tape },
-            stmts: RecordList { words: stmts, tape },
-        }
-    }
-
-    // How far each list is written.
-    pub fn tapes(&self) -> Tapes
-        ensures { result ≡ tapes_in self.now }
-    {
-        Tapes {
-            signals: self.signals.tape,
-            exprs: self.exprs.tape,
-            stmts: self.stmts.tape,
+            signals,
+            exprs,
+            stmts,
+            tapes,
         }
     }
 
@@ -43,30 +36,35 @@ impl<'a> Recorder<'a> {
     fn push_signal(&mut self, fields: &[u32]) -> Result<SignalId, Refusal>
         ensures { PushedSignal (sized fields.now) self.old (declared result) self.new }
     {
-        match self.signals.put(fields, &[]) {
-            Some(n) => Ok(SignalId(n)),
-            None => Err(Refusal::ListFull(0)),
-        }
+        let tape = self.tapes.signals;
+        let Some(behind) = put_record(self.signals, tape, fields, &[]) else {
+            return Err(Refusal::ListFull(0));
+        };
+        self.tapes.signals = behind;
+        Ok(SignalId(tape.count))
     }
 
     // An expression of these fields, which are some record's.
     fn push_expr(&mut self, fields: &[u32], more: &[u32]) -> Result<ExprId, Refusal>
         ensures { PushedExpr (sized (fields.now ++ more.now)) self.old (emitted result) self.new }
     {
-        match self.exprs.put(fields, more) {
-            Some(n) => Ok(ExprId(n)),
-            None => Err(Refusal::ListFull(1)),
-        }
+        let tape = self.tapes.exprs;
+        let Some(behind) = put_record(self.exprs, tape, fields, more) else {
+            return Err(Refusal::ListFull(1));
+        };
+        self.tapes.exprs = behind;
+        Ok(ExprId(tape.count))
     }
 
     // A statement of these fields, which are some record's.
     fn push_stmt(&mut self, fields: &[u32]) -> Result<(), Refusal>
         ensures { PushedStmt (sized fields.now) self.old (stated result) self.new }
     {
-        match self.stmts.put(fields, &[]) {
-            Some(_) => Ok(()),
-            None => Err(Refusal::ListFull(2)),
-        }
+        let Some(behind) = put_record(self.stmts, self.tapes.stmts, fields, &[]) else {
+            return Err(Refusal::ListFull(2));
+        };
+        self.tapes.stmts = behind;
+        Ok(())
     }
 
     fn push_fixed(&mut self, fields: &[u32]) -> Result<ExprId, Refusal>

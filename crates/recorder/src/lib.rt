@@ -35,19 +35,13 @@ pub struct Tapes {
     pub stmts: Tape,
 }
 
-// A lent list of records, and how far it is written.
-#[derive(Drop)]
-pub struct RecordList<'a> {
-    pub words: &'a mut [u32],
-    pub tape: Tape,
-}
-
-// A model as it is recorded.
+// A model as it is recorded: three lent lists, and how far each is written.
 #[derive(Drop)]
 pub struct Recorder<'a> {
-    pub signals: RecordList<'a>,
-    pub exprs: RecordList<'a>,
-    pub stmts: RecordList<'a>,
+    pub signals: &'a mut [u32],
+    pub exprs: &'a mut [u32],
+    pub stmts: &'a mut [u32],
+    pub tapes: Tapes,
 }
 
 // An asynchronous reset of a register: its active level, and the value that it loads.

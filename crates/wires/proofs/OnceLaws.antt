@@ -81,9 +81,9 @@ aged_then first c d a b e h f g w = go (f w) (g w)
     go x (inr q) = inr q
 
 -- a call that went well, or that read nothing, and then another: what the other leaves
-leaves_then : {B : Type 0} (e e₁ e₂ : Emitter) → SameCell e e₁ → e₁.recorder.now.exprs.tape.count ≤ e₂.recorder.now.exprs.tape.count → Aged e.first e₁.recorder.now.exprs.tape.count e.seen.now e₁.seen.now
+leaves_then : {B : Type 0} (e e₁ e₂ : Emitter) → SameCell e e₁ → e₁.recorder.now.tapes.exprs.count ≤ e₂.recorder.now.tapes.exprs.count → Aged e.first e₁.recorder.now.tapes.exprs.count e.seen.now e₁.seen.now
     → (q : End B) → Leaves e₁ q e₂ → Leaves e q e₂
-leaves_then e e₁ e₂ s g m (ok b) n = aged_then e.first e₁.recorder.now.exprs.tape.count e₂.recorder.now.exprs.tape.count e.seen.now e₁.seen.now e₂.seen.now g m (subst (λ (f : ℕ). Aged f e₂.recorder.now.exprs.tape.count e₁.seen.now e₂.seen.now) s.first n)
+leaves_then e e₁ e₂ s g m (ok b) n = aged_then e.first e₁.recorder.now.tapes.exprs.count e₂.recorder.now.tapes.exprs.count e.seen.now e₁.seen.now e₂.seen.now g m (subst (λ (f : ℕ). Aged f e₂.recorder.now.tapes.exprs.count e₁.seen.now e₂.seen.now) s.first n)
 leaves_then e e₁ e₂ s g m (no x y) n = n ∙ zeroed_alike e.seen.now e₁.seen.now s.size
 
 module _ {A B : Type 0} {e e₁ : Emitter} where
@@ -205,7 +205,7 @@ noted_ages f c w table h v = go table w v
     go (x ∷ xs) (suc i) (suc j) = go xs i j
 
 -- a read that is new
-module _ (m : Wires) (w : ℕ) {e e₁ e₂ : Emitter} {x : ℕ} (begun : e.first ≤ e.recorder.now.exprs.tape.count) (h : Plain e (bit_expression m (Wire w)) (ok x) e₁) (note : Notes w e₁ e₂) where
+module _ (m : Wires) (w : ℕ) {e e₁ e₂ : Emitter} {x : ℕ} (begun : e.first ≤ e.recorder.now.tapes.exprs.count) (h : Plain e (bit_expression m (Wire w)) (ok x) e₁) (note : Notes w e₁ e₂) where
   abbrev rest : ℕ → Writer (Reading ℕ)
   rest y = pure (with_seen y (noted (seen_in e) w y))
 
@@ -216,19 +216,19 @@ module _ (m : Wires) (w : ℕ) {e e₁ e₂ : Emitter} {x : ℕ} (begun : e.firs
   once_noted =
       let v = writes_value h.wrote in
       let n = read_next m w (count_of (tapes_in e.recorder.now)) v.0 in
-      let i : e₁.recorder.now.exprs.tape.count ≡ e.recorder.now.exprs.tape.count + length (exprs_of (bit_expression m (Wire w) (count_of (tapes_in e.recorder.now))).events) = ap (λ (c : Count). c.exprs) v.1 in
-      let j : x ≡ e.recorder.now.exprs.tape.count = n.0 in
+      let i : e₁.recorder.now.tapes.exprs.count ≡ e.recorder.now.tapes.exprs.count + length (exprs_of (bit_expression m (Wire w) (count_of (tapes_in e.recorder.now))).events) = ap (λ (c : Count). c.exprs) v.1 in
+      let j : x ≡ e.recorder.now.tapes.exprs.count = n.0 in
       let k : length (exprs_of (bit_expression m (Wire w) (count_of (tapes_in e.recorder.now))).events) ≡ 1 = n.1 in
-      let c : e₁.recorder.now.exprs.tape.count ≡ suc x = omega arith in
-      let z : e₂.seen.now ≡ set e.seen.now w e₁.recorder.now.exprs.tape.count = note.table ∙ ap (λ (l : List ℕ). set l w e₁.recorder.now.exprs.tape.count) h.table in
+      let c : e₁.recorder.now.tapes.exprs.count ≡ suc x = omega arith in
+      let z : e₂.seen.now ≡ set e.seen.now w e₁.recorder.now.tapes.exprs.count = note.table ∙ ap (λ (l : List ℕ). set l w e₁.recorder.now.tapes.exprs.count) h.table in
       let f : e₂.first ≡ e.first = note.same.first ∙ h.same.first in
-      let s : seen_in e₂ ≡ noted (seen_in e) w x = (λ t. seen_of (f t) (z t)) ∙ seen_noted e.first e.seen.now w x e₁.recorder.now.exprs.tape.count (omega arith) c in
+      let s : seen_in e₂ ≡ noted (seen_in e) w x = (λ t. seen_of (f t) (z t)) ∙ seen_noted e.first e.seen.now w x e₁.recorder.now.tapes.exprs.count (omega arith) c in
       record {
         same = same_cell h.same note.same;
         wrote = subst (λ r. Writes e.recorder.now whole (ok (with_seen x (seen_in e₂))) r) (sym note.recorder)
           (writes_then h.wrote rest refl (writes_as (ap (λ (y : Seen). pure (with_seen x y)) (sym s)) writes_pure));
-        leaves = subst (λ (l : List ℕ). Aged e.first e₂.recorder.now.exprs.tape.count e.seen.now l) (sym z)
-          (subst (λ (y : ℕ). Aged e.first y e.seen.now (set e.seen.now w e₁.recorder.now.exprs.tape.count)) (sym (ap (λ r. r.exprs.tape.count) note.recorder)) (noted_ages e.first e₁.recorder.now.exprs.tape.count w e.seen.now (omega arith)));
+        leaves = subst (λ (l : List ℕ). Aged e.first e₂.recorder.now.tapes.exprs.count e.seen.now l) (sym z)
+          (subst (λ (y : ℕ). Aged e.first y e.seen.now (set e.seen.now w e₁.recorder.now.tapes.exprs.count)) (sym (ap (λ r. r.tapes.exprs.count) note.recorder)) (noted_ages e.first e₁.recorder.now.tapes.exprs.count w e.seen.now (omega arith)));
       }
 
 -- outside of cells: a vector that is read with nothing shared

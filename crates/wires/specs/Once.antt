@@ -43,7 +43,7 @@ swept (ok a) table = table
 swept (no number place) table = zeroed table
 
 abbrev pub Leaves : {A : Type 0} → Emitter → End A → Emitter → Type 0
-Leaves e (ok a) e' = Aged e.first e'.recorder.now.exprs.tape.count e.seen.now e'.seen.now
+Leaves e (ok a) e' = Aged e.first e'.recorder.now.tapes.exprs.count e.seen.now e'.seen.now
 Leaves e (no number place) e' = e'.seen.now ≡ zeroed e.seen.now
 
 -- A call wrote w, and what it read is in the table, where nothing else has changed; after a refusal the table holds zeros.
@@ -62,7 +62,7 @@ pub record Plain {A : Type 0} (e : Emitter) (w : Writer A) (r : End A) (e' : Emi
 pub record Begins (e e' : Emitter) : Type 0 where
   pub recorder : e'.recorder ≡ e.recorder
   pub seen : e'.seen ≡ e.seen
-  pub first : e'.first ≡ e.recorder.now.exprs.tape.count
+  pub first : e'.first ≡ e.recorder.now.tapes.exprs.count
   pub map : e'.map ≡ e.map
 
 -- of a cell, which shares no read with what was recorded before it
@@ -81,4 +81,4 @@ pub record Sweeps (refused : Bool) (e e' : Emitter) : Type 0 where
 pub record Notes (w : ℕ) (e e' : Emitter) : Type 0 where
   pub same : SameCell e e'
   pub recorder : e'.recorder.now ≡ e.recorder.now
-  pub table : e'.seen.now ≡ set e.seen.now w e.recorder.now.exprs.tape.count
+  pub table : e'.seen.now ≡ set e.seen.now w e.recorder.now.tapes.exprs.count

@@ -42,5 +42,5 @@ pub struct Emitter<'a, 'b> {
     pub seen: &'a mut [u32],
     pub first: u32,
     pub map: WireMap<'a>,
-    ghost begun: { first ≤ recorder.now.exprs.tape.count },
+    ghost begun: { first ≤ recorder.now.tapes.exprs.count },
 }

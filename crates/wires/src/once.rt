@@ -27,7 +27,7 @@ impl Emitter<'_, '_> {
     pub fn begin(&mut self)
         ensures { Begins self.old self.new }
     {
-        self.first = self.recorder.exprs.tape.count;
+        self.first = self.recorder.tapes.exprs.count;
     }
 
     // Hands on how a call on the recorder went. If it was refused, the table is cleared.
@@ -47,7 +47,7 @@ impl Emitter<'_, '_> {
     {
         let i = wire as usize;
         if i < self.seen.len() {
-            self.seen[i] = self.recorder.exprs.tape.count;
+            self.seen[i] = self.recorder.tapes.exprs.count;
         }
     }
 
