@@ -8,22 +8,27 @@
 
 use address_mux::{AddressMuxNode, Works, balanced_address_mux};
 use nodes::balanced_address_mux_of_array;
-use recorder::{ExprId, RecordList, Recorder};
+use recorder::{ExprId, Recorder};
 use refusal::Refusal;
 use std::io;
 use std::io::Write;
 use text::{Full, Text};
 
+// The words of the expressions that are recorded.
+fn written<'a>(recorder: &'a Recorder<'_>) -> &'a [u32] {
+    recorder.exprs.get(..recorder.tapes.exprs.used).unwrap_or(&[])
+}
+
 // The answer's words, and its number.
 fn put_line(
     text: &mut Text<'_>,
-    exprs: &RecordList<'_>,
+    exprs: &[u32],
     r: Result<ExprId, Refusal>,
 ) -> Result<(), Full> {
     let Ok(e) = r else {
         return text.put(b"refused\n");
     };
-    for word in exprs.words.iter().take(exprs.tape.used) {
+    for word in exprs {
         text.put_decimal(*word as u64)?;
         text.put_byte(b' ')?;
     }
@@ -62,10 +67,10 @@ fn put_all(text: &mut Text<'_>, exprs: &mut [u32]) -> Result<(), Full> {
     for n in [0, 1, 3, 5, 9] {
         let mut recorder = Recorder::new(&mut [], exprs, &mut []);
         let r = by_nodes(&mut recorder, n);
-        put_line(text, &recorder.exprs, r)?;
+        put_line(text, written(&recorder), r)?;
         let mut recorder = Recorder::new(&mut [], exprs, &mut []);
         let r = by_numbers(&mut recorder, n);
-        put_line(text, &recorder.exprs, r)?;
+        put_line(text, written(&recorder), r)?;
     }
     Ok(())
 }

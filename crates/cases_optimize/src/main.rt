@@ -9,7 +9,7 @@
 use hashes::{hash_word, hash_words};
 use optimize::lut::lut;
 use optimize::optimizer::{mux, xor};
-use recorder::{ExprId, RecordList, Recorder, Tape};
+use recorder::{ExprId, Recorder, Tape};
 use refusal::Refusal;
 use std::io;
 use std::io::Write;
@@ -17,11 +17,11 @@ use text::{Full, Text};
 
 // CALLS
 
-// The records of a list behind these: how many, and their words.
-fn hash_behind(list: &RecordList<'_>, from: Tape, h: u32) -> u32 {
-    let Tape { used, count } = list.tape;
-    let h = hash_word(h, count.wrapping_sub(from.count));
-    hash_words(h, list.words.get(from.used..used).unwrap_or(&[]))
+// The expressions recorded from there on: how many, and their words.
+fn hash_added(recorder: &Recorder<'_>, from: Tape, h: u32) -> u32 {
+    let to = recorder.tapes.exprs;
+    let h = hash_word(h, to.count.wrapping_sub(from.count));
+    hash_words(h, recorder.exprs.get(from.used..to.used).unwrap_or(&[]))
 }
 
 // The constants and four expressions more, and where the list of expressions ends then: each call begins there.
@@ -38,15 +38,15 @@ impl<'a> Calls<'a> {
             let _ = recorder.constant(1, n % 2); // there is room for six
         }
         Calls {
-            from: recorder.exprs.tape,
+            from: recorder.tapes.exprs,
             recorder,
         }
     }
 
     // An answer: how many records it added, their words, its expression. They are given up for the next call.
     fn hash(&mut self, r: Result<ExprId, Refusal>, h: u32) -> u32 {
-        let added = hash_behind(&self.recorder.exprs, self.from, h);
-        self.recorder.exprs.tape = self.from;
+        let added = hash_added(&self.recorder, self.from, h);
+        self.recorder.tapes.exprs = self.from;
         match r {
             Ok(e) => hash_word(added, e.0),
             Err(_) => h,
