@@ -15,7 +15,7 @@ use std::io::Write;
 use text::Text;
 use words::{read_full, words_of};
 
-// Bytes that are no words: the lists are left zeros, as with any refusal.
+// Bytes that are no words: the lists are left zeros, as with any refusal. (Three lists stand one by one, as `lower_words` takes them.)
 fn refuse_bytes(signals: &mut [u32], exprs: &mut [u32], stmts: &mut [u32]) -> Result<Tapes, Refusal>
     ensures { Unread (lists signals.old exprs.old stmts.old) result (lists signals.new exprs.new stmts.new) }
 {

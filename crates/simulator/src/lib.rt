@@ -158,6 +158,7 @@ impl Ticks<'_> {
 // Lowers a netlist and runs a list of ticks on its model: three words a tick in `heads` (how many bits, what fires: 0 nothing, 1 rising,
 // 2 falling; of which signal), the bits of all ticks in `bits`. Answers of two numbers a tick (0 and 0: made) and the output ports' bits
 // after each. The five works of lowering are the run's tables too: the longer they are, the larger a model runs in linear time.
+// The buffers stand one by one, as the C interface hands them over.
 pub fn simulate(
     words: &[u32],
     heads: &[u32],
