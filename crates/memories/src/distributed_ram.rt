@@ -43,7 +43,7 @@ fn dram_words(
 ) -> Result<Words, Refusal>
     ensures { Writes recorder.old (dram_words (port_in port) owner clock.0 edge 16 0 []) (ended words_of result) recorder.new }
 {
-    let start = recorder.tapes();
+    let start = recorder.tapes;
     for index in 0..16 {
         dram_word(recorder, port, owner, clock, edge, index)?;
     }

@@ -104,7 +104,7 @@ pub fn ram_words(
     ensures wrote { Writes recorder.old (ram_words (port_in first) (second_in second) owner width address depth 0 []) (ended words_of result) recorder.new }
     ensures depth { IfOk result (λ w. w.depth ≡ depth) }
 {
-    let start = recorder.tapes();
+    let start = recorder.tapes;
     let last = last_of(second);
     for index in 0..depth {
         ram_word(recorder, first, second, owner, width, address, index)?;

@@ -13,4 +13,4 @@ pub loop-index-preserved : goal.loop-index-preserved
 loop-index-preserved c = making_step c.loop-index.invariant (dram_more (port_in c.args.port) c.args.owner c.args.clock.0 c.args.edge c.loop-index.index _ c.loop-index-test.true) c.in_ok-dram_word.ensures (dram_made (port_in c.args.port) c.args.owner c.args.clock.0 c.args.edge c.loop-index.index c.in_ok-dram_word.ensures)
 
 pub returns : goal.returns
-returns c = making_end c.loop-index.invariant 16 (search rules) c.tapes-start.ensures (dram_none (port_in c.args.port) c.args.owner c.args.clock.0 c.args.edge c.loop-index.index _ (search rules))
+returns c = making_end c.loop-index.invariant 16 (search rules) refl (dram_none (port_in c.args.port) c.args.owner c.args.clock.0 c.args.edge c.loop-index.index _ (search rules))

@@ -1,4 +1,4 @@
-use Rattle.std.proofs.Common.{rules}
+use Rattle.std.proofs.Common.{rules, refl}
 use Rattle.memories.specs.Rams.{port_in}
 use Rattle.memories.proofs.WordLaws.{making_start, making_step, making_err, making_end, ram_all, ram_more, ram_none, word_made, made_as}
 use Rattle.memories.proofs.ram_words.ram_words.Goals as goal
@@ -15,4 +15,4 @@ loop-index-preserved c =
     (made_as c.last_of-last.ensures (word_made (port_in c.args.first) c.args.second c.args.owner c.args.width c.args.address c.loop-index.index c.in_ok-ram_word.ensures))
 
 pub returns-clause-wrote : goal.returns-clause-wrote
-returns-clause-wrote c = making_end c.loop-index.invariant c.args.depth (search rules) c.tapes-start.ensures (ram_none (port_in c.args.first) c.args.second c.args.owner c.args.width c.args.address c.args.depth c.loop-index.index _ (search rules))
+returns-clause-wrote c = making_end c.loop-index.invariant c.args.depth (search rules) refl (ram_none (port_in c.args.first) c.args.second c.args.owner c.args.width c.args.address c.args.depth c.loop-index.index _ (search rules))
