@@ -176,4 +176,3 @@ module _ (cell : Fields) (owner : ℕ) (r : Reserver) where
         reserves_as (λ limits p. pll_is)
         (reserves_then pins_fit _ (first h) (λ limits room p. p.more.1)
         (subst (λ (ws : List ℕ). Reserves (λ limits. Each (FitsWire limits) ws) r₁ (reserve_absent (map_in r₁) 12 owner ws) q r₂) (wires_from cell 6 is₂ n ∙ ap (wires_at words (at + 6)) e) k))
-

@@ -152,7 +152,6 @@ pub gathers_start : (cells : Fields) (n : ℕ) (banks₀ parts₀ values₀ : Li
 gathers_start cells n banks₀ parts₀ values₀ = record { so = λ limits small fit work. (collecting_start limits cells.words.now cells.at banks₀ parts₀ values₀, stands_start (cell_end cells.words.now)) }
 
 module _ (words : List ℕ) (at n : ℕ) (banks₀ parts₀ values₀ : List ℕ) where
-
   module _ {i count : ℕ} {cell : Fields} {banks parts values : List ℕ} (now : Gathers words at n banks₀ parts₀ values₀ i count cell banks parts values) where
     pub gathers_step : length banks ≡ length banks₀ → length parts ≡ length parts₀ → length values ≡ length values₀ → i < n → n < 4294967296
         → {r count' size j : ℕ} {cell' : Fields} {banks' parts' values' : List ℕ} → Joins cell.words.now cell.at parts values count r parts' values' → j ≡ i → banks' ≡ set banks j r → count' ≡ larger count r → size ≡ cell_size cell.words.now cell.at → cell' ≡ record cell { at = min (cell.at + size) (length cell.words.now) }

@@ -148,7 +148,6 @@ itself e = record { recorder = refl; lists = record { signals = refl; exprs = re
 -- ---- the kinds
 
 module _ (e : Emitter) (words : List ℕ) (at : ℕ) {r : End (Unit {0})} {e' : Emitter} where
-
   pub kind_lut4 : {inputs : List Bit} {output f init : ℕ} → inputs ≡ bits_at words (at + 1) 4 → output ≡ word_at words (at + 5) → f ≡ word_at words (at + 6) → init ≡ f % 65536 → CellOnce e (λ x. emit_lut4 (wires_in e.map) x inputs output init) r e' → EmitsKind e (lut4_at words at) r e'
   kind_lut4 {inputs} {output} {f} {init} a b c d h owner = shares (λ x. emit_lut4 (wires_in e.map) x inputs output init) h (λ limits p. lut4_is (length e.seen.now) (wires_in e.map) e.map.constants owner words at a b c d p.2)
 

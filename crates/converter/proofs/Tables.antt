@@ -59,4 +59,3 @@ pub insert_free : (wires places : List ℕ) (w s lsb width : ℕ) → get_or wir
 unfolding insert_wire
 insert_free wires places w s lsb width z h g k =
     ap (λ (o : Option WireRef). insert_at o (wires_of wires places) w (record { signal = s; lsb = lsb; width = width })) (free_there wires places w z) ∙ ap pure (put_entry wires places w s lsb width h g k)
-

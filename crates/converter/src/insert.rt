@@ -69,7 +69,14 @@ impl Reserver<'_, '_> {
     {
         for lsb in 0..n {
             let bit = content.bit(fields, lsb as usize);
-            self.insert_bit(bit, WireRef { signal, lsb, width: n })?;
+            self.insert_bit(
+                bit,
+                WireRef {
+                    signal,
+                    lsb,
+                    width: n,
+                },
+            )?;
         }
         Ok(())
     }

@@ -10,7 +10,8 @@ use netlist::fields::Fields;
 use refusal::Refusal;
 use wires::Emitter;
 
-// Kept out of the loop over all cells. The works come as slices: what is lent of one field may not be kept while the other is lent.
+// Kept out of the loop over all cells. The works come as slices: the borrow checker covers no part of one field that is kept while
+// the other field is lent.
 #[inline(never)]
 pub fn block_ram_cell(
     emitter: &mut Emitter,
@@ -42,11 +43,7 @@ pub fn block_ram_cell(
 
 // One with a second port is refused (10).
 #[inline(never)]
-pub fn distributed_ram_cell(
-    emitter: &mut Emitter,
-    owner: u32,
-    cell: Fields,
-) -> Result<(), Refusal>
+pub fn distributed_ram_cell(emitter: &mut Emitter, owner: u32, cell: Fields) -> Result<(), Refusal>
     ensures { EmitsAlone emitter.old owner (distributed_ram_at cell.entry.words.now cell.entry.at) (stated result) emitter.new }
 {
     if cell.word(21) == 1 {

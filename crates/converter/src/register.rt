@@ -82,7 +82,14 @@ fn emit_bank(
     };
     let target = map.find(leader.fields.word(2))?.signal;
     let next = next_value(recorder, parts, map, members, width)?;
-    let reset = bank_reset(recorder, parts, map, members, width, async_reset(leader.fields))?;
+    let reset = bank_reset(
+        recorder,
+        parts,
+        map,
+        members,
+        width,
+        async_reset(leader.fields),
+    )?;
     clock_bank(recorder, map, leader.fields, target, next, reset)
 }
 

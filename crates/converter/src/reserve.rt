@@ -50,7 +50,13 @@ impl Reserver<'_, '_> {
             Kind::FlipFlop => Ok(()),
             Kind::BlockRam => self.reserve_block_ram(owner, cell),
             Kind::DistributedRam => {
-                self.reserve_vector(Label::DistributedRam, owner, cell.from(15), Content::Wires, 4)
+                self.reserve_vector(
+                    Label::DistributedRam,
+                    owner,
+                    cell.from(15),
+                    Content::Wires,
+                    4,
+                )
             }
             Kind::Io => self.reserve_scalar(Label::Io, owner, cell.word(3)),
             Kind::Jtagg => self.reserve_scalars(Label::Jtagg, owner, cell.from(1), 9),

@@ -25,7 +25,14 @@ impl Reserver<'_, '_> {
         ensures { Reserves (λ limits. FitsWire limits wire) self.old (reserve_scalar (map_in self.old) (label_of label) owner wire) result self.new }
     {
         let signal = self.signal(label, 1, owner)?;
-        self.insert_wire(wire, WireRef { signal, lsb: 0, width: 1 })
+        self.insert_wire(
+            wire,
+            WireRef {
+                signal,
+                lsb: 0,
+                width: 1,
+            },
+        )
     }
 
     // A signal of the bits of n fields.

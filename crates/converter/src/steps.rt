@@ -7,14 +7,12 @@ ghost use Rattle.converter.specs.Emits.{EmitsAll};
 ghost use Rattle.converter.specs.Steps.{ReservesNetlist, EmitsNetlist};
 
 use crate::cell::emit_cells;
-
 use crate::constants::emit_constants;
 use crate::members::Banks;
 use crate::outputs::emit_outputs;
 use crate::register::emit_banks;
 use crate::{Reserver, WORK};
 use address_mux::Works;
-
 use netlist::fields::Fields;
 use recorder::Recorder;
 use refusal::Refusal;

@@ -21,7 +21,7 @@ returns c = λ limits ls c' small fits keyed p q s.
     let clock = clock_is words at flop limits small fits c.word.ensures c.word-2.ensures c.key-a.ensures in
     let reset = c.reset_key-b.ensures.is limits small (fit words at flop limits small fits) in
     elim c.if-bank-count.branch [
-      then-bank-count w ↦
+      | then-bank-count w ↦
           let h = join_new words at flop limits small fits ls c' c.args.parts.now c.args.values.now c.args.count keyed clock reset c.find_key-bank.ensures w.if-bank-count.true p q in
           joined_as (w.parts-is ∙ w.store.ensures) (w.values-is ∙ w.store-then-bank-count.ensures) h
       | else-bank-count w ↦
