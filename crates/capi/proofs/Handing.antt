@@ -2,7 +2,7 @@
 use mathlib.Core.Path.{◌≡◌, refl, sym, ◌∙◌, ap, subst}
 use mathlib.Core.Bool.{Bool, true, false, ◌&&◌}
 use mathlib.Core.List.{List, [], ◌∷◌, ◌++◌, map}
-use Rattle.std.specs.Prelude.{Option, None, Some}
+use Rattle.std.specs.Prelude.{Option, None, Some, Result}
 use Rattle.bits.proofs.Options.{some_ne_none}
 use Prim.Native.Nat.{ℕ, suc}
 use native.Mathlib.Omega.{arith}
@@ -24,7 +24,8 @@ use Rattle.simulation.specs.Run.{answer_of as ran_of}
 use Rattle.simulation.specs.Fault.{call_of}
 use Rattle.simulation.proofs.Kept.{accepted_good}
 use Rattle.runner.specs.Calls.{Runs}
-use Rattle.converter.specs.declared.Lowered as c
+use Rattle.refusal.specs.declared.Refusal.{Refusal}
+use Rattle.recorder.specs.declared.Tapes.{Tapes}
 use Rattle.converter.specs.Entry.{answer_of, any_short, blank_of, Lowers}
 use Rattle.converter.specs.Entry as lowers
 use Rattle.simulator.specs.Entry.{Simulation, simulation, Simulated, Simulates, refused_by}
@@ -44,7 +45,7 @@ read_all words u = ap (λ (n : ℕ). take n words) u ∙ take-length words
 abbrev of_none : Bool → Lists → Lowering
 of_none s l = pick s (record { answer = Refused 1 16384; lists = blank_of l }) (record { answer = Refused 3 0; lists = blank_of l })
 
-lowering_is : (b : Bool) (words : List ℕ) {l l' : Lists} {works works' : List (List ℕ)} {used : ℕ} {r : c.Lowered} {x : Lowered}
+lowering_is : (b : Bool) (words : List ℕ) {l l' : Lists} {works works' : List (List ℕ)} {used : ℕ} {r : Result Tapes Refusal} {x : Lowered}
     → used ≡ pick b 0 (length words) → Lowers base (take used words) l works r l' works' → x ≡ pick b (or_no_room (answer_of r)) (answer_of r)
     → record { answer = x; lists = l' } ≡ pick (pick (any_short (map length works)) false b) (record { answer = Refused 1 8; lists = blank_of l }) (lowers.call_of base words l works)
 lowering_is false words {l} {l'} {works} u h e =
@@ -61,7 +62,7 @@ lowering_is true words {l} {l'} {works} {r = r} u h e =
     go true v = ap (λ (y : Lowering). record { answer = or_no_room y.answer; lists = y.lists }) v
     go false v = ap (λ (y : Lowering). record { answer = or_no_room y.answer; lists = y.lists }) v
 
-pub lowered_by : (words : List ℕ) {l l' : Lists} {works works' : List (List ℕ)} {used : ℕ} {r : c.Lowered} {x : Lowered} (buffer : List ℕ) {code : ℕ} {buffer' : List ℕ}
+pub lowered_by : (words : List ℕ) {l l' : Lists} {works works' : List (List ℕ)} {used : ℕ} {r : Result Tapes Refusal} {x : Lowered} (buffer : List ℕ) {code : ℕ} {buffer' : List ℕ}
     → used ≡ pick (ltb (length buffer) 8) 0 (length words) → Lowers base (take used words) l works r l' works' → x ≡ pick (ltb (length buffer) 8) (or_no_room (answer_of r)) (answer_of r)
     → Hands (numbers_of x) buffer code buffer' → HandsLowered words l works buffer code l' works' buffer'
 lowered_by words buffer {code} {buffer'} u h e k =
@@ -78,7 +79,7 @@ module _ (words heads bits : List ℕ) (l : Lists) (works : List (List ℕ)) (by
   abbrev call : List ℕ → Simulation
   call w = simulation w heads bits l works bytes wb we ws answers shown
 
-  simulating_is : (b : Bool) {used : ℕ} {r : c.Lowered} {x : Lowered} {l' : Lists} {answers' shown' : List ℕ}
+  simulating_is : (b : Bool) {used : ℕ} {r : Result Tapes Refusal} {x : Lowered} {l' : Lists} {answers' shown' : List ℕ}
       → used ≡ pick b 0 (length words) → Simulates base (call (take used words)) r l' answers' shown' → x ≡ pick b (or_no_room (answer_of r)) (answer_of r)
       → record { answer = x; lists = l'; answers = answers'; shown = shown' } ≡ pick (pick (any_short (map length works)) false b) (refused_by (call words) 1 8) (simulator.simulate_call base (call words))
   unfolding simulator.simulate_call
@@ -97,7 +98,7 @@ module _ (words heads bits : List ℕ) (l : Lists) (works : List (List ℕ)) (by
       go true v = ap (λ (y : Simulated). record { answer = or_no_room y.answer; lists = y.lists; answers = y.answers; shown = y.shown }) v
       go false v = ap (λ (y : Simulated). record { answer = or_no_room y.answer; lists = y.lists; answers = y.answers; shown = y.shown }) v
 
-  pub simulated_by : (buffer : List ℕ) (a : c.Lowered) {used : ℕ} {r : c.Lowered} {l' : Lists} {answers' shown' : List ℕ} {code : ℕ} {buffer' : List ℕ}
+  pub simulated_by : (buffer : List ℕ) (a : Result Tapes Refusal) {used : ℕ} {r : Result Tapes Refusal} {l' : Lists} {answers' shown' : List ℕ} {code : ℕ} {buffer' : List ℕ}
       → used ≡ pick (ltb (length buffer) 8) 0 (length words) → Simulates base (call (take used words)) r l' answers' shown'
       → answer_of a ≡ pick (ltb (length buffer) 8) (or_no_room (answer_of r)) (answer_of r) → Hands (numbers_of (answer_of a)) buffer code buffer'
       → HandsSimulated (call words) buffer code l' answers' shown' buffer'

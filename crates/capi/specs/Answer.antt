@@ -1,6 +1,6 @@
 -- Answers as numbers, for other languages.
 use Rattle.std.specs.Prelude.{Bool, false, List, [], ◌∷◌, ◌++◌, map, ◌≡◌, ℕ, ◌≤◌, eqb, ltb, length, get_or, take, drop}
-use Rattle.std.specs.Prelude.{Option, None, Some}
+use Rattle.std.specs.Prelude.{Option, None, Some, Result}
 use Rattle.std.proofs.lemmas.List.Edits.{sets}
 use Rattle.bits.specs.Bits.{pick}
 use Rattle.netlist.specs.Reader.{base}
@@ -9,7 +9,8 @@ use Rattle.recorder.specs.Lists.{Lists}
 use Rattle.lowering.specs.Lower.{Lowered, Accepted, Refused, Lowering}
 use Rattle.simulation.specs.Wellformed.{largest, malformed}
 use Rattle.simulation.specs.Run.{Call, call_model, zeroed, short, causes, first_of, bytes_after}
-use Rattle.converter.specs.declared.Lowered as c
+use Rattle.refusal.specs.declared.Refusal.{Refusal}
+use Rattle.recorder.specs.declared.Tapes.{Tapes}
 use Rattle.converter.specs.Entry.{answer_of, any_short, call_of, blank_of}
 use Rattle.simulator.specs.Entry.{Simulation, Simulated, Simulates, refused_by}
 use Rattle.simulator.specs.Entry as e
@@ -48,7 +49,7 @@ simulate_call x buffer = pick (no_room x.works buffer) (refused_by x 1 8) (e.sim
 
 -- with room: demand 3 too
 pub record HandsSimulated (x : Simulation) (buffer : List ℕ) (code : ℕ) (l' : Lists) (answers' shown' buffer' : List ℕ) : Type 0 where
-  pub answer : c.Lowered
+  pub answer : Result Tapes Refusal
   pub value : record { answer = answer_of answer; lists = l'; answers = answers'; shown = shown' } ≡ simulate_call x buffer
   pub simulates : 8 ≤ length buffer → Simulates base x answer l' answers' shown'
   pub hands : Hands (numbers_of (answer_of answer)) buffer code buffer'

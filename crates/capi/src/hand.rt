@@ -2,13 +2,13 @@
 ghost use Rattle.std.specs.Prelude.{◌≡◌, ltb, set, ◌+◌};
 ghost use Rattle.std.specs.Prelude.{Some};
 ghost use Rattle.bits.specs.Bits.{pick};
+ghost use Rattle.refusal.specs.Refusal.{number_of, place_of};
 ghost use Rattle.simulation.specs.Run.{answer_of as ran_of, fired_of};
 ghost use Rattle.converter.specs.Entry.{answer_of};
 ghost use Rattle.runner.specs.Calls.{fired_by};
 ghost use Rattle.capi.specs.Answer.{refusal_numbers, numbers_of, Hands, or_no_room, or_no_room_ran};
 
-use converter::Lowered;
-use recorder::SignalId;
+use recorder::{SignalId, Tapes};
 use refusal::Refusal;
 use simulation::Edge;
 
@@ -57,72 +57,49 @@ pub fn fired_for(room: usize, fired: Option<Edge>) -> Option<Edge>
 }
 
 // Refused for want of room, unless a work is short.
-fn lowered_short(r: Lowered) -> Lowered
-    ensures { answer_of result ≡ or_no_room (answer_of r) }
-{
-    match r {
-        Lowered::Accepted(_) => Lowered::Refused(Refusal::BufferTooShort(ROOM)),
-        Lowered::Refused(x) => {
-            if x.number() == 1 {
-                return Lowered::Refused(x);
-            }
-            Lowered::Refused(Refusal::BufferTooShort(ROOM))
-        }
-    }
-}
-
-pub fn lowered_for(room: usize, r: Lowered) -> Lowered
+pub fn lowered_for(room: usize, r: Result<Tapes, Refusal>) -> Result<Tapes, Refusal>
     ensures { answer_of result ≡ pick (ltb room 8) (or_no_room (answer_of r)) (answer_of r) }
 {
-    if room < ROOM {
-        return lowered_short(r);
+    match r {
+        _ if room >= ROOM => r,
+        Err(x) if x.number() == 1 => r,
+        _ => Err(Refusal::BufferTooShort(ROOM)),
     }
-    r
 }
 
 // Refused for want of room, unless the model is malformed or another buffer is short.
-fn ran_short(r: Result<(), Refusal>) -> Result<(), Refusal>
-    ensures { ran_of result ≡ or_no_room_ran (ran_of r) }
-{
-    match r {
-        Ok(()) => Err(Refusal::BufferTooShort(ROOM)),
-        Err(x) => {
-            if x.number() < 13 {
-                return Err(x);
-            }
-            Err(Refusal::BufferTooShort(ROOM))
-        }
-    }
-}
-
 pub fn ran_for(room: usize, r: Result<(), Refusal>) -> Result<(), Refusal>
     ensures { ran_of result ≡ pick (ltb room 8) (or_no_room_ran (ran_of r)) (ran_of r) }
 {
-    if room < ROOM {
-        return ran_short(r);
+    match r {
+        _ if room >= ROOM => r,
+        Err(x) if x.number() < 13 => r,
+        _ => Err(Refusal::BufferTooShort(ROOM)),
     }
-    r
 }
 
-pub fn hand_lowered(buffer: &mut [u64], r: Lowered) -> usize
+// Number and place of a refusal.
+fn put_refusal(buffer: &mut [u64], x: Refusal) -> usize
+    ensures code { result ≡ number_of x }
+    ensures handed { buffer.new ≡ set (set buffer.old 0 (number_of x)) 1 (place_of x) }
+{
+    put_two(buffer, 0, x.number() as u64, x.place() as u64);
+    x.number()
+}
+
+pub fn hand_lowered(buffer: &mut [u64], r: Result<Tapes, Refusal>) -> usize
     ensures { Hands (numbers_of (answer_of r)) buffer.old result buffer.new }
 {
     buffer.fill(0);
     match r {
-        Lowered::Accepted(t) => {
-            let s = t.signals;
-            let e = t.exprs;
-            let m = t.stmts;
+        Ok(t) => {
             put_two(buffer, 0, 0, 0);
-            put_two(buffer, 2, s.count as u64, s.used as u64);
-            put_two(buffer, 4, e.count as u64, e.used as u64);
-            put_two(buffer, 6, m.count as u64, m.used as u64);
+            put_two(buffer, 2, t.signals.count as u64, t.signals.used as u64);
+            put_two(buffer, 4, t.exprs.count as u64, t.exprs.used as u64);
+            put_two(buffer, 6, t.stmts.count as u64, t.stmts.used as u64);
             0
         }
-        Lowered::Refused(x) => {
-            put_two(buffer, 0, x.number() as u64, x.place() as u64);
-            x.number()
-        }
+        Err(x) => put_refusal(buffer, x),
     }
 }
 
@@ -135,22 +112,16 @@ pub fn hand_ran(buffer: &mut [u64], r: Result<(), Refusal>) -> usize
             put_two(buffer, 0, 0, 0);
             0
         }
-        Err(x) => {
-            put_two(buffer, 0, x.number() as u64, x.place() as u64);
-            x.number()
-        }
+        Err(x) => put_refusal(buffer, x),
     }
 }
 
 pub fn fired_by(fires: u32, signal: u32) -> Option<Edge>
     ensures { fired_of result ≡ fired_by fires signal }
 {
-    if fires == 0 {
-        None
-    } else {
-        Some(Edge {
-            signal: SignalId(signal),
-            edge: fires - 1,
-        })
-    }
+    let edge = fires.checked_sub(1)?;
+    Some(Edge {
+        signal: SignalId(signal),
+        edge,
+    })
 }

@@ -1,4 +1,5 @@
-// Lowering, one tick and a whole list of ticks for programs in other languages: each slice is a pointer and a count of its elements.
+// Lowering, one tick and a whole list of ticks for programs in other languages: each slice is a pointer and a count of its elements,
+// so the buffers stand one by one: C has no structs of Rattle's slices.
 // Every function answers the refusal's number, or 0, and puts its numbers into `answer`, as many as fit; one shorter than 8 is refused with 1,
 // after lowering's works or a run's buffers. The call that is made then reads no words, or fires an edge that there is not, so that it is refused too.
 

@@ -4,42 +4,16 @@
 
 #![tactic(auto)]
 
-use converter::{Lowered, lower};
 use hashes::{hash_bytes, hash_words};
 use lines::fields::put_fields;
-use lines::records::{Expression, Record, Signal, Statement, put_refused};
-use listing::{put_first_line, put_list, written};
+use lines::records::{Expression, Record, Signal, Statement};
+use listing::{put_first_line, put_list, put_refused_line, written};
+use lower_words::lower_words;
 use recorder::Tapes;
-use refusal::Refusal;
 use std::io;
 use std::io::{Read, Write};
 use text::{Full, Text};
 use words::read_words;
-
-// The model's lists, or the refusal. Works are this program's own.
-fn lower_words(
-    words: &[u32],
-    signals: &mut [u32],
-    exprs: &mut [u32],
-    stmts: &mut [u32],
-) -> Lowered {
-    let mut wires = [0u32; 16384];
-    let mut places = [0u32; 16384];
-    let mut parts = [0u32; 16384];
-    let mut values = [0u32; 16384];
-    let mut banks = [0u32; 16384];
-    lower(
-        words,
-        signals,
-        exprs,
-        stmts,
-        &mut wires,
-        &mut places,
-        &mut parts,
-        &mut values,
-        &mut banks,
-    )
-}
 
 // An accepted netlist's model.
 #[derive(Clone, Copy)]
@@ -117,12 +91,6 @@ fn low(x: usize) -> u32 {
     (x & 0xffffffff) as u32
 }
 
-fn print_refusal<W: Write>(to: &mut W, text: &mut Text<'_>, x: Refusal) -> io::Result<()> {
-    put_refused(text, x.number(), x.place())?;
-    text.put_byte(b'\n')?;
-    text.flush(to)
-}
-
 // REPLAY
 
 // Where netlists come from and lines go, and buffers.
@@ -181,7 +149,7 @@ fn lower_one<W: Write>(
         return Ok(false);
     };
     match lower_words(words, signals, exprs, stmts) {
-        Lowered::Accepted(tapes) => {
+        Ok(tapes) => {
             let model = Model {
                 signals,
                 exprs,
@@ -190,7 +158,10 @@ fn lower_one<W: Write>(
             };
             print_model(to, text, model)?;
         }
-        Lowered::Refused(x) => print_refusal(to, text, x)?,
+        Err(x) => {
+            put_refused_line(text, x.number(), x.place())?;
+            text.flush(to)?;
+        }
     }
     Ok(true)
 }

@@ -6,37 +6,37 @@
 
 #![tactic(auto)]
 
-use address_mux::{AddressMuxNode, balanced_address_mux};
-use nodes::balanced_address_mux_of_64;
-use recorder::{Emitted, ExprId, Tape, Tapes};
+use address_mux::{AddressMuxNode, Works, balanced_address_mux};
+use nodes::balanced_address_mux_of_array;
+use recorder::{ExprId, Recorder};
+use refusal::Refusal;
 use std::io;
 use std::io::Write;
 use text::{Full, Text};
 
-const NONE: Tape = Tape { used: 0, count: 0 };
-
-const EMPTY: Tapes = Tapes {
-    signals: NONE,
-    exprs: NONE,
-    stmts: NONE,
-};
-
-// The answer's words, and its number.
-fn put_line(text: &mut Text<'_>, exprs: &[u32], r: Emitted) -> Result<(), Full> {
-    match r {
-        Emitted::Done(e, t) => {
-            for word in exprs.iter().take(t.exprs.used) {
-                text.put_decimal(*word as u64)?;
-                text.put_byte(b' ')?;
-            }
-            text.put_decimal(e.0 as u64)?;
-            text.put_byte(b'\n')
-        }
-        Emitted::Refused(_) => text.put(b"refused\n"),
-    }
+// The words of the expressions that are recorded.
+fn written<'a>(recorder: &'a Recorder<'_>) -> &'a [u32] {
+    recorder.exprs.get(..recorder.tapes.exprs.used).unwrap_or(&[])
 }
 
-fn by_nodes(exprs: &mut [u32], n: usize) -> Emitted {
+// The answer's words, and its number.
+fn put_line(
+    text: &mut Text<'_>,
+    exprs: &[u32],
+    r: Result<ExprId, Refusal>,
+) -> Result<(), Full> {
+    let Ok(e) = r else {
+        return text.put(b"refused\n");
+    };
+    for word in exprs {
+        text.put_decimal(*word as u64)?;
+        text.put_byte(b' ')?;
+    }
+    text.put_decimal(e.0 as u64)?;
+    text.put_byte(b'\n')
+}
+
+fn by_nodes(recorder: &mut Recorder<'_>, n: usize) -> Result<ExprId, Refusal> {
     let none = AddressMuxNode {
         matched: ExprId(0),
         value: ExprId(0),
@@ -48,32 +48,29 @@ fn by_nodes(exprs: &mut [u32], n: usize) -> Emitted {
             value: ExprId(20 + i as u32),
         };
     }
-    let mut matched = [0u32; 8];
-    let mut value = [0u32; 8];
-    balanced_address_mux_of_64(
-        exprs,
-        nodes,
-        n,
-        &mut matched,
-        &mut value,
-        EMPTY,
-        4,
-        ExprId(99),
-    )
+    let mut works = Works {
+        parts: &mut [0; 8],
+        values: &mut [0; 8],
+    };
+    balanced_address_mux_of_array(recorder, nodes, n, &mut works, 4, ExprId(99))
 }
 
-fn by_numbers(exprs: &mut [u32], n: usize) -> Emitted {
-    let mut matched = [10, 11, 12, 13, 14, 0, 0, 0];
-    let mut value = [20, 21, 22, 23, 24, 0, 0, 0];
-    balanced_address_mux(exprs, &mut matched, &mut value, EMPTY, n, 4, ExprId(99))
+fn by_numbers(recorder: &mut Recorder<'_>, n: usize) -> Result<ExprId, Refusal> {
+    let mut works = Works {
+        parts: &mut [10, 11, 12, 13, 14, 0, 0, 0],
+        values: &mut [20, 21, 22, 23, 24, 0, 0, 0],
+    };
+    balanced_address_mux(recorder, &mut works, n, 4, ExprId(99))
 }
 
 fn put_all(text: &mut Text<'_>, exprs: &mut [u32]) -> Result<(), Full> {
     for n in [0, 1, 3, 5, 9] {
-        let r = by_nodes(exprs, n);
-        put_line(text, exprs, r)?;
-        let r = by_numbers(exprs, n);
-        put_line(text, exprs, r)?;
+        let mut recorder = Recorder::new(&mut [], exprs, &mut []);
+        let r = by_nodes(&mut recorder, n);
+        put_line(text, written(&recorder), r)?;
+        let mut recorder = Recorder::new(&mut [], exprs, &mut []);
+        let r = by_numbers(&mut recorder, n);
+        put_line(text, written(&recorder), r)?;
     }
     Ok(())
 }

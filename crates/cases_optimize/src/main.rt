@@ -9,31 +9,48 @@
 use hashes::{hash_word, hash_words};
 use optimize::lut::lut;
 use optimize::optimizer::{mux, xor};
-use recorder::builder::constant;
-use recorder::{Emitted, ExprId, Tape, Tapes};
+use recorder::{ExprId, Recorder, Tape};
+use refusal::Refusal;
 use std::io;
 use std::io::Write;
 use text::{Full, Text};
 
 // CALLS
 
-// The list of expressions, and how far it is written: the constants and four more, on which each call begins.
-#[derive(Drop)]
-struct Calls<'a> {
-    exprs: &'a mut [u32],
-    tapes: Tapes,
+// The expressions recorded from there on: how many, and their words.
+fn hash_added(recorder: &Recorder<'_>, from: Tape, h: u32) -> u32 {
+    let to = recorder.tapes.exprs;
+    let h = hash_word(h, to.count.wrapping_sub(from.count));
+    hash_words(h, recorder.exprs.get(from.used..to.used).unwrap_or(&[]))
 }
 
-impl Calls<'_> {
-    // An answer: how many records it added, their words, its expression.
-    fn hash(&self, r: Emitted, h: u32) -> u32 {
-        let Emitted::Done(e, t) = r else {
-            return h;
-        };
-        let from = self.tapes.exprs;
-        let h = hash_word(h, t.exprs.count.wrapping_sub(from.count));
-        let words = self.exprs.get(from.used..t.exprs.used).unwrap_or(&[]);
-        hash_word(hash_words(h, words), e.0)
+// The constants and four expressions more, and where the list of expressions ends then: each call begins there.
+#[derive(Drop)]
+struct Calls<'a> {
+    recorder: Recorder<'a>,
+    from: Tape,
+}
+
+impl<'a> Calls<'a> {
+    fn new(exprs: &'a mut [u32]) -> Calls<'a> {
+        let mut recorder = Recorder::new(&mut [], exprs, &mut []);
+        for n in 0..6 {
+            let _ = recorder.constant(1, n % 2); // there is room for six
+        }
+        Calls {
+            from: recorder.tapes.exprs,
+            recorder,
+        }
+    }
+
+    // An answer: how many records it added, their words, its expression. They are given up for the next call.
+    fn hash(&mut self, r: Result<ExprId, Refusal>, h: u32) -> u32 {
+        let added = hash_added(&self.recorder, self.from, h);
+        self.recorder.tapes.exprs = self.from;
+        match r {
+            Ok(e) => hash_word(added, e.0),
+            Err(_) => h,
+        }
     }
 
     // So many tables, each a step behind the one before.
@@ -41,7 +58,7 @@ impl Calls<'_> {
         let mut h = 0;
         let mut table = first;
         for _ in 0..count {
-            let r = lut(self.exprs, self.tapes, inputs, table);
+            let r = lut(&mut self.recorder, inputs, table);
             h = self.hash(r, h);
             table = table.wrapping_add(step);
         }
@@ -52,8 +69,7 @@ impl Calls<'_> {
         let mut h = 0;
         for arms in 0..36 {
             let r = mux(
-                self.exprs,
-                self.tapes,
+                &mut self.recorder,
                 ExprId(select),
                 ExprId(arms / 6),
                 ExprId(arms % 6),
@@ -66,18 +82,10 @@ impl Calls<'_> {
     fn xors(&mut self, lhs: u32) -> u32 {
         let mut h = 0;
         for rhs in 0..6 {
-            let r = xor(self.exprs, self.tapes, ExprId(lhs), ExprId(rhs));
+            let r = xor(&mut self.recorder, ExprId(lhs), ExprId(rhs));
             h = self.hash(r, h);
         }
         h
-    }
-
-    fn start(&mut self) {
-        for n in 0..6 {
-            if let Emitted::Done(_, next) = constant(self.exprs, self.tapes, 1, n % 2) {
-                self.tapes = next;
-            }
-        }
     }
 }
 
@@ -130,17 +138,8 @@ fn put_muxes_and_xors(text: &mut Text<'_>, calls: &mut Calls<'_>) -> Result<(), 
 fn print<W: Write>(to: &mut W) -> io::Result<()> {
     let mut exprs = [0u32; 256];
     let mut out = [0u8; 32768];
-    let none = Tape { used: 0, count: 0 };
-    let mut calls = Calls {
-        exprs: &mut exprs,
-        tapes: Tapes {
-            signals: none,
-            exprs: none,
-            stmts: none,
-        },
-    };
+    let mut calls = Calls::new(&mut exprs);
     let mut text = Text::new(&mut out);
-    calls.start();
     put_tables(&mut text, &mut calls)?;
     put_inputs(&mut text, &mut calls)?;
     put_muxes_and_xors(&mut text, &mut calls)?;

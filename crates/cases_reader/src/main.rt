@@ -4,15 +4,14 @@
 #![tactic(auto)]
 
 use netlist::Limits;
-use reader::Checked;
 use std::io::Read;
 use words::read_words;
 
 // Number and place of the check's refusal.
 fn checked(words: &[u32]) -> (usize, usize) {
     match reader::check(Limits::BASE, words) {
-        Checked::Netlist(_) => (0, 0),
-        Checked::Refused(x) => (x.number(), x.place()),
+        Ok(_) => (0, 0),
+        Err(x) => (x.number(), x.place()),
     }
 }
 

@@ -5,10 +5,10 @@
 ghost use Rattle.std.specs.Prelude.{◌≡◌, take, [], ◌∷◌, ◌++◌};
 ghost use Rattle.text.specs.Text.{Appended};
 ghost use Rattle.lines.specs.Ascii.{newline};
-ghost use Rattle.lines.specs.Lines.{record_text, counts_text};
+ghost use Rattle.lines.specs.Lines.{record_text, counts_text, refused_text};
 ghost use Rattle.listing.specs.Listing.{line_text, lines_of};
 
-use lines::records::{Record, put_counts, put_record};
+use lines::records::{Record, put_counts, put_record, put_refused};
 use recorder::Tape;
 use recorder::records::Records;
 use text::{Full, Text};
@@ -25,6 +25,14 @@ pub fn put_first_line(text: &mut Text<'_>, signals: u32, exprs: u32, stmts: u32)
     ensures { Appended text.old (counts_text signals exprs stmts ++ (newline ∷ [])) result text.new }
 {
     put_counts(text, signals, exprs, stmts)?;
+    text.put_byte(b'\n')
+}
+
+// A refusal, with the line's end.
+pub fn put_refused_line(text: &mut Text<'_>, number: usize, place: usize) -> Result<(), Full>
+    ensures { Appended text.old (refused_text number place ++ (newline ∷ [])) result text.new }
+{
+    put_refused(text, number, place)?;
     text.put_byte(b'\n')
 }
 

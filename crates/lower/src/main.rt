@@ -3,11 +3,11 @@
 #![tactic(auto)]
 
 ghost use Rattle.recorder.specs.Lists.{lists};
-ghost use Rattle.lower.specs.Entry.{LowersWords, Unread, LowersBytes};
+ghost use Rattle.lower.specs.Entry.{Unread, LowersBytes};
 
-use converter::{Lowered, lower};
-use lines::records::{Expression, Signal, Statement, put_refused};
-use listing::{put_first_line, put_list, written};
+use lines::records::{Expression, Signal, Statement};
+use listing::{put_first_line, put_list, put_refused_line, written};
+use lower_words::lower_words;
 use recorder::Tapes;
 use refusal::Refusal;
 use std::io;
@@ -15,40 +15,18 @@ use std::io::Write;
 use text::Text;
 use words::{read_full, words_of};
 
-// The model's lists, or the refusal. Works are this program's own.
-fn lower_words(words: &[u32], signals: &mut [u32], exprs: &mut [u32], stmts: &mut [u32]) -> Lowered
-    ensures { LowersWords words.now (lists signals.old exprs.old stmts.old) result (lists signals.new exprs.new stmts.new) }
-{
-    let mut wires = [0u32; 16384];
-    let mut places = [0u32; 16384];
-    let mut parts = [0u32; 16384];
-    let mut values = [0u32; 16384];
-    let mut banks = [0u32; 16384];
-    lower(
-        words,
-        signals,
-        exprs,
-        stmts,
-        &mut wires,
-        &mut places,
-        &mut parts,
-        &mut values,
-        &mut banks,
-    )
-}
-
-// Bytes that are no words: the lists are left zeros, as with any refusal.
-fn refuse_bytes(signals: &mut [u32], exprs: &mut [u32], stmts: &mut [u32]) -> Lowered
+// Bytes that are no words: the lists are left zeros, as with any refusal. (Three lists stand one by one, as `lower_words` takes them.)
+fn refuse_bytes(signals: &mut [u32], exprs: &mut [u32], stmts: &mut [u32]) -> Result<Tapes, Refusal>
     ensures { Unread (lists signals.old exprs.old stmts.old) result (lists signals.new exprs.new stmts.new) }
 {
     signals.fill(0);
     exprs.fill(0);
     stmts.fill(0);
-    Lowered::Refused(Refusal::BadTrailer)
+    Err(Refusal::BadTrailer)
 }
 
 // A netlist has 65,536 bytes at most, in whole words.
-fn lower_bytes(bytes: &[u8], signals: &mut [u32], exprs: &mut [u32], stmts: &mut [u32]) -> Lowered
+fn lower_bytes(bytes: &[u8], signals: &mut [u32], exprs: &mut [u32], stmts: &mut [u32]) -> Result<Tapes, Refusal>
     ensures { LowersBytes bytes.now (lists signals.old exprs.old stmts.old) result (lists signals.new exprs.new stmts.new) }
 {
     if 65536 < bytes.len() || bytes.len() % 4 != 0 {
@@ -59,33 +37,26 @@ fn lower_bytes(bytes: &[u8], signals: &mut [u32], exprs: &mut [u32], stmts: &mut
     lower_words(&words[..n], signals, exprs, stmts)
 }
 
-// An accepted netlist's model.
-#[derive(Clone, Copy)]
-struct Model<'a> {
-    signals: &'a [u32],
-    exprs: &'a [u32],
-    stmts: &'a [u32],
-    tapes: Tapes,
-}
-
-fn print_model<W: Write>(to: &mut W, text: &mut Text<'_>, m: Model<'_>) -> io::Result<()> {
-    let Tapes {
-        signals,
-        exprs,
-        stmts,
-    } = m.tapes;
-    put_first_line(text, signals.count, exprs.count, stmts.count)?;
-    put_list::<Signal>(text, written(m.signals, signals))?;
-    text.flush(to)?;
-    put_list::<Expression>(text, written(m.exprs, exprs))?;
-    text.flush(to)?;
-    put_list::<Statement>(text, written(m.stmts, stmts))?;
-    text.flush(to)
-}
-
-fn print_refusal<W: Write>(to: &mut W, text: &mut Text<'_>, x: Refusal) -> io::Result<()> {
-    put_refused(text, x.number(), x.place())?;
-    text.put_byte(b'\n')?;
+// The model, or the refusal.
+fn print<W: Write>(
+    to: &mut W,
+    text: &mut Text<'_>,
+    bytes: &[u8],
+    signals: &mut [u32],
+    exprs: &mut [u32],
+    stmts: &mut [u32],
+) -> io::Result<()> {
+    match lower_bytes(bytes, signals, exprs, stmts) {
+        Ok(t) => {
+            put_first_line(text, t.signals.count, t.exprs.count, t.stmts.count)?;
+            put_list::<Signal>(text, written(signals, t.signals))?;
+            text.flush(to)?;
+            put_list::<Expression>(text, written(exprs, t.exprs))?;
+            text.flush(to)?;
+            put_list::<Statement>(text, written(stmts, t.stmts))?;
+        }
+        Err(x) => put_refused_line(text, x.number(), x.place())?,
+    }
     text.flush(to)
 }
 
@@ -97,19 +68,14 @@ fn main(rt: HostRuntime) {
     let mut stmts = [0u32; 16384];
     let mut out = [0u8; 262144];
     let mut text = Text::new(&mut out);
-    let mut to = rt.stdout();
     let n = read_full(&mut rt.stdin(), &mut bytes);
     // Output that cannot be written is not reported.
-    let _ = match lower_bytes(&bytes[..n], &mut signals, &mut exprs, &mut stmts) {
-        Lowered::Accepted(tapes) => {
-            let model = Model {
-                signals: &signals,
-                exprs: &exprs,
-                stmts: &stmts,
-                tapes,
-            };
-            print_model(&mut to, &mut text, model)
-        }
-        Lowered::Refused(x) => print_refusal(&mut to, &mut text, x),
-    };
+    let _ = print(
+        &mut rt.stdout(),
+        &mut text,
+        &bytes[..n],
+        &mut signals,
+        &mut exprs,
+        &mut stmts,
+    );
 }

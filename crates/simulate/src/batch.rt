@@ -5,7 +5,7 @@ use std::io;
 use std::io::{Read, Write};
 use words::read_words;
 
-// Why a case is not run.
+// Why a case is not run. (No `Option` of what is left: both are refusals.)
 #[derive(Clone, Copy)]
 enum Fault {
     TooLong { left: usize }, // or too short; so many of its words are left

@@ -1,10 +1,10 @@
 // Prints what a list of ticks shows: a line for each tick, written in pieces through a lent buffer.
 pub mod vcd; // vcd.rt: the same as a VCD file
 
-use converter::Lowered;
-use lines::records::put_refused;
-use listing::written;
+use listing::{put_refused_line, written};
+use recorder::Tapes;
 use recorder::records::Records;
+use refusal::Refusal;
 use std::io;
 use std::io::Write;
 use text::Text;
@@ -94,8 +94,8 @@ impl<W: Write> Printer<'_, W> {
     // A refusal as a line of its own.
     fn refusal(&mut self, number: usize, place: usize) -> io::Result<()> {
         self.reserve(64)?;
-        put_refused(&mut self.text, number, place)?;
-        self.byte(b'\n')
+        put_refused_line(&mut self.text, number, place)?;
+        Ok(())
     }
 
     // The output ports after one tick, as a line; what they show begins at `from`, and ends where the answer says.
@@ -133,12 +133,12 @@ impl<W: Write> Printer<'_, W> {
     // What is shown, as lines or as a VCD file, or one line for the refusal.
     pub fn print_answer(
         &mut self,
-        answer: Lowered,
+        answer: Result<Tapes, Refusal>,
         outcome: Outcome<'_>,
         vcd: bool,
     ) -> io::Result<()> {
         match answer {
-            Lowered::Accepted(tapes) => {
+            Ok(tapes) => {
                 let outcome = Outcome {
                     signals: written(outcome.signals, tapes.signals),
                     ..outcome
@@ -149,7 +149,7 @@ impl<W: Write> Printer<'_, W> {
                     self.print_ticks(outcome)
                 }
             }
-            Lowered::Refused(x) => self.print_refusal(x.number(), x.place()),
+            Err(x) => self.print_refusal(x.number(), x.place()),
         }
     }
 

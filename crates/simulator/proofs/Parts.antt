@@ -2,7 +2,7 @@
 use mathlib.Core.Path.{◌≡◌, refl, sym, ◌∙◌, ap, subst}
 use mathlib.Core.Bool.{Bool, true, false}
 use mathlib.Core.List.{List, map}
-use Rattle.std.specs.Prelude.{Option, None, Some}
+use Rattle.std.specs.Prelude.{Option, None, Some, Result}
 use Prim.Native.Nat.{ℕ}
 use native.Mathlib.Omega.{arith}
 use lib.ListN.{length}
@@ -16,11 +16,12 @@ use Rattle.lowering.specs.Lower.{start, Lowered, Accepted, Refused, Lowering, ov
 use Rattle.simulation.specs.Wellformed.{largest}
 use Rattle.simulation.specs.Run.{zeroed}
 use Rattle.forms.specs.Lowered.{lowered_model}
-use Rattle.converter.specs.declared.Lowered as c
+use Rattle.refusal.specs.declared.Refusal.{Refusal}
 use Rattle.converter.specs.Entry.{answer_of, any_short, call_of, blank_of, Lowers}
 use Rattle.runner.specs.Calls.{ListCall, list_answer, list_outcome, run_list}
 use Rattle.runner.specs.Whole.{list_call}
-use Rattle.simulator.specs.Entry.{Simulation, simulation, Simulated, ticks_on, simulate_call, ShowsCells, Simulates, ends, follows, RunsLowered}
+use Rattle.simulator.specs.Entry.{Simulation, simulation, Simulated, ticks_on, simulate_call, ShowsCells, Simulates}
+use Rattle.simulator.specs.Parts.{ends, follows, RunsLowered}
 use Rattle.simulator.specs.Entry.{lowered as lowered_to}
 use Rattle.simulator.specs.Entry.{ran as ran_to}
 use Rattle.simulator.proofs.Cells.{IsAccepted, cells_shown}
@@ -73,7 +74,7 @@ module _ (words heads bits : List ℕ) (l : Lists) (works : List (List ℕ)) (by
   abbrev call : Simulation
   call = simulation words heads bits l works bytes wb we ws answers shown
 
-  simulates_value : {a r : c.Lowered} {l₁ l' : Lists} {works₁ : List (List ℕ)} {bytes₁ answers' shown' : List ℕ}
+  simulates_value : {a r : Result Tapes Refusal} {l₁ l' : Lists} {works₁ : List (List ℕ)} {bytes₁ answers' shown' : List ℕ}
       → Lowers base words l works a l₁ works₁ → bytes₁ ≡ zeroed bytes → blank_of l₁ ≡ blank_of l → RunsLowered (list_call l₁ heads bits bytes₁ wb we ws answers shown) a r l' answers' shown'
       → record { answer = answer_of r; lists = l'; answers = answers'; shown = shown' } ≡ simulate_call base (simulation words heads bits l works bytes wb we ws answers shown)
   unfolding simulate_call
@@ -83,7 +84,7 @@ module _ (words heads bits : List ℕ) (l : Lists) (works : List (List ℕ)) (by
       ∙ all_follow call l₁ n (answer_of a) (λ number place e. ap (λ (y : Lowering). y.lists) h.value ∙ call_blank words l works number place (sym (ap (λ (y : Lowering). y.answer) h.value) ∙ e))
       ∙ ap (λ (y : Lowering). lowered_to call y.lists y.answer) h.value
 
-  simulates_so : {r : c.Lowered} {l' : Lists} {answers' shown' : List ℕ}
+  simulates_so : {r : Result Tapes Refusal} {l' : Lists} {answers' shown' : List ℕ}
       → record { answer = answer_of r; lists = l'; answers = answers'; shown = shown' } ≡ simulate_call base (simulation words heads bits l works bytes wb we ws answers shown)
       → Simulates base (simulation words heads bits l works bytes wb we ws answers shown) r l' answers' shown'
   simulates_so v = record {
@@ -92,7 +93,7 @@ module _ (words heads bits : List ℕ) (l : Lists) (works : List (List ℕ)) (by
     only_short = λ n q t d e number place h. refused_short call n q t d e number place (sym (ap (λ (y : Simulated). y.answer) v) ∙ h);
   }
 
-  pub simulates : {a r : c.Lowered} {signals₁ exprs₁ stmts₁ : List ℕ} {l' : Lists} {works₁ : List (List ℕ)} {bytes₁ answers' shown' : List ℕ}
+  pub simulates : {a r : Result Tapes Refusal} {signals₁ exprs₁ stmts₁ : List ℕ} {l' : Lists} {works₁ : List (List ℕ)} {bytes₁ answers' shown' : List ℕ}
       → Lowers base words l works a (lists signals₁ exprs₁ stmts₁) works₁ → length signals₁ ≡ length l.signals → length exprs₁ ≡ length l.exprs → length stmts₁ ≡ length l.stmts → bytes₁ ≡ zeroed bytes
       → RunsLowered (list_call (lists signals₁ exprs₁ stmts₁) heads bits bytes₁ wb we ws answers shown) a r l' answers' shown'
       → Simulates base (simulation words heads bits l works bytes wb we ws answers shown) r l' answers' shown'

@@ -1,6 +1,6 @@
 -- The call of `simulate` as a value, and what it says of the netlist's own cells.
 use Rattle.std.specs.Prelude.{◌≡◌, List, map, ℕ, ◌≤◌, length, take}
-use Rattle.std.specs.Prelude.{Option, None, Some}
+use Rattle.std.specs.Prelude.{Option, None, Some, Result}
 use Rattle.netlist.specs.declared.Limits.{Limits}
 use Rattle.netlist.specs.Netlist.{Netlist}
 use Rattle.netlist.specs.Reader.{netlist, read_words}
@@ -13,7 +13,7 @@ use Rattle.simulation.specs.Run.{Ran, zeroed, tick_bits}
 use Rattle.simulation.specs.Run as s
 use Rattle.simulation.specs.Shown.{Entry, ByModel}
 use Rattle.forms.specs.Lowered.{lowered_model}
-use Rattle.converter.specs.declared.Lowered as c
+use Rattle.refusal.specs.declared.Refusal.{Refusal}
 use Rattle.converter.specs.Entry.{answer_of, call_of, blank_of}
 use Rattle.runner.specs.Calls.{ListCall, ListOutcome, entries, answers_of, outputs_of, filled, run_list}
 use Rattle.runner.specs.Whole.{list_call}
@@ -88,7 +88,7 @@ pub record ShowsCells (shared : ℕ) (n : Netlist) (x : Simulation) (answers' sh
   pub shown_are : shown' ≡ filled x.shown (outputs_of ticks)
 
 -- lists, answers and outputs at exit
-pub record Simulates (limits : Limits) (x : Simulation) (r : c.Lowered) (l' : Lists) (answers' shown' : List ℕ) : Type 0 where
+pub record Simulates (limits : Limits) (x : Simulation) (r : Result Tapes Refusal) (l' : Lists) (answers' shown' : List ℕ) : Type 0 where
   pub value : record { answer = answer_of r; lists = l'; answers = answers'; shown = shown' } ≡ simulate_call limits x
   pub cells : (n : Netlist) → read_words limits x.words ≡ netlist n → NoWireLoop n → (t : Tapes) → answer_of r ≡ Accepted t → ShowsCells limits.wires n x answers' shown'
   -- a netlist that lowering accepts is refused only for a short buffer: 12 never comes, 13 and 14 are a tick's own
@@ -97,41 +97,3 @@ pub record Simulates (limits : Limits) (x : Simulation) (r : c.Lowered) (l' : Li
 
 pub record Zeroed (works works' : List (List ℕ)) : Type 0 where
   pub zeros : works' ≡ map zeroed works
-
--- FOR ITS PARTS
-
--- works of zeros are left so
-pub record StaysZero (works works' : List (List ℕ)) : Type 0 where
-  pub stays : works ≡ map zeroed works → works' ≡ map zeroed works
-
--- r of the first n words, as many as there are
-pub record Cut (list : List ℕ) (n r : ℕ) : Type 0 where
-  pub within : r ≤ length list
-  pub same : take r list ≡ take n list
-
--- on the words that lowering used
-abbrev pub on_used : ListCall → Tapes → ListCall
-on_used k t = list_call (used_lists k.lists t) k.heads k.bits k.bytes k.work_bits k.work_exprs k.work_signals k.answers k.shown
-
--- how the ticks' answer ends the whole
-abbrev pub concluded : Lists → Tapes → Option (ℕ × ℕ) → Lowering
-concluded l t None = record { answer = Accepted t; lists = l }
-concluded l t (Some r) = record { answer = Refused r.0 r.1; lists = blank_of l }
-
-pub record Concludes (l : Lists) (t : Tapes) (a : Ran) (r : c.Lowered) (l' : Lists) : Type 0 where
-  pub value : record { answer = answer_of r; lists = l' } ≡ concluded l t (s.answer_of a)
-
--- lists that hold a model: its ticks
-abbrev pub ends : ListCall → Tapes → ListOutcome → Simulated
-ends k t o = let z = concluded k.lists t o.answer in record { answer = z.answer; lists = z.lists; answers = o.answers; shown = o.shown }
-
-pub record RunsAccepted (k : ListCall) (t : Tapes) (r : c.Lowered) (l' : Lists) (answers' shown' : List ℕ) : Type 0 where
-  pub value : record { answer = answer_of r; lists = l'; answers = answers'; shown = shown' } ≡ ends k t (run_list largest (on_used k t))
-
--- what lowering answered: ticks, or nothing to show
-abbrev pub follows : ListCall → Lowered → Simulated
-follows k (Accepted t) = ends k t (run_list largest (on_used k t))
-follows k (Refused number place) = record { answer = Refused number place; lists = k.lists; answers = zeroed k.answers; shown = zeroed k.shown }
-
-pub record RunsLowered (k : ListCall) (a r : c.Lowered) (l' : Lists) (answers' shown' : List ℕ) : Type 0 where
-  pub value : record { answer = answer_of r; lists = l'; answers = answers'; shown = shown' } ≡ follows k (answer_of a)

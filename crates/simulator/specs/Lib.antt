@@ -1,2 +1,3 @@
 -- The specs of simulator.
 pub mod Entry
+pub mod Parts

@@ -1,0 +1,2 @@
+-- The specs of lower_words.
+pub mod Entry
