@@ -1,8 +1,8 @@
 #!/usr/bin/env python3
 """What another crate can call, and what its contract leaves open as far as the text shows it.
 
-  tools/surface.py          prints each function with a `requires`, with no `ensures`, or with a lent `&mut` whose `.new` no `ensures` names;
-                            nothing, and status 0, when all is closed
+  tools/surface.py          prints each function with a `requires`, with no `ensures`, or with a lent `&mut` whose `.new` no `ensures` names,
+                            unless one says that the result holds it (its `ghost_name`); nothing, and status 0, when all is closed
   tools/surface.py --all    prints every callable function, and behind a colon what is open
 
 Callable: a `pub fn` of a library's root, of a module that `pub mod` leads to, or of an `impl` there. Programs have none.
@@ -31,7 +31,7 @@ def closing(text, at):
 
 def functions(text):
     """Each public function's name, parameters and clauses."""
-    owners = [(m.start(), closing(text, m.end() - 1), m[1]) for m in re.finditer(r'(?m)^impl (\w+)[^{]*\{', text)]
+    owners = [(m.start(), closing(text, m.end() - 1), m[1]) for m in re.finditer(r'(?m)^impl(?:<[^>]*>)? (\w+)[^{]*\{', text)]
     for m in re.finditer(r'(?m)^\s*pub (?:extern "C" )?fn (\w+)\s*(?:<[^>]*>)?\(', text):
         end = closing(text, m.end() - 1)
         parameters, clauses = text[m.end():end], []
@@ -50,8 +50,8 @@ def leaves_open(parameters, clauses):
         yield 'requires'
     if not ensured:
         yield 'no ensures'
-    for name in re.findall(r"(\w+):\s*&(?:'\w+ )?mut\b", parameters):
-        if not re.search(rf'«?\b{name}\b»?\.new\b', ensured):
+    for name in re.findall(r"(\w+):\s*&(?:'\w+ )?mut\b", parameters) + re.findall(r'&mut (self)\b', parameters):
+        if not re.search(rf'«?\b{name}\b»?\.(new|entry\.ghost_name)\b', ensured):
             yield f'{name} at exit'
 
 
