@@ -4,6 +4,7 @@ types with their invariants, the public definitions, records and theorems of spe
 Reads the first commit of docs/DESIGN-PASS.md and the work tree.
 
     tools/design_changes.py            the list, as it stands behind docs/DESIGN-PASS.md
+    tools/design_changes.py --brief    the same, but of what changed by the names of options alone only the names
     tools/design_changes.py --open     what is neither found again nor named in tools/design_names.txt
 
 A line of tools/design_names.txt: `old -> new`, or `old: what states its promise now`. Names are as printed; where two items of a crate have one
@@ -77,13 +78,14 @@ def items_of_code(crate, lines, found):
             i += 1
 
 def items_of_text(kind, crate, module, lines, found, wanted):
-    i, given = 0, ''
+    i, given = 0, []
     while i < len(lines):
         # what a module is given, its items have as well
-        if re.match(r'module .* where$', lines[i]):
-            given = lines[i][:-6] + ' '
-        elif re.match(r'[^\s-]', lines[i]):
-            given = ''
+        at = len(lines[i]) - len(lines[i].lstrip())
+        if lines[i].strip() and not lines[i].lstrip().startswith('--'):
+            given = [g for g in given if g[0] < at]
+        if re.match(r'\s*module .* where$', lines[i]):
+            given.append((at, lines[i].strip()[:-6]))
         m = re.match(r'(\s*)(?:abbrev |unfoldable |opaque |instance )*pub (?:record |data |abbrev |unfoldable )*([^\s({:]+)', lines[i])
         if not m or m.group(2) in ('mod', 'use'):
             i += 1
@@ -100,7 +102,7 @@ def items_of_text(kind, crate, module, lines, found, wanted):
             # its statement, without its proof
             proof = [k for k, l in enumerate(body) if k and re.match(r'(unfolding|' + re.escape(name) + r')(\s|$)', l.strip())]
             body = body[:proof[0]] if proof else body
-        found[(kind, crate, module + '.' + name)] = one((given if indent else '') + '\n'.join(body))
+        found[(kind, crate, module + '.' + name)] = one(' '.join(g[1] for g in given) + ' ' + '\n'.join(body))
 
 def items(files):
     found = {}
@@ -169,12 +171,19 @@ if '--open' in sys.argv:
     print(len(open_), 'open;', len(pairs), 'changed;', len(moved), 'stated elsewhere;', len(fresh), 'new;', len(old), 'before')
     sys.exit(bool(open_ or idle or lost))
 titles = {'function': 'Public functions and their clauses', 'struct': 'Types', 'enum': 'Types', 'trait': 'Types', 'type': 'Types', 'const': 'Constants', 'definition': 'Definitions, records and theorems of specs/', 'law': 'Laws of proofs/ that documents name'}
+# mathematics' options became std's: only their names
+respelt = lambda text: re.sub(r'\bsome\b', 'Some', re.sub(r'\bnone\b', 'None', text))
+alone = [p for p in pairs if p[0] == p[1] and respelt(p[2]) == p[3]]
 for title in dict.fromkeys(titles.values()):
     print(f'\n### {title}\n\n```diff')
-    for k, n, a, b in [p for p in pairs if titles[p[0][0]] == title]:
+    for k, n, a, b in [p for p in pairs if titles[p[0][0]] == title and p not in alone]:
         print(f'@@ {key(k)}' + ('' if n == k else f' -> {key(n)}') + f'\n-{a}\n+{b}')
     for k, a, where in [p for p in moved if titles[p[0][0]] == title]:
         print(f'@@ {key(k)}\n-{a}\n+({where})')
     for k, b in [p for p in fresh if titles[p[0][0]] == title]:
         print(f'@@ new: {key(k)}\n+{b}')
     print('```')
+print('\n### Changed by the names of options alone: `none`, `some` are `None`, `Some`\n\n```diff')
+for k, n, a, b in alone:
+    print(f'@@ {key(k)}' + ('' if '--brief' in sys.argv else f'\n-{a}\n+{b}'))
+print('```')
