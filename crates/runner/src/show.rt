@@ -55,7 +55,7 @@ pub fn show(signals: &[u32], bytes: &[u8], shown: &mut [u8], from: usize, until:
     let mut at: usize = 0;
     let mut pos: usize = 0;
     let mut to = from;
-    // By words, in every tick: over `Records` it was tried, and ticks took 5 % longer.
+    // By words, as every tick goes here: over `Records` it was tried, and ticks took 2 to 10 % longer.
     while at < until {
         let size = size(signals, at);
         if size == 0 {
