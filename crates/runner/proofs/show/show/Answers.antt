@@ -1,42 +1,51 @@
-use Rattle.std.proofs.Common.{arith, ℕ, List, ◌+◌, sym, subst}
+use Rattle.std.proofs.Common.{arith, refl, sym, ◌∙◌}
 use Rattle.simulation.proofs.Steps.{walked_out}
-use Rattle.evaluation.proofs.Signals.{no_port, signal_inside, signal_step}
-use Rattle.runner.proofs.Showing.{Showing, showing_start, showing_end, showing_all, shown_end, output_copies, output_shown, output_none}
+use Rattle.evaluation.proofs.Signals.{no_port}
+use Rattle.runner.proofs.Showing.{showing_start, showing_end, showing_all, shown_end, output_copies, output_shown, output_none}
+use Rattle.runner.proofs.Turns.{turns_start, turns_out, turn_size, turn_some, turn_next, signal_turn, signal_first, signal_second}
 use Rattle.runner.proofs.show.show.Goals as goal
-use Rattle.runner.proofs.show.show.Goals.{then-signals-at-eq-OUTPUT, else-signals-at-eq-OUTPUT}
+use Rattle.runner.proofs.show.show.Goals.{then-fields-eq-OUTPUT, else-fields-eq-OUTPUT}
 
-pub loop-at-init : goal.loop-at-init
-loop-at-init c = showing_start _ _ _ _
+pub loop-fields-init : goal.loop-fields-init
+loop-fields-init c = (showing_start _ _ _ _, turns_start c.into_iter-fields-iterator.ensures.into_iter_gives c.new-fields-items.ensures)
 
-pub returns-then-size-eq0-clause-end : goal.returns-then-size-eq0-clause-end
-returns-then-size-eq0-clause-end c = let e = walked_out c.loop-at.invariant.walked c.size-size.result c.size-size.ensures c.if-size-eq0.true in showing_end c.requires.0 c.loop-at.invariant (λ i a q. absurd (omega (arith, a, q, e)))
+pub returns-then-at-until-clause-end : goal.returns-then-at-until-clause-end
+returns-then-at-until-clause-end c = let v = c.loop-fields.invariant in showing_end c.requires.0 v.0 (λ i a q. (no_port c.requires.0 c.requires.3 v.0.walked c.if-at-until.true i a q).1)
 
-pub returns-then-size-eq0-clause-shows : goal.returns-then-size-eq0-clause-shows
-returns-then-size-eq0-clause-shows c = let e = walked_out c.loop-at.invariant.walked c.size-size.result c.size-size.ensures c.if-size-eq0.true in showing_all c.requires.0 c.loop-at.invariant (λ i a q. absurd (omega (arith, a, q, e)))
+pub returns-then-at-until-clause-shows : goal.returns-then-at-until-clause-shows
+returns-then-at-until-clause-shows c = let v = c.loop-fields.invariant in showing_all c.requires.0 v.0 (λ i a q. (no_port c.requires.0 c.requires.3 v.0.walked c.if-at-until.true i a q).1)
 
-pub bounds-signals-at : goal.bounds-signals-at
-bounds-signals-at c = omega (arith, signal_inside c.requires.0 c.loop-at.invariant.walked c.size-size.ensures c.if-size-eq0.false)
+pub bounds-fields-1 : goal.bounds-fields-1
+bounds-fields-1 c = let v = c.loop-fields.invariant in omega (arith, signal_turn v.1 c.in-Some.ensures.steps c.requires.0 v.0.walked)
 
-pub bounds-signals-at-in-loop-at : goal.bounds-signals-at-in-loop-at
-bounds-signals-at-in-loop-at c = omega (arith, signal_inside c.requires.0 c.loop-at.invariant.walked c.size-size.ensures c.if-size-eq0.false)
+pub bounds-fields-0 : goal.bounds-fields-0
+bounds-fields-0 c = let v = c.loop-fields.invariant in omega (arith, signal_turn v.1 c.in-Some.ensures.steps c.requires.0 v.0.walked)
 
 pub copy-requires : goal.copy-requires
-copy-requires c = output_copies c.requires.0 c.loop-at.invariant c.size-size.ensures c.if-size-eq0.false c.wide-width.ensures c.if-signals-at-eq-OUTPUT.true c.requires.1 c.requires.2
+copy-requires c =
+    let v = c.loop-fields.invariant in
+    let s = c.in-Some.ensures.steps in
+    output_copies c.requires.0 v.0 (turn_size v.1 s) (turn_some v.1 s) (c.wide-width.ensures ∙ signal_second v.1 s c.requires.0 v.0.walked) (sym (signal_first v.1 s c.requires.0 v.0.walked) ∙ c.if-fields-eq-OUTPUT.true) c.requires.1 c.requires.2
 
 pub overflow_add-pos : goal.overflow_add-pos
-overflow_add-pos c = omega (arith, shown_end c.requires.0 c.loop-at.invariant c.size-size.ensures c.if-size-eq0.false c.wide-width.ensures c.requires.1)
+overflow_add-pos c =
+    let v = c.loop-fields.invariant in
+    let s = c.in-Some.ensures.steps in
+    omega (arith, shown_end c.requires.0 v.0 (turn_size v.1 s) (turn_some v.1 s) (c.wide-width.ensures ∙ signal_second v.1 s c.requires.0 v.0.walked) c.requires.1)
 
-pub overflow_add-at-in-loop-at-2 : goal.overflow_add-at-in-loop-at-2
-overflow_add-at-in-loop-at-2 c = omega (arith, signal_step c.requires.0 c.loop-at.invariant.walked c.size-size.ensures c.if-size-eq0.false)
-
-pub loop-at-preserved : goal.loop-at-preserved
-loop-at-preserved c = elim c.if-signals-at-eq-OUTPUT.branch [
-  | then-signals-at-eq-OUTPUT w ↦ subst (λ (b : List ℕ). Showing c.args.signals.now c.args.bytes.now c.args.shown.now b c.args.from (c.loop-at.at + c.size-size.result) (c.loop-at.pos + c.wide-width.result) c.if-signals-at-eq-OUTPUT.to) (sym w.shown-is) (subst (λ (t : ℕ). Showing c.args.signals.now c.args.bytes.now c.args.shown.now w.copy.new.to c.args.from (c.loop-at.at + c.size-size.result) (c.loop-at.pos + c.wide-width.result) t) (sym w.to-is) (output_shown c.requires.0 c.loop-at.invariant c.size-size.ensures c.if-size-eq0.false c.wide-width.ensures w.if-signals-at-eq-OUTPUT.true c.requires.1 w.copy.auto.to w.copy.ensures))
-  | else-signals-at-eq-OUTPUT w ↦ subst (λ (b : List ℕ). Showing c.args.signals.now c.args.bytes.now c.args.shown.now b c.args.from (c.loop-at.at + c.size-size.result) (c.loop-at.pos + c.wide-width.result) c.if-signals-at-eq-OUTPUT.to) (sym w.shown-is) (subst (λ (t : ℕ). Showing c.args.signals.now c.args.bytes.now c.args.shown.now c.loop-at.shown c.args.from (c.loop-at.at + c.size-size.result) (c.loop-at.pos + c.wide-width.result) t) (sym w.to-is) (output_none c.requires.0 c.loop-at.invariant c.size-size.ensures c.if-size-eq0.false c.wide-width.ensures w.if-signals-at-eq-OUTPUT.false))
-]
+pub loop-fields-preserved : goal.loop-fields-preserved
+loop-fields-preserved c =
+    let h = c.requires.0 in
+    let v = c.loop-fields.invariant in
+    let s = c.in-Some.ensures.steps in
+    let w = c.wide-width.ensures ∙ signal_second v.1 s h v.0.walked in
+    elim c.if-fields-eq-OUTPUT.branch [
+      | then-fields-eq-OUTPUT b ↦ rw (b.shown-is, b.to-is) (output_shown h v.0 (turn_size v.1 s) (turn_some v.1 s) w (sym (signal_first v.1 s h v.0.walked) ∙ b.if-fields-eq-OUTPUT.true) c.requires.1 b.copy.auto.to b.copy.ensures, turn_next v.1 s)
+      | else-fields-eq-OUTPUT b ↦ rw (b.shown-is, b.to-is) (output_none h v.0 (turn_size v.1 s) (turn_some v.1 s) w (λ z. b.if-fields-eq-OUTPUT.false (signal_first v.1 s h v.0.walked ∙ z)), turn_next v.1 s)
+    ]
 
 pub returns-clause-end : goal.returns-clause-end
-returns-clause-end c = showing_end c.requires.0 c.loop-at.invariant (λ i a q. (no_port c.requires.0 c.requires.3 c.loop-at.invariant.walked c.loop-at-test.false i a q).1)
+returns-clause-end c = let v = c.loop-fields.invariant in showing_end c.requires.0 v.0 (λ i a q. absurd (omega (arith, a, q, walked_out v.0.walked 0 (turns_out v.1 c.in-None.ensures.steps.0) refl)))
 
 pub returns-clause-shows : goal.returns-clause-shows
-returns-clause-shows c = showing_all c.requires.0 c.loop-at.invariant (λ i a q. (no_port c.requires.0 c.requires.3 c.loop-at.invariant.walked c.loop-at-test.false i a q).1)
+returns-clause-shows c = let v = c.loop-fields.invariant in showing_all c.requires.0 v.0 (λ i a q. absurd (omega (arith, a, q, walked_out v.0.walked 0 (turns_out v.1 c.in-None.ensures.steps.0) refl)))
