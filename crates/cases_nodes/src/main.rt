@@ -16,15 +16,14 @@ use text::{Full, Text};
 
 // The words of the expressions that are recorded.
 fn written<'a>(recorder: &'a Recorder<'_>) -> &'a [u32] {
-    recorder.exprs.get(..recorder.tapes.exprs.used).unwrap_or(&[])
+    recorder
+        .exprs
+        .get(..recorder.tapes.exprs.used)
+        .unwrap_or(&[])
 }
 
 // The answer's words, and its number.
-fn put_line(
-    text: &mut Text<'_>,
-    exprs: &[u32],
-    r: Result<ExprId, Refusal>,
-) -> Result<(), Full> {
+fn put_line(text: &mut Text<'_>, exprs: &[u32], r: Result<ExprId, Refusal>) -> Result<(), Full> {
     let Ok(e) = r else {
         return text.put(b"refused\n");
     };

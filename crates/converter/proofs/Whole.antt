@@ -15,6 +15,7 @@ use Rattle.netlist.specs.Fields.{layout_of, netlist_at}
 use Rattle.reader.specs.Checks.{Checks}
 use Rattle.netlist.proofs.FieldLaws.{laid, port_placed, cell_placed}
 use Rattle.recorder.specs.declared.Tapes.{Tapes}
+use Rattle.converter.specs.declared.Buffers.{Buffers}
 use Rattle.recorder.specs.Record.{Model, signal_words, stmt_words}
 use Rattle.recorder.specs.Writer.{model_of, Out}
 use Rattle.recorder.specs.Lists.{Lists, lists, Answer, Answer.Done, Left, Wrote}
@@ -37,8 +38,8 @@ no_wires_lem : (n m : ℕ) → wires_of (replicate n 0) (replicate m 0) ≡ no_w
 unfolding wires_of
 no_wires_lem n m = fun_ext (λ w. ap (λ (s : ℕ). entry s (get_or (replicate m 0) w 0)) (zeros_at n w))
 
-unmapped : {wires places parts values banks : List ℕ} → Ready wires places parts values banks → Unmapped wires places
-unmapped {wires} {places} h = record { wires_long = h.wires_long; places_long = h.places_long; none_yet = ap₂ wires_of h.no_signals h.no_places ∙ no_wires_lem (length wires) (length places) }
+unmapped : {b : Buffers} → Ready b → Unmapped b.wires.now b.places.now
+unmapped {b} h = record { wires_long = h.wires_long; places_long = h.places_long; none_yet = ap₂ wires_of h.no_signals h.no_places ∙ no_wires_lem (length b.wires.now) (length b.places.now) }
 
 -- A CHECKED NETLIST
 
@@ -82,22 +83,22 @@ finish (Some s) u a l l' z p e = λ i. record { answer = p i; lists = kept (p i)
 
 -- THE ATTEMPT
 
-module _ (limits : Limits) (words : List ℕ) (l : Lists) (wires places parts values banks : List ℕ) where
+module _ (limits : Limits) (words : List ℕ) (l : Lists) (b : Buffers) where
   -- the words are refused
-  pub attempt_refused : (w : x.Refusal) {l' : Lists} → Checks limits words (Err w) → (q : Result Tapes x.Refusal) → IsErrAnd q (λ y. y ≡ w) → Attempts limits words l wires places parts values banks q l'
+  pub attempt_refused : (w : x.Refusal) {l' : Lists} → Checks limits words (Err w) → (q : Result Tapes x.Refusal) → IsErrAnd q (λ y. y ≡ w) → Attempts limits words l b q l'
   attempt_refused w {l'} read q e =
       let p = err_from_is_err_and q e in
-      subst (λ (y : Result Tapes x.Refusal). Attempts limits words l wires places parts values banks y l') (sym (p.1 ∙ ap Err p.2))
-      (record { value = λ h g s e t from. sym (ap (λ (y : Read). lowered_read limits.wires y s e t) read) })
+      subst (λ (y : Result Tapes x.Refusal). Attempts limits words l b y l') (sym (p.1 ∙ ap Err p.2)) (record { value = λ h g s e t from. sym (ap (λ (y : Read). lowered_read limits.wires y s e t) read) })
 
-  module _ {layout : Layout} (read : read_words limits words ≡ netlist (netlist_at words)) (is : layout ≡ layout_of words) {p : Result Tapes x.Refusal} {l₁ : Lists} (recorded : RecordsNetlist l wires places parts values banks words layout limits.wires p l₁)
-      {q : Result Tapes x.Refusal} {s' : List ℕ} (answer : AnswersTo l₁.signals l₁.stmts p q s') (s e t : ℕ) (from : l ≡ blank s e t) (h : Within limits) (g : Ready wires places parts values banks) where
+  module _ {layout : Layout} (read : read_words limits words ≡ netlist (netlist_at words)) (is : layout ≡ layout_of words) {p : Result Tapes x.Refusal} {l₁ : Lists}
+      (recorded : RecordsNetlist l b.wires.now b.places.now b.parts.now b.values.now b.banks.now words layout limits.wires p l₁) {q : Result Tapes x.Refusal} {s' : List ℕ}
+      (answer : AnswersTo l₁.signals l₁.stmts p q s') (s e t : ℕ) (from : l ≡ blank s e t) (h : Within limits) (g : Ready b) where
     wrote : Wrote (blank s e t) start (lower_netlist limits.wires (netlist_at words)) (recorded_of p) l₁
     wrote =
         let k : Checked limits words layout = subst (Checked limits words) (sym is) (checked limits words (netlist_at words) read h) in
         let w = recorded.so h.wires limits k (unmapped g) (record { parts_long = g.parts_long; values_long = g.values_long; banks_long = g.banks_long }) in
-        let b : netlist_by words layout ≡ netlist_at words = ap (netlist_by words) is ∙ by_layout words in
-        subst (λ (y : Lists). Wrote y start (lower_netlist limits.wires (netlist_at words)) (recorded_of p) l₁) from (subst (λ (y : Netlist). Wrote l start (lower_netlist limits.wires y) (recorded_of p) l₁) b w)
+        let n : netlist_by words layout ≡ netlist_at words = ap (netlist_by words) is ∙ by_layout words in
+        subst (λ (y : Lists). Wrote y start (lower_netlist limits.wires (netlist_at words)) (recorded_of p) l₁) from (subst (λ (y : Netlist). Wrote l start (lower_netlist limits.wires y) (recorded_of p) l₁) n w)
 
     by_end : (y : Result Tapes x.Refusal) → p ≡ y → record { answer = answer_of q; lists = kept (answer_of q) (lists s' l₁.exprs l₁.stmts) (blank s e t) } ≡ lowered limits.wires (netlist_at words) s e t
     by_end (Err w) d =
@@ -112,8 +113,8 @@ module _ (limits : Limits) (words : List ℕ) (l : Lists) (wires places parts va
         finish (conflict limits.wires (netlist_at words) s e t) u (answer_of q) l₁ (lists s' l₁.exprs l₁.stmts) (blank s e t) (answer.recorded u d s t m.signals m.stmts hs ht l₁) back
         ∙ sym (lowered_as limits.wires (netlist_at words) s e t (subst (λ (y : Result Tapes x.Refusal). Wrote (blank s e t) start (lower_netlist limits.wires (netlist_at words)) (recorded_of y) l₁) d wrote))
 
-  pub attempt_done : {layout : Layout} → read_words limits words ≡ netlist (netlist_at words) → layout ≡ layout_of words → {p : Result Tapes x.Refusal} {l₁ : Lists} → RecordsNetlist l wires places parts values banks words layout limits.wires p l₁
-      → {q : Result Tapes x.Refusal} {s' : List ℕ} → AnswersTo l₁.signals l₁.stmts p q s' → Attempts limits words l wires places parts values banks q (lists s' l₁.exprs l₁.stmts)
+  pub attempt_done : {layout : Layout} → read_words limits words ≡ netlist (netlist_at words) → layout ≡ layout_of words → {p : Result Tapes x.Refusal} {l₁ : Lists} → RecordsNetlist l b.wires.now b.places.now b.parts.now b.values.now b.banks.now words layout limits.wires p l₁
+      → {q : Result Tapes x.Refusal} {s' : List ℕ} → AnswersTo l₁.signals l₁.stmts p q s' → Attempts limits words l b q (lists s' l₁.exprs l₁.stmts)
   attempt_done read is {p} recorded answer = record {
     value = λ h g s e t from. by_end read is recorded answer s e t from h g p refl ∙ sym (ap (λ (y : Read). lowered_read limits.wires y s e t) read);
   }

@@ -9,6 +9,7 @@ use Rattle.recorder.specs.Record.{Signal, Stmt, signal_words, stmt_words}
 use Rattle.recorder.specs.Lists.{Lists}
 use Rattle.recorder.specs.Words.{list_words, holding, blank, zeroed}
 use Rattle.lowering.specs.Lower.{Lowered, Accepted, Refused, Lowering, overdriven_from, judged, lower_words}
+use Rattle.converter.specs.declared.Buffers.{Buffers}
 use Rattle.converter.specs.Steps.{Within}
 
 -- the code's answer by number and values
@@ -36,6 +37,19 @@ pub record Lowers (limits : Limits) (words : List ℕ) (l : Lists) (works : List
   pub value : record { answer = answer_of r; lists = l' } ≡ call_of limits words l works
   pub zeros : works' ≡ map zeroed works
 
+-- the works, one by one
+abbrev pub buffers_in : Buffers → List (List ℕ)
+buffers_in b = b.wires.now ∷ b.places.now ∷ b.parts.now ∷ b.values.now ∷ b.banks.now ∷ []
+
+-- they are still those that were lent
+pub record SameBuffers (b b' : Buffers) : Type 0 where
+  pub wires : b'.wires.ghost_name ≡ b.wires.ghost_name
+  pub places : b'.places.ghost_name ≡ b.places.ghost_name
+  pub parts : b'.parts.ghost_name ≡ b.parts.ghost_name
+  pub values : b'.values.ghost_name ≡ b.values.ghost_name
+  pub banks : b'.banks.ghost_name ≡ b.banks.ghost_name
+  pub sizes : map length (buffers_in b') ≡ map length (buffers_in b)
+
 pub record LowersWithin (limits : Limits) (words : List ℕ) (l : Lists) (works : List (List ℕ)) (r : Result Tapes x.Refusal) (l' : Lists) (works' : List (List ℕ)) : Type 0 where
   pub so : Within limits → Lowers limits words l works r l' works'
 
@@ -53,22 +67,19 @@ kept (Refused number place) l zeroed = zeroed
 abbrev pub blank_of : Lists → Lists
 blank_of l = blank (length l.signals) (length l.exprs) (length l.stmts)
 
-abbrev pub Keeps : Result Tapes x.Refusal → Lists → Lists → Type 0
-Keeps r l l' = l' ≡ kept (answer_of r) l (blank_of l)
-
 -- what the works hold once they are known to be long enough: the first two are the wire map's tables, and empty
-pub record Ready (wires places parts values banks : List ℕ) : Type 0 where
-  pub no_signals : wires ≡ zeroed wires
-  pub no_places : places ≡ zeroed places
-  pub wires_long : 16384 ≤ length wires
-  pub places_long : 16384 ≤ length places
-  pub parts_long : 16384 ≤ length parts
-  pub values_long : 16384 ≤ length values
-  pub banks_long : 16384 ≤ length banks
+pub record Ready (b : Buffers) : Type 0 where
+  pub no_signals : b.wires.now ≡ zeroed b.wires.now
+  pub no_places : b.places.now ≡ zeroed b.places.now
+  pub wires_long : 16384 ≤ length b.wires.now
+  pub places_long : 16384 ≤ length b.places.now
+  pub parts_long : 16384 ≤ length b.parts.now
+  pub values_long : 16384 ≤ length b.values.now
+  pub banks_long : 16384 ≤ length b.banks.now
 
 -- from lists of zeros: the answer, and the lists if it is a model
-pub record Attempts (limits : Limits) (words : List ℕ) (l : Lists) (wires places parts values banks : List ℕ) (r : Result Tapes x.Refusal) (l' : Lists) : Type 0 where
-  pub value : Within limits → Ready wires places parts values banks → (s e t : ℕ) → l ≡ blank s e t → record { answer = answer_of r; lists = kept (answer_of r) l' (blank s e t) } ≡ lower_words limits words s e t
+pub record Attempts (limits : Limits) (words : List ℕ) (l : Lists) (b : Buffers) (r : Result Tapes x.Refusal) (l' : Lists) : Type 0 where
+  pub value : Within limits → Ready b → (s e t : ℕ) → l ≡ blank s e t → record { answer = answer_of r; lists = kept (answer_of r) l' (blank s e t) } ≡ lower_words limits words s e t
 
 -- what was recorded, p, judged on the signals s and the statements m
 pub record AnswersTo (s m : List ℕ) (p q : Result Tapes x.Refusal) (s' : List ℕ) : Type 0 where

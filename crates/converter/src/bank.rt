@@ -8,8 +8,8 @@ ghost use Rattle.converter.specs.Tables.{map_in, Reserves};
 ghost use Rattle.converter.specs.Members.{members_left};
 ghost use Rattle.converter.specs.Reserved.{BanksFit};
 
-use crate::members::{Banks, Members};
 use crate::Reserver;
+use crate::members::{Banks, Members};
 use recorder::{Label, SignalId};
 use refusal::Refusal;
 use wires::WireRef;

@@ -20,10 +20,10 @@ mod next; // the next value of a bank
 mod register; // registers of banks (emit_flip_flop_bank)
 mod collect; // the bank of each flip-flop (collect_flip_flop_banks)
 
-ghost use Rattle.std.specs.Prelude.{◌≡◌, [], ◌∷◌, length};
+ghost use Rattle.std.specs.Prelude.{◌≡◌, [], ◌∷◌};
 ghost use Rattle.netlist.specs.Reader.{base};
 ghost use Rattle.recorder.specs.Lists.{lists};
-ghost use Rattle.converter.specs.Entry.{any_short, Lowers, LowersWithin, LowersLists, Attempts};
+ghost use Rattle.converter.specs.Entry.{any_short, buffers_in, SameBuffers, Lowers, LowersWithin, LowersLists, Attempts};
 
 use judge::answered;
 use netlist::Limits;
@@ -50,31 +50,38 @@ pub enum Content {
     Wires,
 }
 
-// Lists of zeros in, and works of which the first two, the wire map's tables, are zeros. On a refusal the lists are left as they are then.
+// The work that lowering is lent: the wire map's two tables, the parts and values of records, and the number of each cell's bank.
+#[derive(Drop)]
+pub struct Buffers<'a> {
+    pub wires: &'a mut [u32],
+    pub places: &'a mut [u32],
+    pub parts: &'a mut [u32],
+    pub values: &'a mut [u32],
+    pub banks: &'a mut [u32],
+}
+
+// Lists of zeros in, and works of which the wire map's tables are zeros. On a refusal the lists are left as they are then.
 fn lower_checked(
     limits: Limits,
     words: &[u32],
     signals: &mut [u32],
     exprs: &mut [u32],
     stmts: &mut [u32],
-    wires: &mut [u32],
-    places: &mut [u32],
-    parts: &mut [u32],
-    values: &mut [u32],
-    banks: &mut [u32],
+    buffers: &mut Buffers,
 ) -> Result<Tapes, Refusal>
-    ensures { Attempts limits words.now (lists signals.old exprs.old stmts.old) wires.old places.old parts.old values.old banks.old result (lists signals.new exprs.new stmts.new) }
+    ensures wrote { Attempts limits words.now (lists signals.old exprs.old stmts.old) buffers.old result (lists signals.new exprs.new stmts.new) }
+    ensures same { SameBuffers buffers.old buffers.new }
 {
     let layout = check(limits, words)?;
     let r = record_netlist(
         signals,
         exprs,
         stmts,
-        wires,
-        places,
-        parts,
-        values,
-        banks,
+        buffers.wires,
+        buffers.places,
+        buffers.parts,
+        buffers.values,
+        buffers.banks,
         words,
         layout,
         limits.wires,
@@ -101,31 +108,27 @@ fn lower_works(
     signals: &mut [u32],
     exprs: &mut [u32],
     stmts: &mut [u32],
-    wires: &mut [u32],
-    places: &mut [u32],
-    parts: &mut [u32],
-    values: &mut [u32],
-    banks: &mut [u32],
+    buffers: &mut Buffers,
 ) -> Result<Tapes, Refusal>
-    ensures { LowersLists limits words.now (lists signals.old exprs.old stmts.old) (wires.old ∷ places.old ∷ parts.old ∷ values.old ∷ banks.old ∷ []) result (lists signals.new exprs.new stmts.new) }
+    ensures wrote { LowersLists limits words.now (lists signals.old exprs.old stmts.old) (buffers_in buffers.old) result (lists signals.new exprs.new stmts.new) }
+    ensures same { SameBuffers buffers.old buffers.new }
 {
     signals.fill(0);
     exprs.fill(0);
     stmts.fill(0);
-    if short_work(&[
-        wires.len(),
-        places.len(),
-        parts.len(),
-        values.len(),
-        banks.len(),
-    ]) {
+    let sizes = [
+        buffers.wires.len(),
+        buffers.places.len(),
+        buffers.parts.len(),
+        buffers.values.len(),
+        buffers.banks.len(),
+    ];
+    if short_work(&sizes) {
         return Err(Refusal::BufferTooShort(WORK));
     }
-    wires.fill(0);
-    places.fill(0);
-    let r = lower_checked(
-        limits, words, signals, exprs, stmts, wires, places, parts, values, banks,
-    );
+    buffers.wires.fill(0);
+    buffers.places.fill(0);
+    let r = lower_checked(limits, words, signals, exprs, stmts, buffers);
     if r.is_err() {
         signals.fill(0);
         exprs.fill(0);
@@ -141,22 +144,17 @@ fn lower_within(
     signals: &mut [u32],
     exprs: &mut [u32],
     stmts: &mut [u32],
-    wires: &mut [u32],
-    places: &mut [u32],
-    parts: &mut [u32],
-    values: &mut [u32],
-    banks: &mut [u32],
+    buffers: &mut Buffers,
 ) -> Result<Tapes, Refusal>
-    ensures { LowersWithin limits words.now (lists signals.old exprs.old stmts.old) (wires.old ∷ places.old ∷ parts.old ∷ values.old ∷ banks.old ∷ []) result (lists signals.new exprs.new stmts.new) (wires.new ∷ places.new ∷ parts.new ∷ values.new ∷ banks.new ∷ []) }
+    ensures wrote { LowersWithin limits words.now (lists signals.old exprs.old stmts.old) (buffers_in buffers.old) result (lists signals.new exprs.new stmts.new) (buffers_in buffers.new) }
+    ensures same { SameBuffers buffers.old buffers.new }
 {
-    let r = lower_works(
-        limits, words, signals, exprs, stmts, wires, places, parts, values, banks,
-    );
-    wires.fill(0);
-    places.fill(0);
-    parts.fill(0);
-    values.fill(0);
-    banks.fill(0);
+    let r = lower_works(limits, words, signals, exprs, stmts, buffers);
+    buffers.wires.fill(0);
+    buffers.places.fill(0);
+    buffers.parts.fill(0);
+    buffers.values.fill(0);
+    buffers.banks.fill(0);
     r
 }
 
@@ -174,16 +172,12 @@ pub fn lower(
 ) -> Result<Tapes, Refusal>
     ensures { Lowers base words.now (lists signals.old exprs.old stmts.old) (wires.old ∷ places.old ∷ parts.old ∷ values.old ∷ banks.old ∷ []) result (lists signals.new exprs.new stmts.new) (wires.new ∷ places.new ∷ parts.new ∷ values.new ∷ banks.new ∷ []) }
 {
-    lower_within(
-        Limits::BASE,
-        words,
-        signals,
-        exprs,
-        stmts,
+    let mut buffers = Buffers {
         wires,
         places,
         parts,
         values,
         banks,
-    )
+    };
+    lower_within(Limits::BASE, words, signals, exprs, stmts, &mut buffers)
 }

@@ -33,7 +33,8 @@ fn record_parts(
     Ok(recorder.tapes)
 }
 
-// A checked netlist, whose parts stand as the layout says.
+// A checked netlist, whose parts stand as the layout says. The works come one by one: the check can't read a field of a struct while another
+// is lent.
 pub fn record_netlist(
     signals: &mut [u32],
     exprs: &mut [u32],

@@ -26,7 +26,12 @@ fn refuse_bytes(signals: &mut [u32], exprs: &mut [u32], stmts: &mut [u32]) -> Re
 }
 
 // A netlist has 65,536 bytes at most, in whole words.
-fn lower_bytes(bytes: &[u8], signals: &mut [u32], exprs: &mut [u32], stmts: &mut [u32]) -> Result<Tapes, Refusal>
+fn lower_bytes(
+    bytes: &[u8],
+    signals: &mut [u32],
+    exprs: &mut [u32],
+    stmts: &mut [u32],
+) -> Result<Tapes, Refusal>
     ensures { LowersBytes bytes.now (lists signals.old exprs.old stmts.old) result (lists signals.new exprs.new stmts.new) }
 {
     if 65536 < bytes.len() || bytes.len() % 4 != 0 {

@@ -64,12 +64,7 @@ fn used(list: &[u32], tape: Tape) -> &[u32]
 
 impl Ticks<'_> {
     // On the words that lowering used.
-    fn run_used(
-        &mut self,
-        tapes: Tapes,
-        lists: &Lists,
-        tables: &mut Tables,
-    ) -> Result<(), Refusal>
+    fn run_used(&mut self, tapes: Tapes, lists: &Lists, tables: &mut Tables) -> Result<(), Refusal>
         ensures runs { RunsList (on_used (call_in (lists_in lists.now) self.old) tapes) result self.new.bytes.now self.new.answers.now self.new.shown.now }
         ensures works { Zeroed (works_in self.old) (works_in self.new) }
         ensures tables { Zeroed (tables_in tables.old) (tables_in tables.new) }
