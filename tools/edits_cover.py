@@ -51,7 +51,7 @@ def functions(file, path, public):
             for one in names.split(','):
                 name, _, alias = one.strip().partition(' as ')
                 imports[alias or name] = (spec, name.split('.')[0])
-    owners = [(m.start(), closing(text, m.end() - 1), m[1]) for m in re.finditer(r'(?m)^impl (\w+)[^{]*\{', text)]
+    owners = [(m.start(), closing(text, m.end() - 1), m[1]) for m in re.finditer(r'(?m)^impl(?:<[^>]*>)? (\w+)[^{]*\{', text)]
     for m in re.finditer(r'(?m)^[ ]*(pub )?(?:extern "C" )?fn (\w+)\s*(?:<[^>]*>)?\(', text):
         at = closing(text, m.end() - 1)
         at += re.match(r'\s*(->[^{]*?)?(?=\s*(?:requires|ensures|\{))', text[at:]).end()
