@@ -32,8 +32,8 @@ fn emit_slice(
 {
     let gated = gated_carry(inject, carry);
     let ids = read4(emitter, inputs)?;
-    let lut4 = emitter.lut(ids, init)?;
-    let lut2 = emitter.lut([ids[0], ids[1], ExprId::ZERO, ExprId::ZERO], init)?;
+    let lut4 = emitter.lut_expression(ids, init)?;
+    let lut2 = emitter.lut_expression([ids[0], ids[1], ExprId::ZERO, ExprId::ZERO], init)?;
     let value = emitter.xor(lut4, gated)?;
     emitter.assign_wire(sum, value)?;
     emitter.mux(lut4, gated, lut2)

@@ -48,7 +48,7 @@ pub fn emit_lut4(
 {
     emitter.begin();
     let ids = read4(emitter, inputs)?;
-    let value = emitter.lut(ids, init)?;
+    let value = emitter.lut_expression(ids, init)?;
     emitter.assign_wire(output, value)
 }
 

@@ -34,7 +34,7 @@ impl Reserver<'_, '_> {
     }
 
     // The signal of one bank.
-    fn reserve_bank(&mut self, owner: u32, members: Members) -> Result<(), Refusal>
+    fn reserve_flip_flop_bank(&mut self, owner: u32, members: Members) -> Result<(), Refusal>
         ensures { Reserves (λ limits. Each (FitsWire limits) (outputs_of (members_left members.entry)) × (length (members_left members.entry) < 65536)) self.old (reserve_vector (map_in self.old) 7 owner (outputs_of (members_left members.entry))) result self.new }
     {
         let width = members.width();
@@ -43,11 +43,11 @@ impl Reserver<'_, '_> {
     }
 
     // The signals of all banks.
-    pub fn reserve_banks(&mut self, banks: Banks) -> Result<(), Refusal>
+    pub fn reserve_flip_flop_banks(&mut self, banks: Banks) -> Result<(), Refusal>
         ensures { Reserves (BanksFit banks.entry) self.old (reserve_flip_flop_banks (map_in self.old) 0 (collect_flip_flop_banks (cells_at banks.entry.cells.words.now banks.entry.cells.at banks.entry.n))) result self.new }
     {
         for b in 0..banks.count {
-            self.reserve_bank(b, banks.members(b + 1))?;
+            self.reserve_flip_flop_bank(b, banks.members(b + 1))?;
         }
         Ok(())
     }

@@ -10,8 +10,8 @@ use wires::Constants;
 pub fn emit_constants(recorder: &mut Recorder) -> Result<Constants, Refusal>
     ensures { Writes recorder.old emit_constants (ended (λ (z : Constants). z) result) recorder.new }
 {
-    let zero = recorder.signal(Label::Zero, 1, 0)?;
-    let one = recorder.signal(Label::One, 1, 0)?;
+    let zero = recorder.signal(Label::Zero as u32, 1, 0)?;
+    let one = recorder.signal(Label::One as u32, 1, 0)?;
     let low = recorder.constant(1, 0)?;
     let high = recorder.constant(1, 1)?;
     recorder.assign(zero, low)?;

@@ -63,7 +63,7 @@ fn clock_bank(
 }
 
 // One bank. `parts` is work of a word for each member.
-fn emit_bank(
+fn emit_flip_flop_bank(
     recorder: &mut Recorder,
     parts: &mut [u32],
     map: WireMap,
@@ -94,7 +94,7 @@ fn emit_bank(
 }
 
 // All banks. `parts` is work of a word for each cell.
-pub fn emit_banks(
+pub fn emit_flip_flop_banks(
     recorder: &mut Recorder,
     parts: &mut [u32],
     map: WireMap,
@@ -107,7 +107,7 @@ pub fn emit_banks(
         return Err(Refusal::BufferTooShort(end));
     }
     for b in 0..banks.count {
-        emit_bank(recorder, parts, map, banks.members(b + 1))?;
+        emit_flip_flop_bank(recorder, parts, map, banks.members(b + 1))?;
     }
     Ok(())
 }

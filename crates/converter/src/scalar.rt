@@ -17,7 +17,7 @@ impl Reserver<'_, '_> {
     pub fn signal(&mut self, label: Label, width: u32, owner: u32) -> Result<SignalId, Refusal>
         ensures { Declares self.old (signal_of (label_of label) width owner) (declared result) self.new }
     {
-        self.recorder.signal(label, width, owner)
+        self.recorder.signal(label as u32, width, owner)
     }
 
     // A signal of one bit for a wire.

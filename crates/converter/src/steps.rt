@@ -10,7 +10,7 @@ use crate::cell::emit_cells;
 use crate::constants::emit_constants;
 use crate::members::Banks;
 use crate::outputs::emit_outputs;
-use crate::register::emit_banks;
+use crate::register::emit_flip_flop_banks;
 use crate::{Reserver, WORK};
 use address_mux::Works;
 use netlist::fields::Fields;
@@ -36,7 +36,7 @@ pub fn reserve_netlist<'a, 'b>(
     };
     reserver.reserve_ports(ports, n)?;
     reserver.reserve_cells(banks.cells, banks.n)?;
-    reserver.reserve_banks(banks)
+    reserver.reserve_flip_flop_banks(banks)
 }
 
 // All cells, each of which shares its reads of so many wires by itself. The table of what has been read begins with zeros.
@@ -81,6 +81,6 @@ pub fn emit_netlist(
         constants,
     };
     emit_shared_cells(recorder, works, map, banks.cells, banks.n, shared)?;
-    emit_banks(recorder, works.parts, map, banks)?;
+    emit_flip_flop_banks(recorder, works.parts, map, banks)?;
     emit_outputs(recorder, works.parts, map, ports, n)
 }

@@ -69,7 +69,7 @@ pub fn ram_word(
 ) -> Result<RamWord, Refusal>
     ensures { Writes recorder.old (ram_word (port_in first) (second_in second) owner width address index) (worded result) recorder.new }
 {
-    let signal = recorder.signal(Label::RamWord, width, owner)?;
+    let signal = recorder.signal(Label::RamWord as u32, width, owner)?;
     let current = recorder.read(width, signal, 0)?;
     let once = write_word(recorder, first, width, address, index, current)?;
     let next = write_second(recorder, second, width, address, index, once)?;

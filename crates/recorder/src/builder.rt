@@ -3,10 +3,10 @@ ghost use Rattle.std.specs.Prelude.{◌≡◌, ◌++◌};
 ghost use Rattle.recorder.specs.Record.{sized, Expr.const as const_e, Expr.read as read_e, Expr.concat as concat_e, Expr.not as not_e, Expr.and as and_e, Expr.or as or_e, Expr.xor as xor_e, Expr.mux as mux_e, Expr.eq as eq_e, Expr.mul as mul_e, Stmt.assign as assign_s, Stmt.reg as reg_s};
 ghost use Rattle.recorder.specs.Lists.{lists, tapes, unwritten};
 ghost use Rattle.recorder.specs.Writer.{declare, emit, state};
-ghost use Rattle.recorder.specs.Calls.{label_of, Writes, PushedSignal, PushedExpr, PushedStmt, emitted, declared, stated, reset_of, enable_of, lists_in, tapes_in};
+ghost use Rattle.recorder.specs.Calls.{Writes, PushedSignal, PushedExpr, PushedStmt, emitted, declared, stated, reset_of, enable_of, lists_in, tapes_in};
 
 use crate::list::put_record;
-use crate::{AsyncReset, Enable, ExprId, Label, Recorder, SignalId, Tape, Tapes};
+use crate::{AsyncReset, Enable, ExprId, Recorder, SignalId, Tape, Tapes};
 use refusal::Refusal;
 
 impl<'a> Recorder<'a> {
@@ -73,10 +73,11 @@ impl<'a> Recorder<'a> {
         self.push_expr(fields, &[])
     }
 
-    pub fn signal(&mut self, label: Label, width: u32, owner: u32) -> Result<SignalId, Refusal>
-        ensures { Writes self.old (declare (record { label = label_of label; width = width; owner = owner })) (declared result) self.new }
+    // Any number may stand as a label, though only a `Label`'s has a name.
+    pub fn signal(&mut self, label: u32, width: u32, owner: u32) -> Result<SignalId, Refusal>
+        ensures { Writes self.old (declare (record { label = label; width = width; owner = owner })) (declared result) self.new }
     {
-        self.push_signal(&[label as u32, width, owner])
+        self.push_signal(&[label, width, owner])
     }
 
     pub fn constant(&mut self, width: u32, value: u32) -> Result<ExprId, Refusal>

@@ -226,9 +226,9 @@ module _ (m : Wires) (w : ℕ) {e e₁ e₂ : Emitter} {x : ℕ} (begun : e.firs
       record {
         same = same_cell h.same note.same;
         wrote = subst (λ r. Writes e.recorder.now whole (ok (with_seen x (seen_in e₂))) r) (sym note.recorder)
-          (writes_then h.wrote rest refl (writes_as (ap (λ (y : Seen). pure (with_seen x y)) (sym s)) writes_pure));
+            (writes_then h.wrote rest refl (writes_as (ap (λ (y : Seen). pure (with_seen x y)) (sym s)) writes_pure));
         leaves = subst (λ (l : List ℕ). Aged e.first e₂.recorder.now.tapes.exprs.count e.seen.now l) (sym z)
-          (subst (λ (y : ℕ). Aged e.first y e.seen.now (set e.seen.now w e₁.recorder.now.tapes.exprs.count)) (sym (ap (λ r. r.tapes.exprs.count) note.recorder)) (noted_ages e.first e₁.recorder.now.tapes.exprs.count w e.seen.now (omega arith)));
+            (subst (λ (y : ℕ). Aged e.first y e.seen.now (set e.seen.now w e₁.recorder.now.tapes.exprs.count)) (sym (ap (λ r. r.tapes.exprs.count) note.recorder)) (noted_ages e.first e₁.recorder.now.tapes.exprs.count w e.seen.now (omega arith)));
       }
 
 -- outside of cells: a vector that is read with nothing shared

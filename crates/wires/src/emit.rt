@@ -17,7 +17,7 @@ use refusal::Refusal;
 
 impl Emitter<'_, '_> {
     // A truth table of four inputs, the first the lowest.
-    pub fn lut(&mut self, inputs: [ExprId; 4], table: u16) -> Result<ExprId, Refusal>
+    pub fn lut_expression(&mut self, inputs: [ExprId; 4], table: u16) -> Result<ExprId, Refusal>
         ensures { Plain self.old (lut_cofactor (numbers inputs) table) (emitted result) self.new }
     {
         let r = lut(self.recorder, inputs, table);

@@ -14,11 +14,7 @@ use refusal::Refusal;
 pub fn levelled(recorder: &mut Recorder, active: u32, e: ExprId) -> Result<ExprId, Refusal>
     ensures { Writes recorder.old (levelled active e.0) (emitted result) recorder.new }
 {
-    if active == 1 {
-        Ok(e)
-    } else {
-        recorder.not(e)
-    }
+    if active == 1 { Ok(e) } else { recorder.not(e) }
 }
 
 // A concat of the first parts, the highest first; one stands for itself.

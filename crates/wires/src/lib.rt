@@ -7,7 +7,7 @@ pub mod once; // once.rt: what a cell reads, each wire once
 pub mod expressions; // expressions.rt: vectors
 pub mod map; // map.rt: what the wire map holds, read outside of cells
 
-ghost use Rattle.std.specs.Prelude.{◌≤◌};
+ghost use Rattle.std.specs.Prelude.{◌≡◌, ◌≤◌, min};
 
 use recorder::{Recorder, SignalId};
 
@@ -43,4 +43,29 @@ pub struct Emitter<'a, 'b> {
     pub first: u32,
     pub map: WireMap<'a>,
     ghost begun: { first ≤ recorder.now.tapes.exprs.count },
+}
+
+impl<'a, 'b> Emitter<'a, 'b> {
+    // For whatever number stands as the cell's first expression: one that is not recorded yet counts as the next.
+    pub fn new(
+        recorder: &'a mut Recorder<'b>,
+        seen: &'a mut [u32],
+        first: u32,
+        map: WireMap<'a>,
+    ) -> Emitter<'a, 'b>
+        ensures same_recorder { result.recorder.ghost_name ≡ recorder.entry.ghost_name }
+        ensures same_seen { result.seen.ghost_name ≡ seen.entry.ghost_name }
+        ensures recorder { result.recorder.now ≡ recorder.old }
+        ensures seen { result.seen.now ≡ seen.old }
+        ensures first { result.first ≡ min first recorder.old.tapes.exprs.count }
+        ensures map { result.map ≡ map.entry }
+    {
+        let first = first.min(recorder.tapes.exprs.count);
+        Emitter {
+            recorder,
+            seen,
+            first,
+            map,
+        }
+    }
 }

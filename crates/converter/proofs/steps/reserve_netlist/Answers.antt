@@ -11,4 +11,4 @@ returns-in_err-reserve_cells c =
     search (rules, w)
 
 pub returns : goal.returns
-returns c = let w = reserved _ c.args.ports c.args.n c.args.banks (banks_last _ _ _ _ c.in_ok-reserve_ports.ensures c.in_ok-reserve_cells.ensures c.reserve_banks.ensures) in search (rules, w)
+returns c = let w = reserved _ c.args.ports c.args.n c.args.banks (banks_last _ _ _ _ c.in_ok-reserve_ports.ensures c.in_ok-reserve_cells.ensures c.reserve_flip_flop_banks.ensures) in search (rules, w)

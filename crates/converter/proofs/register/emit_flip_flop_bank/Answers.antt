@@ -4,7 +4,7 @@ use Rattle.recorder.specs.Writer.{refuse}
 use Rattle.converter.specs.Members.{members_left}
 use Rattle.wires.proofs.Laws.{roomy_no, writes_after, unread_err}
 use Rattle.converter.proofs.Registers.{one_emits}
-use Rattle.converter.proofs.register.emit_bank.Goals as goal
+use Rattle.converter.proofs.register.emit_flip_flop_bank.Goals as goal
 
 pub returns-then-parts-end : goal.returns-then-parts-end
 returns-then-parts-end c = record {

@@ -5,7 +5,7 @@ use Rattle.converter.specs.Members.{members_left}
 use Rattle.std.proofs.Common.{arith}
 use Rattle.converter.proofs.Reserving.{reserves_as, declared_then, declared_err}
 use Rattle.converter.proofs.Inserting.{bank_vector}
-use Rattle.converter.proofs.Reserver.reserve_bank.Goals as goal
+use Rattle.converter.proofs.Reserver.reserve_flip_flop_bank.Goals as goal
 
 pub returns-in_err-signal : goal.returns-in_err-signal
 returns-in_err-signal c =
