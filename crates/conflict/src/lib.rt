@@ -8,6 +8,7 @@
 ghost use Rattle.std.specs.Prelude.{◌≡◌};
 ghost use Rattle.conflict.specs.Counting.{more, raised, counted, lowest_from, restored, exceeds};
 
+use recorder::Label;
 use recorder::read::word;
 use recorder::records::Records;
 
@@ -44,7 +45,11 @@ fn count_statements(signals: &mut [u32], stmts: &[u32])
 fn exceeding(count: u32, label: u32) -> bool
     ensures { result ≡ exceeds count label }
 {
-    if label == 0 { 4 < count } else { 5 < count }
+    if label == Label::Input as u32 {
+        4 < count
+    } else {
+        5 < count
+    }
 }
 
 fn lowest(signals: &[u32]) -> Option<usize>
