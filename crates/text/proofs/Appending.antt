@@ -97,11 +97,6 @@ module _ {t t₁ : Text} {bs : List ℕ} where
       cut (Ok x) q k = absurd (cc (q))
       cut (Err x) q k = k
 
--- no text at all
-pub then_nothing : (t : Text) → Appended t [] (Ok tt) t
-unfolding text_in
-then_nothing t = record { kept = refl; said = omega (arith, t.within); used = omega (arith, t.within); held = refl }
-
 -- another name for the text
 pub appended_as : {t t' : Text} {bs cs : List ℕ} {r : Result (Unit {0}) Full} → bs ≡ cs → Appended t bs r t' → Appended t cs r t'
 appended_as {t} {t'} {r = r} e h = subst (λ (x : List ℕ). Appended t x r t') e h
