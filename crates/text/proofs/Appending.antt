@@ -2,7 +2,7 @@
 -- Assumes nothing.
 use mathlib.Core.Path.{◌≡◌, refl, ap, ap₂, sym, ◌∙◌, subst}
 use mathlib.Core.Bool.{Bool, true, false}
-use mathlib.Core.List.{List, [], ◌∷◌, ◌++◌, append_assoc}
+use mathlib.Core.List.{List, [], ◌∷◌, ◌++◌, append-nil, append_assoc}
 use mathlib.Core.Logic.{◌⊎◌, inl, inr}
 use Rattle.std.specs.Prelude.{Result, Ok, Err, MatchResult, IsErr}
 use Prim.Native.Nat.{ℕ, suc, ◌+◌, ◌-◌, ◌≤◌, ◌<◌, min}
@@ -80,6 +80,10 @@ module _ {t t₁ : Text} {bs : List ℕ} where
         used = omega (arith, second.used, l, n);
         held = second.held ∙ ap₂ (λ (o : List ℕ) (k : ℕ). text_in o k cs) first.held u ∙ text_append bs cs t.out.now t.used;
       }
+
+  -- all of it fitted, and nothing follows
+  pub then_nothing : {x : Unit {0}} → Appended t bs (Ok x) t₁ → Appended t (bs ++ []) (Ok x) t₁
+  then_nothing {x} first = subst (λ (l : List ℕ). Appended t l (Ok x) t₁) (sym (append-nil bs)) first
 
   -- not all of the first fitted: nothing of what follows does
   pub then_full : {x : Full} {r : Result (Unit {0}) Full} (cs : List ℕ) → Appended t bs (Err x) t₁ → IsErr r → Appended t (bs ++ cs) r t₁
