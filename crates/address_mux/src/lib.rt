@@ -98,7 +98,7 @@ fn mux_level(
     Ok(())
 }
 
-// The first n candidates; levels are joined until one is left. The later of two that match wins.
+// The first n candidates; levels are joined until one is left, so the loop is no `for`. The later of two that match wins.
 fn mux_levels(
     recorder: &mut Recorder,
     works: &mut Works,

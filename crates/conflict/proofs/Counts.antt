@@ -1,5 +1,5 @@
 -- The steps of the three loops, and of what they call. Assumes nothing.
-use Prim.Native.Nat.{ℕ, suc, ◌+◌, ◌-◌, ◌*◌, ◌≤◌, ◌<◌}
+use Prim.Native.Nat.{ℕ, suc, ◌+◌, ◌*◌, ◌≤◌, ◌<◌}
 use mathlib.Core.Path.{◌≡◌, refl, sym, ◌∙◌, ap, ap₂}
 use mathlib.Core.Bool.{Bool, true, false}
 use mathlib.Core.List.{List, [], ◌∷◌, ◌++◌, append_assoc}
@@ -12,45 +12,19 @@ use lib.ListN.{length, get_or, set, take, drop, length-drop, take-append-drop}
 use lib.Seq.{drop-cons, take-set-le, drop-set-lt, drop-set-add, take-add}
 use borrow.Author.Tests.{lt-ltb, le-ltb}
 use Rattle.bits.specs.Bits.{pick}
-use Rattle.recorder.specs.declared.Cut.{Cut}
-use Rattle.recorder.specs.declared.Cut.TheVariants.{Record, End, Broken}
-use Rattle.recorder.specs.Read as read
-use Rattle.recorder.specs.Read.{split}
-use Rattle.recorder.specs.Standing.{cut_at, fields_at}
-use Rattle.recorder.proofs.Reading.{split_as, record_within}
 use Rattle.conflict.specs.Counting.{raised, tally, exceeds, lowest_from, restored}
 
 -- THE STATEMENTS
 
-abbrev pub left_from : List ℕ → ℕ → List (List ℕ)
-left_from l at = (split (drop at l)).records
-
-module _ (l : List ℕ) (at fields : ℕ) (e : Record fields ≡ cut_at l at) where
-  pub within : at + (fields + 1) ≤ length l
-  within = let h = record_within l at e in omega arith
-
-  left_next : left_from l at ≡ fields_at l at (fields + 1) ∷ left_from l (at + (fields + 1))
-  left_next =
-      let z : at + 1 + fields ≡ at + (fields + 1) = omega arith in
-      let k : fields ≡ fields + 1 - 1 = omega arith in
-      ap (λ (t : read.Cut). t.records) (split_as l at e)
-      ∙ ap₂ (λ (n j : ℕ). take n (drop (at + 1) l) ∷ left_from l j) k z
-
-  -- a loop over the statements: what is left to count
-  pub tally_next : (s s' : List ℕ) (i t : ℕ) → s' ≡ raised s i → i ≡ 4 * t → t ≡ get_or (fields_at l at (fields + 1)) 1 0 → tally s' (left_from l (at + (fields + 1))) ≡ tally s (left_from l at)
-  unfolding tally
-  tally_next s s' i t p q r =
-      ap (λ (x : List ℕ). tally x (left_from l (at + (fields + 1)))) (p ∙ ap (raised s) (q ∙ ap (λ (k : ℕ). 4 * k) r))
-      ∙ sym (ap (tally s) left_next)
-
-pub tally_stop : (l : List ℕ) (at : ℕ) (s : List ℕ) (c : Cut) → c ≡ cut_at l at → ((n : ℕ) → c ≡ Record n → ⊥) → tally s (left_from l at) ≡ s
+-- one statement of what is left to count
+pub tally_turn : (s : List ℕ) {s' : List ℕ} {xs ys : List (List ℕ)} {r : List ℕ} {i t : ℕ} → xs ≡ r ∷ ys → s' ≡ raised s i → i ≡ 4 * t → t ≡ get_or r 1 0 → tally s' ys ≡ tally s xs
 unfolding tally
-tally_stop l at s c e other = ap (tally s) (go c e other)
-  where
-    go : (c : Cut) → c ≡ cut_at l at → ((n : ℕ) → c ≡ Record n → ⊥) → left_from l at ≡ []
-    go (Record n) p other = absurd (other n refl)
-    go End p other = ap (λ (t : read.Cut). t.records) (split_as l at p)
-    go Broken p other = ap (λ (t : read.Cut). t.records) (split_as l at p)
+tally_turn s {ys = ys} e p q r = ap (λ (x : List ℕ). tally x ys) (p ∙ ap (raised s) (q ∙ ap (λ (k : ℕ). 4 * k) r)) ∙ sym (ap (tally s) e)
+
+-- none is left
+pub tally_out : {s : List ℕ} {xs : List (List ℕ)} → xs ≡ [] → tally s xs ≡ s
+unfolding tally
+tally_out {s} e = ap (tally s) e
 
 -- FOUR WORDS
 

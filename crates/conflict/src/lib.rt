@@ -5,12 +5,12 @@
 
 #![tactic(auto)]
 
-ghost use Rattle.std.specs.Prelude.{◌≡◌, ◌+◌, get_or};
-ghost use Rattle.recorder.specs.Standing.{fields_at};
+ghost use Rattle.std.specs.Prelude.{◌≡◌};
 ghost use Rattle.conflict.specs.Counting.{more, raised, counted, lowest_from, restored, exceeds};
 
-use recorder::Cut;
-use recorder::read::{cut, word};
+use recorder::Label;
+use recorder::read::word;
+use recorder::records::Records;
 
 // One statement more: 6 stands for two or more.
 fn more(count: u32) -> u32
@@ -32,23 +32,12 @@ fn raise(signals: &mut [u32], at: usize)
     }
 }
 
-// The target of the statement of so many fields at an index.
-fn target(stmts: &[u32], at: usize, fields: usize) -> u32
-    ensures { result ≡ get_or (fields_at stmts.now at (fields + 1)) 1 0 }
-{
-    if fields < 2 || stmts.len() <= at {
-        return 0;
-    }
-    word(stmts, at + 2)
-}
-
+// A statement's target is its second field.
 fn count_statements(signals: &mut [u32], stmts: &[u32])
     ensures { signals.new ≡ counted signals.old stmts.now }
 {
-    let mut at = 0;
-    while let Cut::Record(fields) = cut(stmts, at) {
-        raise(signals, 4 * target(stmts, at, fields) as usize);
-        at += fields + 1;
+    for fields in Records::new(stmts) {
+        raise(signals, 4 * word(fields, 1) as usize);
     }
 }
 
@@ -56,7 +45,11 @@ fn count_statements(signals: &mut [u32], stmts: &[u32])
 fn exceeding(count: u32, label: u32) -> bool
     ensures { result ≡ exceeds count label }
 {
-    if label == 0 { 4 < count } else { 5 < count }
+    if label == Label::Input as u32 {
+        4 < count
+    } else {
+        5 < count
+    }
 }
 
 fn lowest(signals: &[u32]) -> Option<usize>

@@ -36,6 +36,7 @@ impl Reserver<'_, '_> {
         if self.wires.len() <= i || self.places.len() <= i {
             return Err(Refusal::BufferTooShort(0));
         }
+        // A number of which one more does not fit a word.
         if held.lsb > 65535 || held.width > 65535 || held.signal.0 == 4294967295 {
             return Err(Refusal::BufferTooShort(0));
         }

@@ -55,6 +55,7 @@ impl<'a> Iterator for Members<'a> {
 
     ghost remaining = { item_count members_left };
 
+    // (The step of an iterator: a `for` would have to move `self` as well.)
     fn next(&mut self) -> Option<Cell<'a>> {
         while self.cell.number < self.end {
             let cell = self.cell;

@@ -83,7 +83,8 @@ impl Reserver<'_, '_> {
         self.reserve_scalar(label, owner, wire)
     }
 
-    // A signal for each of the wires in n fields that is not there yet.
+    // A signal for each of the wires in n fields that is not there yet. Not one function with `reserve_scalars`: a flag for what a wire that is
+    // there already means would be no plainer.
     pub fn reserve_absent(
         &mut self,
         label: Label,

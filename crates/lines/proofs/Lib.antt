@@ -1,2 +1,3 @@
 -- The laws of lines.
 pub mod Marked
+pub mod RecordLines

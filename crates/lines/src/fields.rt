@@ -32,5 +32,6 @@ pub fn put_fields(text: &mut Text<'_>, marks: &[u8], last: u8, fields: &[u32]) -
         let mark = marks.get(i).copied().unwrap_or(last);
         put_field(text, mark, *n)?;
     }
-    Ok(())
+    // No fields, either, fit past the buffer's end.
+    text.put(b"")
 }

@@ -50,5 +50,6 @@ pub fn put_list<R: Record>(text: &mut Text<'_>, list: &[u32]) -> Result<(), Full
     for (number, fields) in Records::new(list).enumerate() {
         put_line::<R>(text, number as u64, fields)?;
     }
-    Ok(())
+    // No lines, either, fit past the buffer's end.
+    text.put(b"")
 }

@@ -10,9 +10,8 @@ use listing::{put_first_line, put_list, put_refused_line, written};
 use lower_words::lower_words;
 use recorder::Tapes;
 use refusal::Refusal;
-use std::io;
 use std::io::Write;
-use text::Text;
+use text::{Full, Text};
 use words::{read_full, words_of};
 
 // Bytes that are no words: the lists are left zeros, as with any refusal. (Three lists stand one by one, as `lower_words` takes them.)
@@ -42,27 +41,34 @@ fn lower_bytes(
     lower_words(&words[..n], signals, exprs, stmts)
 }
 
-// The model, or the refusal.
-fn print<W: Write>(
+// Writes a text that fitted, and begins anew. Output that cannot be written is not reported, and what follows is still tried:
+// no `?`, which would end the program's output there.
+fn print<W: Write>(to: &mut W, text: &mut Text<'_>, put: Result<(), Full>) {
+    if put.is_ok() {
+        let _ = text.flush(to);
+    }
+    text.clear();
+}
+
+fn put_head(text: &mut Text<'_>, t: Tapes, signals: &[u32]) -> Result<(), Full> {
+    put_first_line(text, t.signals.count, t.exprs.count, t.stmts.count)?;
+    put_list::<Signal>(text, written(signals, t.signals))
+}
+
+fn print_model<W: Write>(
     to: &mut W,
     text: &mut Text<'_>,
-    bytes: &[u8],
-    signals: &mut [u32],
-    exprs: &mut [u32],
-    stmts: &mut [u32],
-) -> io::Result<()> {
-    match lower_bytes(bytes, signals, exprs, stmts) {
-        Ok(t) => {
-            put_first_line(text, t.signals.count, t.exprs.count, t.stmts.count)?;
-            put_list::<Signal>(text, written(signals, t.signals))?;
-            text.flush(to)?;
-            put_list::<Expression>(text, written(exprs, t.exprs))?;
-            text.flush(to)?;
-            put_list::<Statement>(text, written(stmts, t.stmts))?;
-        }
-        Err(x) => put_refused_line(text, x.number(), x.place())?,
-    }
-    text.flush(to)
+    t: Tapes,
+    signals: &[u32],
+    exprs: &[u32],
+    stmts: &[u32],
+) {
+    let head = put_head(text, t, signals);
+    print(to, text, head);
+    let middle = put_list::<Expression>(text, written(exprs, t.exprs));
+    print(to, text, middle);
+    let tail = put_list::<Statement>(text, written(stmts, t.stmts));
+    print(to, text, tail);
 }
 
 // A word of a list prints as 12 bytes at most, so that 262,144 hold the text of any of the three lists.
@@ -74,13 +80,12 @@ fn main(rt: HostRuntime) {
     let mut out = [0u8; 262144];
     let mut text = Text::new(&mut out);
     let n = read_full(&mut rt.stdin(), &mut bytes);
-    // Output that cannot be written is not reported.
-    let _ = print(
-        &mut rt.stdout(),
-        &mut text,
-        &bytes[..n],
-        &mut signals,
-        &mut exprs,
-        &mut stmts,
-    );
+    let mut to = rt.stdout();
+    match lower_bytes(&bytes[..n], &mut signals, &mut exprs, &mut stmts) {
+        Ok(t) => print_model(&mut to, &mut text, t, &signals, &exprs, &stmts),
+        Err(x) => {
+            let line = put_refused_line(&mut text, x.number(), x.place());
+            print(&mut to, &mut text, line);
+        }
+    }
 }

@@ -14,6 +14,7 @@ pub struct Pfumx {
     pub output: u32,
 }
 
+// The same shape as `Pfumx`; one type for both would lose the names that the two cells' inputs have.
 #[derive(Clone, Copy)]
 pub struct L6mux21 {
     pub data_zero: Bit,

@@ -2,7 +2,7 @@
 -- Assumes nothing.
 use mathlib.Core.Path.{◌≡◌, refl, ap, ap₂, sym, ◌∙◌, subst}
 use mathlib.Core.Bool.{Bool, true, false}
-use mathlib.Core.List.{List, [], ◌∷◌, ◌++◌, append_assoc}
+use mathlib.Core.List.{List, [], ◌∷◌, ◌++◌, append-nil, append_assoc}
 use mathlib.Core.Logic.{◌⊎◌, inl, inr}
 use Rattle.std.specs.Prelude.{Result, Ok, Err, MatchResult, IsErr}
 use Prim.Native.Nat.{ℕ, suc, ◌+◌, ◌-◌, ◌≤◌, ◌<◌, min}
@@ -81,6 +81,10 @@ module _ {t t₁ : Text} {bs : List ℕ} where
         held = second.held ∙ ap₂ (λ (o : List ℕ) (k : ℕ). text_in o k cs) first.held u ∙ text_append bs cs t.out.now t.used;
       }
 
+  -- all of it fitted, and nothing follows
+  pub then_nothing : {x : Unit {0}} → Appended t bs (Ok x) t₁ → Appended t (bs ++ []) (Ok x) t₁
+  then_nothing {x} first = subst (λ (l : List ℕ). Appended t l (Ok x) t₁) (sym (append-nil bs)) first
+
   -- not all of the first fitted: nothing of what follows does
   pub then_full : {x : Full} {r : Result (Unit {0}) Full} (cs : List ℕ) → Appended t bs (Err x) t₁ → IsErr r → Appended t (bs ++ cs) r t₁
   then_full {x} {r} cs first q =
@@ -96,11 +100,6 @@ module _ {t t₁ : Text} {bs : List ℕ} where
       cut : (r : Result (Unit {0}) Full) → IsErr r → length t.out.now < t.used + length (bs ++ cs) → MatchResult r (λ _. t.used + length (bs ++ cs) ≤ length t.out.now) (λ _. length t.out.now < t.used + length (bs ++ cs))
       cut (Ok x) q k = absurd (cc (q))
       cut (Err x) q k = k
-
--- no text at all
-pub then_nothing : (t : Text) → Appended t [] (Ok tt) t
-unfolding text_in
-then_nothing t = record { kept = refl; said = omega (arith, t.within); used = omega (arith, t.within); held = refl }
 
 -- another name for the text
 pub appended_as : {t t' : Text} {bs cs : List ℕ} {r : Result (Unit {0}) Full} → bs ≡ cs → Appended t bs r t' → Appended t cs r t'

@@ -7,7 +7,7 @@ use Rattle.std.specs.Prelude.{Result, Ok, Err, IsErr}
 use Rattle.text.specs.declared.Full.{Full}
 use Rattle.text.specs.declared.Text.{Text}
 use Rattle.text.specs.Text.{Appended}
-use Rattle.text.proofs.Appending.{then_text, then_full, then_nothing}
+use Rattle.text.proofs.Appending.{then_text, then_full}
 
 -- whoever puts the rest has put the whole
 pub record Going (t₀ : Text) (whole : List ℕ) (t : Text) (rest : List ℕ) : Type 0 where
@@ -29,6 +29,6 @@ module _ {t₀ t : Text} {whole : List ℕ} where
   pub going_stop : {bs : List ℕ} (rest : List ℕ) {x : Full} {r : Result (Unit {0}) Full} {t' : Text} → Going t₀ whole t (bs ++ rest) → Appended t bs (Err x) t' → IsErr r → Appended t₀ whole r t'
   going_stop rest g a q = g.on (then_full rest a q)
 
-  -- nothing is left
-  pub going_end : Going t₀ whole t [] → Appended t₀ whole (Ok tt) t
-  going_end g = g.on (then_nothing t)
+  -- nothing is left: to put that says whether the text stands within its buffer
+  pub going_end : {r : Result (Unit {0}) Full} {t' : Text} → Going t₀ whole t [] → Appended t [] r t' → Appended t₀ whole r t'
+  going_end g a = g.on a

@@ -1,5 +1,5 @@
 -- Bytes put behind a text in its buffer: those that fit, and whether all did.
-use Rattle.std.specs.Prelude.{List, ◌≡◌, ℕ, ◌+◌, ◌≤◌, ◌<◌, length, min, Result, MatchResult}
+use Rattle.std.specs.Prelude.{List, ◌≡◌, ℕ, ◌+◌, ◌≤◌, ◌<◌, length, max, min, Result, MatchResult}
 use Rattle.std.proofs.lemmas.List.Edits.{sets}
 use Rattle.text.specs.declared.Full.{Full}
 use Rattle.text.specs.declared.Text.{Text}
@@ -8,9 +8,9 @@ use Rattle.text.specs.declared.Text.{Text}
 unfoldable pub text_in : List ℕ → ℕ → List ℕ → List ℕ
 text_in out used bytes = sets out used bytes
 
--- a text that is full ends with its buffer
+-- a text that is full ends with its buffer; past the end nothing fits, and all stays
 pub record Appended (t : Text) (bytes : List ℕ) (r : Result (Unit {0}) Full) (t' : Text) : Type 0 where
   pub kept : t'.out.ghost_name ≡ t.out.ghost_name
   pub said : MatchResult r (λ _. t.used + length bytes ≤ length t.out.now) (λ _. length t.out.now < t.used + length bytes)
-  pub used : t'.used ≡ min (t.used + length bytes) (length t.out.now)
+  pub used : t'.used ≡ max t.used (min (t.used + length bytes) (length t.out.now))
   pub held : t'.out.now ≡ text_in t.out.now t.used bytes

@@ -2,7 +2,7 @@
 
 #![tactic(auto)]
 
-ghost use Rattle.std.specs.Prelude.{◌≡◌, ◌-◌, ◌≤◌, [], ◌∷◌, IsOk, length, drop, take};
+ghost use Rattle.std.specs.Prelude.{◌≡◌, ◌-◌, ◌<◌, ◌≤◌, [], ◌∷◌, IsErr, IsOk, length, drop, take};
 ghost use Rattle.std.specs.Io.KnownBytes.{Appends};
 ghost use Rattle.text.specs.Decimal.{decimal};
 
@@ -26,12 +26,11 @@ impl From<Full> for io::Error {
     }
 }
 
-// Text at the start of a lent buffer.
+// Text at the start of a lent buffer. `used` may be any place: past the buffer's end nothing fits, not even no bytes.
 #[derive(Drop)]
 pub struct Text<'a> {
     pub out: &'a mut [u8],
     pub used: usize,
-    ghost within: { used ≤ length out.now },
 }
 
 impl<'a> Text<'a> {
@@ -49,7 +48,7 @@ impl<'a> Text<'a> {
     pub fn room(&self) -> usize
         ensures { result ≡ length self.now.out.now - self.now.used }
     {
-        self.out.len() - self.used
+        self.out.len().saturating_sub(self.used)
     }
 
     pub fn put_byte(&mut self, byte: u8) -> Result<(), Full>
@@ -67,6 +66,9 @@ impl<'a> Text<'a> {
     pub fn put(&mut self, bytes: &[u8]) -> Result<(), Full>
         ensures { Appended self.old bytes.now result self.new }
     {
+        if self.out.len() < self.used {
+            return Err(Full);
+        }
         let fits = bytes.len().min(self.room());
         self.out[self.used..self.used + fits].copy_from_slice(&bytes[..fits]);
         self.used += fits;
@@ -89,7 +91,7 @@ impl<'a> Text<'a> {
     pub fn bytes(&self) -> &[u8]
         ensures { result.now ≡ take self.now.used self.now.out.now }
     {
-        &self.out[..self.used]
+        &self.out[..self.used.min(self.out.len())]
     }
 
     pub fn clear(&mut self)
@@ -100,16 +102,23 @@ impl<'a> Text<'a> {
         self.used = 0;
     }
 
-    // Writes the text to a writer, as the standard output, and begins anew.
+    // Writes the text to a writer, as the standard output, and begins anew. A text that is not written stays, and of one that
+    // stands past its buffer's end nothing is.
     pub fn flush<W: Write>(&mut self, to: &mut W) -> io::Result<()>
         ensures same_reference { self.new.out.ghost_name ≡ self.old.out.ghost_name }
         ensures same_bytes { self.new.out.now ≡ self.old.out.now }
-        ensures empty { self.new.used ≡ 0 }
+        ensures empty { IsOk result → self.new.used ≡ 0 }
+        ensures kept { IsErr result → self.new.used ≡ self.old.used }
         ensures written { IsOk result → Appends (W.contents to.old) (W.contents to.new) (take self.old.used self.old.out.now) }
+        ensures refused { length self.old.out.now < self.old.used → IsErr result }
+        ensures unwritten { length self.old.out.now < self.old.used → W.contents to.new ≡ W.contents to.old }
     {
-        let sent = to.write_all(self.bytes());
+        if self.out.len() < self.used {
+            return Err(io::Error::from(Full));
+        }
+        to.write_all(self.bytes())?;
         self.clear();
-        sent
+        Ok(())
     }
 }
 

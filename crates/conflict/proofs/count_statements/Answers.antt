@@ -1,19 +1,9 @@
-use Rattle.std.proofs.Common.{sym, ◌∙◌, arith, refl}
-use Rattle.conflict.proofs.Counts.{within, tally_next, tally_stop}
+use Rattle.std.proofs.Common.{refl, sym, ◌∙◌}
+use Rattle.conflict.proofs.Counts.{tally_turn, tally_out}
 use Rattle.conflict.proofs.count_statements.Goals as goal
 
-pub overflow_add-at : goal.overflow_add-at
-overflow_add-at c = omega (arith, within _ _ _ c.in-Record.ensures)
-
-pub overflow_add-at-in-Record : goal.overflow_add-at-in-Record
-overflow_add-at-in-Record c = omega (arith, within _ _ _ c.in-Record.ensures)
-
-pub loop-fields-smaller : goal.loop-fields-smaller
-loop-fields-smaller c = omega (arith, within _ _ _ c.in-Record.ensures)
-
 pub loop-fields-preserved : goal.loop-fields-preserved
-loop-fields-preserved c =
-    (within _ _ _ c.in-Record.ensures, tally_next _ _ _ c.in-Record.ensures _ _ _ _ c.raise.ensures refl c.target.ensures ∙ c.loop-fields.invariant.1)
+loop-fields-preserved c = tally_turn _ c.in-Some.ensures.steps c.raise.ensures refl c.word.ensures ∙ c.loop-fields.invariant
 
 pub returns : goal.returns
-returns c = sym (tally_stop _ _ _ _ c.cut.ensures c.in_default.not-Record) ∙ c.loop-fields.invariant.1
+returns c = sym (tally_out c.in-None.ensures.steps.0) ∙ c.loop-fields.invariant

@@ -1,11 +1,8 @@
-use Rattle.std.proofs.Common.{length, ◌-◌, ◌≡◌, ◌≤◌}
+use Rattle.std.proofs.Common.{◌≡◌}
 use Rattle.recorder.specs.Read.{split}
+use Rattle.recorder.specs.Records.{left}
 use Rattle.conflict.specs.Counting.{tally}
-use Rattle.conflict.proofs.Counts.{left_from}
 use Rattle.conflict.proofs.count_statements.Given as goal
 
 abbrev pub invariant-loop-fields : goal.invariant-loop-fields
-invariant-loop-fields l = (l.at ≤ length l.stmts) × (tally l.signals (left_from l.stmts l.at) ≡ tally l.initial.signals (split l.stmts).records)
-
-abbrev pub decreases-loop-fields : goal.decreases-loop-fields
-decreases-loop-fields l = length l.stmts - l.at
+invariant-loop-fields l = tally l.signals (left l.fields-iterator) ≡ tally l.initial.signals (split l.stmts).records

@@ -29,4 +29,4 @@ loop-number-preserved g c = record {
 }
 
 pub returns : goal.returns
-returns g c = going_end (going_as (lines_none _ _ c.in-None.ensures.steps.0.0) c.loop-number.invariant.going)
+returns g c = going_end (going_as (lines_none _ _ c.in-None.ensures.steps.0.0) c.loop-number.invariant.going) c.put.ensures

@@ -14,4 +14,4 @@ loop-i-preserved c =
     going_step (going_as (left_next _ _ _ _ mark c.loop-i-test.true) c.loop-i.invariant) c.in_ok-put_field.ensures
 
 pub returns : goal.returns
-returns c = going_end (going_as (left_end _ _ _ _ c.loop-i-test.false) c.loop-i.invariant)
+returns c = going_end (going_as (left_end _ _ _ _ c.loop-i-test.false) c.loop-i.invariant) c.put.ensures

@@ -9,7 +9,7 @@ returns-in_err-put_head g c = then_full _ c.in_err-put_head.ensures c.from_resid
 
 pub returns-in_default : goal.returns-in_default
 unfolding record_text
-returns-in_default g c = rw (nil_from_length _ c.in_default.ensures.cases) (then_text c.in_ok-put_head.ensures (then_nothing _))
+returns-in_default g c = rw (nil_from_length _ c.in_default.ensures.cases) (then_nothing c.in_ok-put_head.ensures)
 
 pub returns-in_err-put_name : goal.returns-in_err-put_name
 unfolding record_text

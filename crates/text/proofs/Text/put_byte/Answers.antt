@@ -8,4 +8,4 @@ unfolding text_in
 returns-then-self c = record { kept = refl; said = omega arith; used = omega arith; held = refl }
 
 pub returns-else-self : goal.returns-else-self
-returns-else-self c = record { kept = refl; said = omega arith; used = omega (arith, c.args.self.now.within); held = sym (text_past _ _ _ (omega arith)) }
+returns-else-self c = record { kept = refl; said = omega arith; used = omega arith; held = sym (text_past _ _ _ (omega arith)) }
