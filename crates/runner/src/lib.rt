@@ -30,7 +30,7 @@ ghost use Rattle.simulation.specs.Fault.{call_of};
 ghost use Rattle.simulation.specs.Model.{lists_of};
 ghost use Rattle.simulation.specs.Run.{fired_of, zeroed};
 ghost use Rattle.model_check.specs.Works.{SameWorks};
-ghost use Rattle.runner.specs.Calls.{Runs, Answers, RunsList};
+ghost use Rattle.runner.specs.Calls.{fired_by, Runs, Answers, RunsList};
 ghost use Rattle.runner.specs.Parts.{Unrefused, Tries};
 ghost use Rattle.runner.specs.Whole.{list_call};
 
@@ -38,6 +38,7 @@ use cut::check_call;
 use list::TickList;
 use model_check::call::Works;
 use prepare::prepare;
+use recorder::SignalId;
 use refusal::Refusal;
 use simulation::{Edge, Model};
 use tables::{CheckedModel, Tables};
@@ -46,6 +47,17 @@ use whole::run_list_with;
 
 // The largest width of a signal or an expression.
 pub const WIDEST: u32 = 4096;
+
+// What fires: nothing (0), or an edge (1 rises, 2 falls) of a signal.
+pub fn fired_by(fires: u32, signal: u32) -> Option<Edge>
+    ensures { fired_of result ≡ fired_by fires signal }
+{
+    let edge = fires.checked_sub(1)?;
+    Some(Edge {
+        signal: SignalId(signal),
+        edge,
+    })
+}
 
 // The tick of a call that nothing refuses but maybe a loop (13). The tables are work.
 fn run_checked(

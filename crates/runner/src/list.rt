@@ -14,9 +14,10 @@ ghost use Rattle.runner.specs.Parts.{tick_causes, is_made, RunsLate, RunsTicks, 
 ghost use Rattle.runner.specs.Plan.{Planned};
 
 use crate::code::Code;
+use crate::fired_by;
 use crate::late::tick_late;
 use crate::settling::settle;
-use crate::show::{end_of, fired_by, put_answer, show};
+use crate::show::{end_of, put_answer, show};
 use crate::tables::CheckedModel;
 use crate::ticks::tick;
 use model_check::call::tick_fault;

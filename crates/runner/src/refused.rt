@@ -11,8 +11,9 @@ ghost use Rattle.runner.specs.Calls.{output_width, handed};
 ghost use Rattle.runner.specs.Parts.{tick_causes, RunsTicks};
 ghost use Rattle.runner.specs.Whole.{among, Stopped};
 
+use crate::fired_by;
 use crate::list::{TickList, head_fault};
-use crate::show::{end_of, fired_by, ports_end, put_answer, show};
+use crate::show::{end_of, ports_end, put_answer, show};
 use model_check::call::input_total;
 use refusal::Refusal;
 use simulation::index::{count, wide};
