@@ -1,6 +1,5 @@
-use Rattle.std.proofs.Common.{ℕ, arith, refl, sym, ap, subst, ◌∙◌, replicate}
+use Rattle.std.proofs.Common.{ℕ, arith, refl, sym, ap, ◌∙◌, replicate}
 use Rattle.refusal.specs.declared.Refusal.TheVariants.{CombinationalLoop}
-use Rattle.recorder.specs.Lists.{Lists}
 use Rattle.std.specs.Prelude.{Ok, Err}
 use Rattle.runner.proofs.Lagging.{plan_kept}
 use Rattle.runner.proofs.Call.{fine, exprs_fit, signals_fit, values_fill, room, bytes_fill}
