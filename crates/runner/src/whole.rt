@@ -128,9 +128,7 @@ fn run_unrefused(
                 inputs,
                 list,
                 bytes,
-                works.bits,
-                works.exprs,
-                works.signals,
+                works,
                 answers,
                 shown,
             );

@@ -30,4 +30,4 @@ run_ticks-requires c =
     (room u (c.fill.auto.self ∙ c.encode-plan.auto.values), omega (arith, exprs_fit u k.result.expr_counted, c.prepare.auto.marks, c.encode-plan.auto.marks), omega (arith, signals_fit u k.result.signal_counted, c.encode-plan.auto.asked), c.encode-plan.ensures.ordered, c.in-Ok.ensures.unlooped, values_fill u ((c.fill.ensures.after (λ _ e. e)) ∙ ap (λ (k : ℕ). replicate k 0) c.encode-plan.auto.values), bytes_fill u, inputs_are w.fits c.input_total-inputs.ensures (omega (arith, c.well_formed)), w.fits.answers_enough, shown_room w.fits, w.fits.well_formed, plan_kept _ _ _ _ c.encode-plan.new.values c.fill.new.self k.result.expr_count k.result.signal_count _ c.encode-plan.ensures.planned c.fill.auto.self)
 
 pub returns-in-Ok-clause-runs : goal.returns-in-Ok-clause-runs
-returns-in-Ok-clause-runs c = ran_same c.new-checked.ensures c.run_ticks.ensures
+returns-in-Ok-clause-runs c = ran_same c.new-checked.ensures c.run_ticks.ensures.runs
