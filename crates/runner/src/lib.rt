@@ -14,13 +14,13 @@ mod list; // list.rt: a list of ticks
 mod lists; // lists.rt: what a plan lists
 mod loops; // loops.rt: the lowest signal on a loop
 mod marks; // marks.rt: what an expression needs, marked
-mod prepare; // prepare.rt: tables, order and loop of a model
+mod prepare; // prepare.rt: order and loop of a model
 mod refused; // refused.rt: a list of ticks of which none is made
 mod settling; // settling.rt: the values of all expressions
 mod show; // show.rt: what a list of ticks reads and shows
 mod sort; // sort.rt: an order of all expressions
 mod store; // store.rt: inputs and values in the signals' bytes
-mod tables; // tables.rt: a model and where its records and values stand
+mod tables; // tables.rt: the lent tables; a model and where its records and values stand
 mod ticks; // ticks.rt: one tick
 mod whole; // whole.rt: a whole list's run
 
@@ -120,6 +120,7 @@ fn run_with(
 }
 
 // One tick. Tables of 65,536 records and signals are this call's own; what lies behind them is found by walking the lists.
+// The buffers stand one by one, as the C interface hands them over.
 pub fn run(
     signals: &[u32],
     exprs: &[u32],
@@ -161,6 +162,7 @@ pub fn run(
 
 // A list of ticks on one model, checked and prepared once: three words a tick in `heads`, the bits of all in `bits`. The lent tables
 // are work: what they have no room for is found by walking the lists.
+// The buffers stand one by one, as the C interface hands them over.
 pub fn run_list(
     signals: &[u32],
     exprs: &[u32],

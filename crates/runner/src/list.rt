@@ -49,16 +49,7 @@ fn tick_either(
     ensures same { SameWorks works.old works.new }
 {
     match code {
-        Some(code) => tick_late(
-            m,
-            order,
-            code,
-            ticks,
-            fired,
-            bytes,
-            works.bits,
-            works.signals,
-        ),
+        Some(code) => tick_late(m, order, code, ticks, fired, bytes, works),
         None => tick(
             m,
             order,
