@@ -5,7 +5,6 @@ ghost use Rattle.bits.specs.Bits.{pick};
 ghost use Rattle.refusal.specs.Refusal.{number_of, place_of};
 ghost use Rattle.simulation.specs.Run.{answer_of as ran_of, fired_of};
 ghost use Rattle.converter.specs.Entry.{answer_of};
-ghost use Rattle.runner.specs.Calls.{fired_by};
 ghost use Rattle.capi.specs.Answer.{refusal_numbers, numbers_of, Hands, or_no_room, or_no_room_ran};
 
 use recorder::{SignalId, Tapes};
@@ -114,14 +113,4 @@ pub fn hand_ran(buffer: &mut [u64], r: Result<(), Refusal>) -> usize
         }
         Err(x) => put_refusal(buffer, x),
     }
-}
-
-pub fn fired_by(fires: u32, signal: u32) -> Option<Edge>
-    ensures { fired_of result ≡ fired_by fires signal }
-{
-    let edge = fires.checked_sub(1)?;
-    Some(Edge {
-        signal: SignalId(signal),
-        edge,
-    })
 }

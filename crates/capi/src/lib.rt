@@ -15,8 +15,8 @@ ghost use Rattle.simulator.specs.Entry.{simulation, Zeroed};
 ghost use Rattle.capi.specs.Answer.{HandsLowered, HandsRan, HandsSimulated};
 
 use converter::lower;
-use hand::{fired_by, fired_for, hand_lowered, hand_ran, lowered_for, ran_for, words_for};
-use runner::run;
+use hand::{fired_for, hand_lowered, hand_ran, lowered_for, ran_for, words_for};
+use runner::{fired_by, run};
 use simulator::simulate;
 
 // A netlist's model in the three lists.

@@ -28,11 +28,7 @@ fn assign_all(
 }
 
 // A JTAGG: all its outputs are 0, but reset_n, the last assigned, is 1.
-pub fn emit_idle_jtagg(
-    recorder: &mut Recorder,
-    map: WireMap,
-    fields: Fields,
-) -> Result<(), Refusal>
+pub fn emit_idle_jtagg(recorder: &mut Recorder, map: WireMap, fields: Fields) -> Result<(), Refusal>
     ensures { Writes recorder.old (emit_idle_jtagg (wires_in map.entry) (wires_at fields.entry.words.now (fields.entry.at + 1) 9)) (stated result) recorder.new }
 {
     assign_all(recorder, map, fields, 1, 6, ExprId::ZERO)?;

@@ -24,13 +24,11 @@ use Rattle.recorder.specs.Words.{raw_of}
 use Rattle.recorder.specs.Read.{only, read_stmt, model_of}
 use Rattle.recorder.specs.Evaluate.{Signals}
 use Rattle.recorder.proofs.Roundtrip.{stmt_said}
-use Rattle.recorder.specs.declared.SignalId.{SignalId}
-use Rattle.simulation.specs.Run.{fired_of, firing}
 use Rattle.simulation.specs.Wellformed.{wide, broad, suits, reset_fits, enable_fits, stmt_fits, count_of, or_else}
 use Rattle.simulation.specs.Tick.{target, values_in, asserted, reset_loads, enabled, Firing, loads}
 use Rattle.simulation.specs.Sound.{AllFrom, on, signal_widths}
 use Rattle.simulation.specs.Index.{size_at, records_in, widths_in, offset, start_of, Indexed, stmts_in}
-use Rattle.simulation.proofs.Steps.{Walked, walked_start, walked_next, walked_there, walked_out, walked_end, length_widths}
+use Rattle.simulation.proofs.Steps.{Walked, walked_start, walked_next, walked_there, walked_out, length_widths}
 use Rattle.simulation.proofs.Sound.{stmts_read}
 use Rattle.simulation.proofs.Stores.{store, stores, one_each, stores_is_commit}
 use Rattle.simulation.proofs.Kept.{Gives}
@@ -480,9 +478,6 @@ module _ {signals stmts : List ℕ} {f : Firing} {bytes marks₀ : List ℕ} {wo
   pub noting_out : {size : ℕ} → size ≡ size_at stmts word → size ≡ 0 → Noted signals stmts f bytes (length (records_in stmts)) marks
   noting_out {size} e z = subst (λ (n : ℕ). Noted signals stmts f bytes n marks) (walked_out g.walked size e z) g.so_far
 
-  pub noting_end : length stmts ≤ word → Noted signals stmts f bytes (length (records_in stmts)) marks
-  noting_end h = subst (λ (n : ℕ). Noted signals stmts f bytes n marks) (walked_end g.walked h).0 g.so_far
-
   module _ {size : ℕ} (e : size ≡ size_at stmts word) (d : size ≡ 0 → ⊥) where
     pub noting_begins : Begins stmts word
     noting_begins = record { number = g.number; there = walked_there g.walked size e d; begins = g.walked.begins }
@@ -609,9 +604,6 @@ module _ {signals exprs stmts values marks bytes₀ : List ℕ} {word : ℕ} {by
 
   pub loading_out : {size : ℕ} → size ≡ size_at stmts word → size ≡ 0 → StoresMarked signals exprs stmts values marks bytes₀ bytes
   loading_out {size} e z = done (walked_out g.walked size e z)
-
-  pub loading_end : length stmts ≤ word → StoresMarked signals exprs stmts values marks bytes₀ bytes
-  loading_end h = done (walked_end g.walked h).0
 
   pub loading_room : Room signals exprs bytes₀ values → Room signals exprs bytes values
   loading_room r = record { bytes_room = omega (arith, r.bytes_room, g.as_long); values_room = r.values_room }

@@ -13,11 +13,11 @@ use Rattle.simulation.specs.Run.{total}
 use Rattle.simulation.specs.Index.{size_at, records_in, widths_in, offset, start_of}
 use Rattle.simulation.proofs.Offsets.{offset_next, offset_le}
 use Rattle.simulation.proofs.Found.{read_count, read_at}
-use Rattle.simulation.proofs.Steps.{Walked, walked_there, walked_within, width_of}
+use Rattle.simulation.proofs.Steps.{Walked, walked_there, width_of}
 use Rattle.evaluation.specs.Ticks.{signals_in, ReadSignals}
 use Rattle.evaluation.specs.Late.{no_signal, signal_at, PortsBefore}
 use Rattle.evaluation.proofs.Evaluating.{offset_before}
-use Rattle.evaluation.proofs.Whole.{record_inside, record_word}
+use Rattle.evaluation.proofs.Whole.{record_word}
 
 module _ {signals : List ℕ} (h : ReadSignals signals) where
   pub signals_long : length (signals_in signals) ≡ length (records_in signals)
@@ -28,25 +28,15 @@ module _ {signals : List ℕ} (h : ReadSignals signals) where
   unfolding start_of
   no_port {at} {count} p g w k a b = p.none_behind k b (omega (arith, w, g.begins, offset_le (map (λ (r : List ℕ). length r + 1) (records_in signals)) count k a))
 
-  -- the end is such a word
-  pub ports_all : PortsBefore signals (length signals)
-  ports_all = record { inside = omega arith; none_behind = λ k q h. absurd (omega (arith, h, record_inside signals k q)) }
-
   module _ {at k : ℕ} (g : Walked signals at k) {size : ℕ} (e : size ≡ size_at signals at) (d : size ≡ 0 → ⊥) where
     pub signal_there : k < length (records_in signals)
     signal_there = walked_there g size e d
-
-    pub signal_step : at + size ≤ length signals
-    signal_step = walked_within g size e d
 
     said : signal_words (signal_at signals k) ≡ sized (get_or (records_in signals) k [])
     said = signal_said (get_or (records_in signals) k []) (read_at read_signal (records_in signals) h.readable k signal_there no_signal)
 
     four : length (sized (get_or (records_in signals) k [])) ≡ 4
     four = ap length (sym said)
-
-    pub signal_inside : at + 4 ≤ length signals
-    signal_inside = omega (arith, g.begins, four, record_inside signals k signal_there)
 
     word : (j : ℕ) → j < 4 → get_or signals (at + j) 0 ≡ get_or (signal_words (signal_at signals k)) j 0
     word j q = ap (λ (n : ℕ). get_or signals (n + j) 0) g.begins ∙ record_word signals k signal_there j (omega (arith, four)) ∙ ap (λ (ws : List ℕ). get_or ws j 0) (sym said)

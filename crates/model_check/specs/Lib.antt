@@ -1,1 +1,2 @@
 -- The specs of model_check.
+pub mod Works

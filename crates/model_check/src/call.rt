@@ -6,6 +6,7 @@ ghost use Rattle.simulation.specs.Model.{lists_of};
 ghost use Rattle.recorder.specs.Read.{only};
 ghost use Rattle.simulation.specs.Wellformed.{or_else};
 ghost use Rattle.simulation.specs.Run.{answer_of, fired_of, no_bit, wrong_count, wrong_fired, first_of, zeroed};
+ghost use Rattle.model_check.specs.Works.{SameWorks, OthersKept};
 ghost use Rattle.simulation.specs.Fault.{width_total, input_field, input_total, length_causes, tick_causes, bit_causes, call_causes, call_of, checked_by};
 
 use crate::check::malformed;
@@ -14,6 +15,25 @@ use refusal::Refusal;
 use simulation::index::{count, sum_to, wide};
 use simulation::records::Records;
 use simulation::{Edge, Model};
+
+// What a call works in: a byte for each bit of all expressions, for each expression, for each signal.
+#[derive(Drop)]
+pub struct Works<'a> {
+    pub bits: &'a mut [u8],
+    pub exprs: &'a mut [u8],
+    pub signals: &'a mut [u8],
+}
+
+impl Works<'_> {
+    pub fn clear(&mut self)
+        ensures cleared { (self.new.bits.now ≡ zeroed self.old.bits.now) × (self.new.exprs.now ≡ zeroed self.old.exprs.now) × (self.new.signals.now ≡ zeroed self.old.signals.now) }
+        ensures same { SameWorks self.old self.new }
+    {
+        self.bits.fill(0);
+        self.exprs.fill(0);
+        self.signals.fill(0);
+    }
+}
 
 fn too_short(n: usize, buffer: &[u8]) -> Result<(), Refusal>
     ensures { answer_of result ≡ only (ltb (length buffer.now) n) (Some (1, n)) }
@@ -32,19 +52,13 @@ fn width_total(list: &[u32]) -> usize
 }
 
 // Refusal 1: the first buffer that is too short.
-pub fn call_lengths(
-    m: Model,
-    bytes: &[u8],
-    work_bits: &[u8],
-    work_exprs: &[u8],
-    work_signals: &[u8],
-) -> Result<(), Refusal>
-    ensures { answer_of result ≡ first_of (length_causes m.entry.signals.now m.entry.exprs.now bytes.now work_bits.now work_exprs.now work_signals.now) }
+pub fn call_lengths(m: Model, bytes: &[u8], works: &Works) -> Result<(), Refusal>
+    ensures { answer_of result ≡ first_of (length_causes m.entry.signals.now m.entry.exprs.now bytes.now works.now.bits.now works.now.exprs.now works.now.signals.now) }
 {
     too_short(width_total(m.signals), bytes)?;
-    too_short(width_total(m.exprs), work_bits)?;
-    too_short(count(m.exprs), work_exprs)?;
-    too_short(count(m.signals), work_signals)
+    too_short(width_total(m.exprs), works.bits)?;
+    too_short(count(m.exprs), works.exprs)?;
+    too_short(count(m.signals), works.signals)
 }
 
 // The first byte that is no bit.
@@ -147,13 +161,11 @@ fn call_fault(
     bytes: &[u8],
     ticks: &[u8],
     fired: Option<Edge>,
-    work_bits: &[u8],
-    work_exprs: &[u8],
-    work_signals: &[u8],
+    works: &Works,
 ) -> Result<(), Refusal>
-    ensures { answer_of result ≡ call_causes (call_of (lists_of m.entry) bytes.now ticks.now (fired_of fired) work_bits.now work_exprs.now work_signals.now) }
+    ensures { answer_of result ≡ call_causes (call_of (lists_of m.entry) bytes.now ticks.now (fired_of fired) works.now.bits.now works.now.exprs.now works.now.signals.now) }
 {
-    call_lengths(m, bytes, work_bits, work_exprs, work_signals)?;
+    call_lengths(m, bytes, works)?;
     bits(m.signals, bytes, ticks, fired)
 }
 
@@ -165,16 +177,16 @@ pub fn check_call(
     bytes: &[u8],
     ticks: &[u8],
     fired: Option<Edge>,
-    work_bits: &[u8],
-    work_exprs: &[u8],
-    work_signals: &mut [u8],
+    works: &mut Works,
     widest: u32,
 ) -> Result<(), Refusal>
-    ensures answer { answer_of result ≡ checked_by widest (call_of (lists_of m.entry) bytes.now ticks.now (fired_of fired) work_bits.now work_exprs.now work_signals.old) }
-    ensures zeros { (signal_table.new ≡ zeroed signal_table.old) × (expr_table.new ≡ zeroed expr_table.old) × (work_signals.new ≡ zeroed work_signals.old) }
+    ensures answer { answer_of result ≡ checked_by widest (call_of (lists_of m.entry) bytes.now ticks.now (fired_of fired) works.old.bits.now works.old.exprs.now works.old.signals.now) }
+    ensures zeros { (signal_table.new ≡ zeroed signal_table.old) × (expr_table.new ≡ zeroed expr_table.old) × (works.new.signals.now ≡ zeroed works.old.signals.now) }
+    ensures kept { OthersKept works.old works.new }
+    ensures same { SameWorks works.old works.new }
 {
-    match malformed(m, signal_table, expr_table, work_signals, widest) {
+    match malformed(m, signal_table, expr_table, works.signals, widest) {
         Some(n) => Err(Refusal::MalformedModel(n)),
-        None => call_fault(m, bytes, ticks, fired, work_bits, work_exprs, work_signals),
+        None => call_fault(m, bytes, ticks, fired, works),
     }
 }

@@ -1,6 +1,6 @@
 -- One call: what its checks leave, and what it answers. Assumes nothing.
 use Prim.Native.Nat.{ℕ, zero, suc, ◌+◌, ◌-◌, ◌≤◌}
-use mathlib.Core.Path.{◌≡◌, refl, sym, ◌∙◌, ap, ap₂}
+use mathlib.Core.Path.{◌≡◌, refl, sym, ◌∙◌, ap, ap₂, subst}
 use mathlib.Core.Bool.{false}
 use mathlib.Core.List.{List, [], ◌∷◌, ◌++◌, map, map-append}
 use Rattle.std.specs.Prelude.{Option, None, Some}
@@ -132,6 +132,13 @@ module _ {signals exprs stmts bytes ticks : List ℕ} {fired : Option (ℕ × �
     left = (t.ticks_to _ _ holds).begin ∙ ap (bytes_after (call_of (lists signals exprs stmts) bytes ticks fired [] [] [])) (ap on_loop (sym q));
   }
 
+-- on the same lists
+pub same_lists : {l l' : Lists} {bytes ticks : List ℕ} {fired : Option (ℕ × ℕ)} {wb we ws : List ℕ} → l ≡ l' → Unrefused l' bytes ticks fired wb we ws → Unrefused l bytes ticks fired wb we ws
+same_lists {bytes = bytes} {ticks} {fired} {wb} {we} {ws} e u = subst (λ (x : Lists). Unrefused x bytes ticks fired wb we ws) (sym e) u
+
+pub tried_same : {l l' : Lists} {bytes ticks : List ℕ} {fired : Option (ℕ × ℕ)} {r : Ran} {bytes' : List ℕ} → l ≡ l' → Tries l bytes ticks fired r bytes' → Tries l' bytes ticks fired r bytes'
+tried_same {bytes = bytes} {ticks} {fired} {r} {bytes'} e t = subst (λ (x : Lists). Tries x bytes ticks fired r bytes') e t
+
 -- ALL OF A CALL
 
 module _ (c : Call) where
@@ -169,8 +176,14 @@ module _ (c : Call) where
       same_after (Some x) = refl
 
   -- works of the same length
-  pub same_works : {ws : List ℕ} → length ws ≡ length c.work_signals → Unrefused c.lists c.bytes c.ticks c.fired c.work_bits c.work_exprs c.work_signals → Unrefused c.lists c.bytes c.ticks c.fired c.work_bits c.work_exprs ws
-  same_works e u = record { well_formed = u.well_formed; bytes_enough = u.bytes_enough; enough = (u.enough.0, u.enough.1, (let h = u.enough.2 in omega (arith, h, e))); bits = u.bits; no_cause = u.no_cause }
+  pub same_works : {wb we ws : List ℕ} → wb ≡ c.work_bits → we ≡ c.work_exprs → ws ≡ zeroed c.work_signals → Unrefused c.lists c.bytes c.ticks c.fired c.work_bits c.work_exprs c.work_signals → Unrefused c.lists c.bytes c.ticks c.fired wb we ws
+  same_works p q e u = record {
+    well_formed = u.well_formed;
+    bytes_enough = u.bytes_enough;
+    enough = ((let h = u.enough.0 in omega (arith, h, ap length p)), (let h = u.enough.1 in omega (arith, h, ap length q)), (let h = u.enough.2 in omega (arith, h, ap length e ∙ length-replicate {A = ℕ} (length c.work_signals) 0)));
+    bits = u.bits;
+    no_cause = u.no_cause;
+  }
 
   pub runs : {r : Ran} {bytes' wb' we' ws' : List ℕ} → Answers c r bytes' → wb' ≡ zeroed c.work_bits → we' ≡ zeroed c.work_exprs → ws' ≡ zeroed c.work_signals → Runs c r bytes' wb' we' ws'
   unfolding run

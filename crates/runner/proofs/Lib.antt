@@ -14,3 +14,4 @@ pub mod Along
 pub mod Listing
 pub mod Planning
 pub mod Turns
+pub mod Works

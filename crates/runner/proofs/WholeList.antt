@@ -156,10 +156,10 @@ module _ (c : ListCall) where
           }
 
   -- with works of the same length
-  pub checked_none : {k r : Ran} {ws : List ℕ} → answer_of k ≡ list_answer largest c → k ≡ r → answer_of r ≡ None → length ws ≡ length c.work_signals → ListFits c.lists c.heads c.bytes c.work_bits c.work_exprs ws c.answers c.shown
-  checked_none q e n w =
+  pub checked_none : {k r : Ran} {wb we ws : List ℕ} → answer_of k ≡ list_answer largest c → k ≡ r → answer_of r ≡ None → length wb ≡ length c.work_bits → length we ≡ length c.work_exprs → length ws ≡ length c.work_signals → ListFits c.lists c.heads c.bytes wb we ws c.answers c.shown
+  checked_none q e n wb_long we_long ws_long =
       let u = fitting (sym n ∙ ap answer_of (sym e) ∙ q) in
-      record { well_formed = u.well_formed; bytes_enough = u.bytes_enough; enough = (u.enough.0, u.enough.1, (let h = u.enough.2 in omega (arith, h, w))); answers_enough = u.answers_enough; shown_enough = u.shown_enough }
+      record { well_formed = u.well_formed; bytes_enough = u.bytes_enough; enough = ((let h = u.enough.0 in omega (arith, h, wb_long)), (let h = u.enough.1 in omega (arith, h, we_long)), (let h = u.enough.2 in omega (arith, h, ws_long))); answers_enough = u.answers_enough; shown_enough = u.shown_enough }
 
   -- refused
   pub list_refused : (x : ℕ × ℕ) {k r : Ran} → answer_of k ≡ list_answer largest c → k ≡ r → answer_of r ≡ Some x → Leaves c (list_answer largest c) r c.bytes c.answers c.shown
@@ -173,6 +173,11 @@ module _ (c : ListCall) where
       let w = (fitting f).enough in
       record { left = outcome_same a (t.bytes_are c.work_bits c.work_exprs c.work_signals w) (t.answers_are c.work_bits c.work_exprs c.work_signals w) (t.shown_are c.work_bits c.work_exprs c.work_signals w) ∙ ap (leaves c) f }
 
+-- how many bits a tick has, if there are signal bytes enough
+pub inputs_in : (l : Lists) → malformed largest l ≡ None → (bytes : List ℕ) → signal_bytes (model_of (raw_of l)) ≤ length bytes → {sum : ℕ} → sum ≡ min (input_total l.signals) 18446744073709551615 → length bytes < 18446744073709551615 → sum ≡ total input_width (signals_in l.signals)
+unfolding model_of
+inputs_in l h bytes b {sum} e q = input_fits l.signals sum (length bytes) e (le_trans (le_of_eq (sym (bytes_same largest (other l) h))) b) q ∙ sym (ticks_same largest (other l) h)
+
 -- THE TICKS OF A LIST THAT NOTHING REFUSES AS A WHOLE
 
 zeros_bits : (k n : ℕ) → no_bit k (replicate n 0) ≡ None
@@ -183,12 +188,8 @@ module _ {signals exprs stmts heads bytes wb we ws answers shown : List ℕ} (u 
   abbrev l : Lists
   l = lists signals exprs stmts
 
-  pub bytes_room : width_total signals ≤ length bytes
-  bytes_room = le_trans (le_of_eq (sym (bytes_same largest (other l) u.well_formed))) u.bytes_enough
-
   pub inputs_are : {sum : ℕ} → sum ≡ min (input_total signals) 18446744073709551615 → length bytes < 18446744073709551615 → sum ≡ total input_width (signals_in signals)
-  unfolding model_of
-  inputs_are {sum} e q = input_fits signals sum (length bytes) e bytes_room q ∙ sym (ticks_same largest (other l) u.well_formed)
+  inputs_are e q = inputs_in l u.well_formed bytes u.bytes_enough e q
 
   pub shown_room : total output_width (signals_in signals) * (length heads / 3) ≤ length shown
   shown_room = le_trans (le_of_eq (ap (λ (n : ℕ). n * (length heads / 3)) (sym (outputs_same l)))) u.shown_enough
@@ -209,6 +210,16 @@ module _ {signals exprs stmts heads bytes wb we ws answers shown : List ℕ} (u 
   -- all signal bytes are bits
   pub unrefused : {k d : Ran} → answer_of k ≡ no_bit 0 (take (width_total signals) bytes) → k ≡ d → answer_of d ≡ None → ListUnrefused (lists signals exprs stmts) heads bytes wb we ws answers shown
   unrefused q e n = record { fits = u; bits = sym (byte_so (sym n ∙ ap answer_of (sym e) ∙ q)) }
+
+-- on the same lists
+pub same_list : {l l' : Lists} {heads bytes wb we ws answers shown : List ℕ} → l ≡ l' → ListUnrefused l' heads bytes wb we ws answers shown → ListUnrefused l heads bytes wb we ws answers shown
+same_list {heads = heads} {bytes} {wb} {we} {ws} {answers} {shown} e u = subst (λ (x : Lists). ListUnrefused x heads bytes wb we ws answers shown) (sym e) u
+
+pub stopped_same : {l l' : Lists} {bytes : List ℕ} {ahead behind : Option (ℕ × ℕ)} → l ≡ l' → Stopped l bytes ahead behind → Stopped l' bytes ahead behind
+stopped_same {bytes = bytes} {ahead} {behind} e s = subst (λ (x : Lists). Stopped x bytes ahead behind) e s
+
+pub ran_same : {l l' : Lists} {heads bits bytes bytes' answers answers' shown shown' : List ℕ} → l ≡ l' → RunsTicks l heads bits bytes bytes' answers answers' shown shown' → RunsTicks l' heads bits bytes bytes' answers answers' shown shown'
+ran_same {heads = heads} {bits} {bytes} {bytes'} {answers} {answers'} {shown} {shown'} e t = subst (λ (x : Lists). RunsTicks x heads bits bytes bytes' answers answers' shown shown') e t
 
 module _ {signals exprs stmts heads bytes wb we ws answers shown : List ℕ} (u : ListUnrefused (lists signals exprs stmts) heads bytes wb we ws answers shown) where
   abbrev l₁ : Lists

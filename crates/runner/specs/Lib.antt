@@ -1,4 +1,5 @@
 -- The specs of runner.
+pub mod Tables
 pub mod Calls
 pub mod Parts
 pub mod Whole

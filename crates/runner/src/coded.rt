@@ -8,6 +8,7 @@ ghost use Rattle.evaluation.specs.Ticks.{Filled};
 ghost use Rattle.coding.specs.Coded.{bits_in, Coded, SettlesCode, looked as looked_in, looked_up};
 
 use crate::bytes::copy;
+use crate::code::Code;
 use crate::expression::eval_expr;
 use crate::tables::CheckedModel;
 use simulation::index::wide;
@@ -38,21 +39,20 @@ fn look_up(order: &[u32], at: usize, values: &mut [u8])
     values[wide(order[at + 1])] = looked(order[at], a, b, c, d);
 }
 
-// Along k code words, from a word on, over the signals' bytes; `base` and `state` are the bits of all expressions and signals.
+// Along k of the code's words, from a word on, over the signals' bytes.
 pub fn settle_coded(
     m: &CheckedModel,
     order: &[u32],
     from: usize,
     k: usize,
-    base: usize,
-    state: usize,
+    code: Code,
     bytes: &[u8],
     values: &mut [u8],
 )
-    requires { Room m.now.signals.now m.now.exprs.now bytes.now values.old × Coded m.now.signals.now m.now.exprs.now m.now.stmts.now m.now.expr_count from k order.now × (base ≡ bits_in m.now.exprs.now) × (state ≡ bits_in m.now.signals.now) × (bits_in m.now.exprs.now + bits_in m.now.signals.now ≤ length values.old) × (looped (model_in m.now.signals.now m.now.exprs.now m.now.stmts.now) ≡ None) × Filled (widths_in m.now.exprs.now) values.old }
+    requires { Room m.now.signals.now m.now.exprs.now bytes.now values.old × Coded m.now.signals.now m.now.exprs.now m.now.stmts.now m.now.expr_count from k order.now × (code.base ≡ bits_in m.now.exprs.now) × (code.state ≡ bits_in m.now.signals.now) × (bits_in m.now.exprs.now + bits_in m.now.signals.now ≤ length values.old) × (looped (model_in m.now.signals.now m.now.exprs.now m.now.stmts.now) ≡ None) × Filled (widths_in m.now.exprs.now) values.old }
     ensures { SettlesCode m.now.signals.now m.now.exprs.now m.now.stmts.now order.now from k bytes.now values.new }
 {
-    copy(values, base, bytes, 0, state);
+    copy(values, code.base, bytes, 0, code.state);
     for j in 0..k {
         let e = wide(order[from + j]);
         let at = m.expr_count + 6 * e;

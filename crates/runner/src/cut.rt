@@ -1,10 +1,13 @@
 // The checks of a model and of a call, lent no more of the tables than the lists can need: what is lent is cleared.
 ghost use Rattle.std.specs.Prelude.{◌≡◌};
-ghost use Rattle.simulation.specs.Wellformed.{malformed as malformed_by};
+ghost use Rattle.simulation.specs.Wellformed.{largest, malformed as malformed_by};
 ghost use Rattle.simulation.specs.Fault.{call_of, checked_by};
 ghost use Rattle.simulation.specs.Model.{lists_of};
 ghost use Rattle.simulation.specs.Run.{answer_of, fired_of, zeroed};
+ghost use Rattle.model_check.specs.Works.{SameWorks, OthersKept};
 
+use crate::WIDEST;
+use model_check::call::Works;
 use model_check::{call, check};
 use refusal::Refusal;
 use simulation::{Edge, Model};
@@ -15,9 +18,8 @@ pub fn malformed(
     signal_table: &mut [u32],
     expr_table: &mut [u32],
     bytes: &mut [u8],
-    widest: u32,
 ) -> Option<usize>
-    ensures fault { result ≡ malformed_by widest (lists_of m.entry) }
+    ensures fault { result ≡ malformed_by largest (lists_of m.entry) }
     ensures zeros { bytes.new ≡ zeroed bytes.old }
 {
     let s = m.signals.len().min(signal_table.len());
@@ -27,7 +29,7 @@ pub fn malformed(
         &mut signal_table[..s],
         &mut expr_table[..e],
         bytes,
-        widest,
+        WIDEST,
     )
 }
 
@@ -39,13 +41,12 @@ pub fn check_call(
     bytes: &[u8],
     ticks: &[u8],
     fired: Option<Edge>,
-    work_bits: &[u8],
-    work_exprs: &[u8],
-    work_signals: &mut [u8],
-    widest: u32,
+    works: &mut Works,
 ) -> Result<(), Refusal>
-    ensures answer { answer_of result ≡ checked_by widest (call_of (lists_of m.entry) bytes.now ticks.now (fired_of fired) work_bits.now work_exprs.now work_signals.old) }
-    ensures zeros { work_signals.new ≡ zeroed work_signals.old }
+    ensures answer { answer_of result ≡ checked_by largest (call_of (lists_of m.entry) bytes.now ticks.now (fired_of fired) works.old.bits.now works.old.exprs.now works.old.signals.now) }
+    ensures zeros { works.new.signals.now ≡ zeroed works.old.signals.now }
+    ensures kept { OthersKept works.old works.new }
+    ensures same { SameWorks works.old works.new }
 {
     let s = m.signals.len().min(signal_table.len());
     let e = m.exprs.len().min(expr_table.len());
@@ -56,9 +57,7 @@ pub fn check_call(
         bytes,
         ticks,
         fired,
-        work_bits,
-        work_exprs,
-        work_signals,
-        widest,
+        works,
+        WIDEST,
     )
 }

@@ -7,6 +7,7 @@ ghost use Rattle.simulation.specs.Tick.{looped};
 ghost use Rattle.evaluation.specs.Ready.{Prepared, Room, model_in};
 ghost use Rattle.evaluation.specs.Ticks.{Filled, GoodTicks};
 ghost use Rattle.evaluation.specs.Late.{TicksLate};
+ghost use Rattle.model_check.specs.Works.{SameWorks};
 ghost use Rattle.runner.specs.Plan.{Planned};
 ghost use Rattle.runner.specs.Parts.{LoadsAfter, ShowsAfter};
 
@@ -15,6 +16,7 @@ use crate::coded::settle_coded;
 use crate::commit::commit_listed;
 use crate::store::{set_inputs, store_listed};
 use crate::tables::CheckedModel;
+use model_check::call::Works;
 use simulation::Edge;
 
 // The registers load, over signals whose inputs are set.
@@ -36,8 +38,7 @@ fn load_late(
         order,
         7 * m.expr_count + 3 * m.signal_count,
         code.first,
-        code.base,
-        code.state,
+        code,
         bytes,
         values,
     );
@@ -72,8 +73,7 @@ fn show_late(m: &CheckedModel, order: &[u32], code: Code, bytes: &mut [u8], valu
         order,
         8 * m.expr_count + 3 * m.signal_count,
         code.second,
-        code.base,
-        code.state,
+        code,
         bytes,
         values,
     );
@@ -95,14 +95,14 @@ pub fn tick_late(
     ticks: &[u8],
     fired: Option<Edge>,
     bytes: &mut [u8],
-    values: &mut [u8],
-    marks: &mut [u8],
+    works: &mut Works,
 )
-    requires { Room m.now.signals.now m.now.exprs.now bytes.old values.old × (m.now.signal_count ≤ length marks.old) × (looped (model_in m.now.signals.now m.now.exprs.now m.now.stmts.now) ≡ None) × Filled (widths_in m.now.exprs.now) values.old × Filled (widths_in m.now.signals.now) bytes.old × GoodTicks m.now.signals.now ticks.now × Planned m.now.signals.now m.now.exprs.now m.now.stmts.now m.now.expr_count m.now.signal_count code order.now values.old }
+    requires { Room m.now.signals.now m.now.exprs.now bytes.old works.old.bits.now × (m.now.signal_count ≤ length works.old.signals.now) × (looped (model_in m.now.signals.now m.now.exprs.now m.now.stmts.now) ≡ None) × Filled (widths_in m.now.exprs.now) works.old.bits.now × Filled (widths_in m.now.signals.now) bytes.old × GoodTicks m.now.signals.now ticks.now × Planned m.now.signals.now m.now.exprs.now m.now.stmts.now m.now.expr_count m.now.signal_count code order.now works.old.bits.now }
     ensures ticked { TicksLate m.now.signals.now m.now.exprs.now m.now.stmts.now ticks.now (firing (fired_of fired)) bytes.old bytes.new }
-    ensures filled { Filled (widths_in m.now.exprs.now) values.new }
+    ensures filled { Filled (widths_in m.now.exprs.now) works.new.bits.now }
+    ensures same { SameWorks works.old works.new }
 {
     set_inputs(m, ticks, bytes);
-    load_late(m, order, code, fired, bytes, values, marks);
-    show_late(m, order, code, bytes, values);
+    load_late(m, order, code, fired, bytes, works.bits, works.signals);
+    show_late(m, order, code, bytes, works.bits);
 }

@@ -14,13 +14,13 @@ mod list; // list.rt: a list of ticks
 mod lists; // lists.rt: what a plan lists
 mod loops; // loops.rt: the lowest signal on a loop
 mod marks; // marks.rt: what an expression needs, marked
-mod prepare; // prepare.rt: tables, order and loop of a model
+mod prepare; // prepare.rt: order and loop of a model
 mod refused; // refused.rt: a list of ticks of which none is made
 mod settling; // settling.rt: the values of all expressions
 mod show; // show.rt: what a list of ticks reads and shows
 mod sort; // sort.rt: an order of all expressions
 mod store; // store.rt: inputs and values in the signals' bytes
-mod tables; // tables.rt: a model and where its records and values stand
+mod tables; // tables.rt: the lent tables; a model and where its records and values stand
 mod ticks; // ticks.rt: one tick
 mod whole; // whole.rt: a whole list's run
 
@@ -29,23 +29,35 @@ ghost use Rattle.recorder.specs.Lists.{lists};
 ghost use Rattle.simulation.specs.Fault.{call_of};
 ghost use Rattle.simulation.specs.Model.{lists_of};
 ghost use Rattle.simulation.specs.Run.{fired_of, zeroed};
-ghost use Rattle.runner.specs.Calls.{Runs, Answers, RunsList};
+ghost use Rattle.model_check.specs.Works.{SameWorks};
+ghost use Rattle.runner.specs.Calls.{fired_by, Runs, Answers, RunsList};
 ghost use Rattle.runner.specs.Parts.{Unrefused, Tries};
 ghost use Rattle.runner.specs.Whole.{list_call};
 
 use cut::check_call;
 use list::TickList;
-use prepare::{fill_tables, prepare};
+use model_check::call::Works;
+use prepare::prepare;
+use recorder::SignalId;
 use refusal::Refusal;
-use show::ports_end;
-use simulation::index::count;
 use simulation::{Edge, Model};
-use tables::CheckedModel;
+use tables::{CheckedModel, Tables};
 use ticks::tick;
-use whole::{run_list_with, zero_tables, zero_works};
+use whole::run_list_with;
 
 // The largest width of a signal or an expression.
 pub const WIDEST: u32 = 4096;
+
+// What fires: nothing (0), or an edge (1 rises, 2 falls) of a signal.
+pub fn fired_by(fires: u32, signal: u32) -> Option<Edge>
+    ensures { fired_of result ≡ fired_by fires signal }
+{
+    let edge = fires.checked_sub(1)?;
+    Some(Edge {
+        signal: SignalId(signal),
+        edge,
+    })
+}
 
 // The tick of a call that nothing refuses but maybe a loop (13). The tables are work.
 fn run_checked(
@@ -53,44 +65,29 @@ fn run_checked(
     bytes: &mut [u8],
     ticks: &[u8],
     fired: Option<Edge>,
-    work_bits: &mut [u8],
-    work_exprs: &mut [u8],
-    work_signals: &mut [u8],
-    starts: &mut [u32],
-    expr_table: &mut [u32],
-    signal_table: &mut [u32],
-    driver_table: &mut [u32],
+    works: &mut Works,
+    tables: &mut Tables,
     order: &mut [u32],
 ) -> Result<(), Refusal>
-    requires { Unrefused (lists_of m) bytes.old ticks.now (fired_of fired) work_bits.old work_exprs.old work_signals.old }
-    ensures { Tries (lists_of m.entry) bytes.old ticks.now (fired_of fired) result bytes.new }
+    requires { Unrefused (lists_of m) bytes.old ticks.now (fired_of fired) works.old.bits.now works.old.exprs.now works.old.signals.now }
+    ensures tries { Tries (lists_of m.entry) bytes.old ticks.now (fired_of fired) result bytes.new }
+    ensures same { SameWorks works.old works.new }
 {
-    fill_tables(m, starts, expr_table, signal_table, driver_table);
-    let checked = CheckedModel {
-        signals: m.signals,
-        exprs: m.exprs,
-        stmts: m.stmts,
-        starts: &*starts,
-        expr_table: &*expr_table,
-        signal_table: &*signal_table,
-        driver_table: &*driver_table,
-        expr_count: count(m.exprs),
-        signal_count: count(m.signals),
-        ports: ports_end(m.signals),
-    };
-    match prepare(&checked, order, work_exprs) {
+    tables.fill_for(m);
+    let checked = CheckedModel::new(m, tables);
+    match prepare(&checked, order, works.exprs) {
         Err(s) => Err(Refusal::CombinationalLoop(s)),
         Ok(ordered) => {
-            work_bits.fill(0);
+            works.bits.fill(0);
             tick(
                 &checked,
                 &order[..ordered],
                 ticks,
                 fired,
                 bytes,
-                work_bits,
-                work_exprs,
-                work_signals,
+                works.bits,
+                works.exprs,
+                works.signals,
             );
             Ok(())
         }
@@ -103,46 +100,27 @@ fn run_with(
     bytes: &mut [u8],
     ticks: &[u8],
     fired: Option<Edge>,
-    work_bits: &mut [u8],
-    work_exprs: &mut [u8],
-    work_signals: &mut [u8],
-    starts: &mut [u32],
-    expr_table: &mut [u32],
-    signal_table: &mut [u32],
-    driver_table: &mut [u32],
+    works: &mut Works,
+    tables: &mut Tables,
     order: &mut [u32],
 ) -> Result<(), Refusal>
-    ensures { Answers (call_of (lists_of m.entry) bytes.old ticks.now (fired_of fired) work_bits.old work_exprs.old work_signals.old) result bytes.new }
+    ensures answers { Answers (call_of (lists_of m.entry) bytes.old ticks.now (fired_of fired) works.old.bits.now works.old.exprs.now works.old.signals.now) result bytes.new }
+    ensures same { SameWorks works.old works.new }
 {
     check_call(
         m,
-        signal_table,
-        expr_table,
+        tables.signal_table,
+        tables.expr_table,
         bytes,
         ticks,
         fired,
-        work_bits,
-        work_exprs,
-        work_signals,
-        WIDEST,
+        works,
     )?;
-    run_checked(
-        m,
-        bytes,
-        ticks,
-        fired,
-        work_bits,
-        work_exprs,
-        work_signals,
-        starts,
-        expr_table,
-        signal_table,
-        driver_table,
-        order,
-    )
+    run_checked(m, bytes, ticks, fired, works, tables, order)
 }
 
 // One tick. Tables of 65,536 records and signals are this call's own; what lies behind them is found by walking the lists.
+// The buffers stand one by one, as the C interface hands them over.
 pub fn run(
     signals: &[u32],
     exprs: &[u32],
@@ -161,33 +139,30 @@ pub fn run(
     let mut signal_table = [0u32; 65536];
     let mut driver_table = [0u32; 65536];
     let mut order = [0u32; 65536];
+    let mut tables = Tables {
+        starts: &mut starts,
+        expr_table: &mut expr_table,
+        signal_table: &mut signal_table,
+        driver_table: &mut driver_table,
+    };
+    let mut works = Works {
+        bits: work_bits,
+        exprs: work_exprs,
+        signals: work_signals,
+    };
     let m = Model {
         signals,
         exprs,
         stmts,
     };
-    let r = run_with(
-        m,
-        bytes,
-        ticks,
-        fired,
-        work_bits,
-        work_exprs,
-        work_signals,
-        &mut starts,
-        &mut expr_table,
-        &mut signal_table,
-        &mut driver_table,
-        &mut order,
-    );
-    work_bits.fill(0);
-    work_exprs.fill(0);
-    work_signals.fill(0);
+    let r = run_with(m, bytes, ticks, fired, &mut works, &mut tables, &mut order);
+    works.clear();
     r
 }
 
 // A list of ticks on one model, checked and prepared once: three words a tick in `heads`, the bits of all in `bits`. The lent tables
 // are work: what they have no room for is found by walking the lists.
+// The buffers stand one by one, as the C interface hands them over.
 pub fn run_list(
     signals: &[u32],
     exprs: &[u32],
@@ -218,22 +193,29 @@ pub fn run_list(
         stmts,
     };
     let list = TickList { heads, bits };
-    let r = run_list_with(
-        m,
-        list,
-        bytes,
-        work_bits,
-        work_exprs,
-        work_signals,
+    let mut works = Works {
+        bits: work_bits,
+        exprs: work_exprs,
+        signals: work_signals,
+    };
+    let mut tables = Tables {
         starts,
         expr_table,
         signal_table,
         driver_table,
+    };
+    let r = run_list_with(
+        m,
+        list,
+        bytes,
+        &mut works,
+        &mut tables,
         order,
         answers,
         shown,
     );
-    zero_works(work_bits, work_exprs, work_signals);
-    zero_tables(starts, expr_table, signal_table, driver_table, order);
+    works.clear();
+    tables.clear();
+    order.fill(0);
     r
 }

@@ -11,15 +11,17 @@ ghost use Rattle.evaluation.specs.Late.{TicksLate};
 ghost use Rattle.evaluation.specs.Ticks.{Filled, Ordered, GoodTicks, signals_in};
 ghost use Rattle.runner.specs.Calls.{output_width, handed};
 ghost use Rattle.runner.specs.Parts.{tick_causes, is_made, RunsLate, RunsTicks, Finishes};
+ghost use Rattle.model_check.specs.Works.{SameWorks};
 ghost use Rattle.runner.specs.Plan.{Planned};
 
 use crate::code::Code;
+use crate::fired_by;
 use crate::late::tick_late;
 use crate::settling::settle;
-use crate::show::{end_of, fired_by, put_answer, show};
+use crate::show::{end_of, put_answer, show};
 use crate::tables::CheckedModel;
 use crate::ticks::tick;
-use model_check::call::tick_fault;
+use model_check::call::{Works, tick_fault};
 use refusal::Refusal;
 use simulation::Edge;
 use simulation::index::wide;
@@ -39,25 +41,24 @@ fn tick_either(
     ticks: &[u8],
     fired: Option<Edge>,
     bytes: &mut [u8],
-    values: &mut [u8],
-    work_exprs: &mut [u8],
-    work_signals: &mut [u8],
+    works: &mut Works,
 )
-    requires { Room m.now.signals.now m.now.exprs.now bytes.old values.old × (m.now.expr_count ≤ length work_exprs.old) × (m.now.signal_count ≤ length work_signals.old) × Ordered (model_in m.now.signals.now m.now.exprs.now m.now.stmts.now) m.now.expr_count order.now × (looped (model_in m.now.signals.now m.now.exprs.now m.now.stmts.now) ≡ None) × Filled (widths_in m.now.exprs.now) values.old × Filled (widths_in m.now.signals.now) bytes.old × GoodTicks m.now.signals.now ticks.now × IfSome code (λ c. Planned m.now.signals.now m.now.exprs.now m.now.stmts.now m.now.expr_count m.now.signal_count c order.now values.old) }
+    requires { Room m.now.signals.now m.now.exprs.now bytes.old works.old.bits.now × (m.now.expr_count ≤ length works.old.exprs.now) × (m.now.signal_count ≤ length works.old.signals.now) × Ordered (model_in m.now.signals.now m.now.exprs.now m.now.stmts.now) m.now.expr_count order.now × (looped (model_in m.now.signals.now m.now.exprs.now m.now.stmts.now) ≡ None) × Filled (widths_in m.now.exprs.now) works.old.bits.now × Filled (widths_in m.now.signals.now) bytes.old × GoodTicks m.now.signals.now ticks.now × IfSome code (λ c. Planned m.now.signals.now m.now.exprs.now m.now.stmts.now m.now.expr_count m.now.signal_count c order.now works.old.bits.now) }
     ensures ticked { TicksLate m.now.signals.now m.now.exprs.now m.now.stmts.now ticks.now (firing (fired_of fired)) bytes.old bytes.new }
-    ensures filled { Filled (widths_in m.now.exprs.now) values.new }
+    ensures filled { Filled (widths_in m.now.exprs.now) works.new.bits.now }
+    ensures same { SameWorks works.old works.new }
 {
     match code {
-        Some(code) => tick_late(m, order, code, ticks, fired, bytes, values, work_signals),
+        Some(code) => tick_late(m, order, code, ticks, fired, bytes, works),
         None => tick(
             m,
             order,
             ticks,
             fired,
             bytes,
-            values,
-            work_exprs,
-            work_signals,
+            works.bits,
+            works.exprs,
+            works.signals,
         ),
     }
 }
@@ -88,46 +89,29 @@ fn run_tick(
     ticks: &[u8],
     fired: Option<Edge>,
     bytes: &mut [u8],
-    values: &mut [u8],
-    work_exprs: &mut [u8],
-    work_signals: &mut [u8],
+    works: &mut Works,
 ) -> Result<(), Refusal>
-    requires { Room m.now.signals.now m.now.exprs.now bytes.old values.old × (m.now.expr_count ≤ length work_exprs.old) × (m.now.signal_count ≤ length work_signals.old) × Ordered (model_in m.now.signals.now m.now.exprs.now m.now.stmts.now) m.now.expr_count order.now × (looped (model_in m.now.signals.now m.now.exprs.now m.now.stmts.now) ≡ None) × Filled (widths_in m.now.exprs.now) values.old × Filled (widths_in m.now.signals.now) bytes.old × (inputs ≡ total input_width (signals_in m.now.signals.now)) × IfSome code (λ c. Planned m.now.signals.now m.now.exprs.now m.now.stmts.now m.now.expr_count m.now.signal_count c order.now values.old) }
+    requires { Room m.now.signals.now m.now.exprs.now bytes.old works.old.bits.now × (m.now.expr_count ≤ length works.old.exprs.now) × (m.now.signal_count ≤ length works.old.signals.now) × Ordered (model_in m.now.signals.now m.now.exprs.now m.now.stmts.now) m.now.expr_count order.now × (looped (model_in m.now.signals.now m.now.exprs.now m.now.stmts.now) ≡ None) × Filled (widths_in m.now.exprs.now) works.old.bits.now × Filled (widths_in m.now.signals.now) bytes.old × (inputs ≡ total input_width (signals_in m.now.signals.now)) × IfSome code (λ c. Planned m.now.signals.now m.now.exprs.now m.now.stmts.now m.now.expr_count m.now.signal_count c order.now works.old.bits.now) }
     ensures answered { answer_of result ≡ tick_causes m.now.signal_count inputs (handed inputs asked ticks.now) (fired_of fired) }
     ensures runs { RunsLate m.now.signals.now m.now.exprs.now m.now.stmts.now (handed inputs asked ticks.now) (fired_of fired) (answer_of result) bytes.old bytes.new }
-    ensures filled { Filled (widths_in m.now.exprs.now) values.new }
+    ensures filled { Filled (widths_in m.now.exprs.now) works.new.bits.now }
+    ensures same { SameWorks works.old works.new }
 {
     head_fault(m.signal_count, inputs, asked, ticks, fired)?;
-    tick_either(
-        m,
-        order,
-        code,
-        ticks,
-        fired,
-        bytes,
-        values,
-        work_exprs,
-        work_signals,
-    );
+    tick_either(m, order, code, ticks, fired, bytes, works);
     Ok(())
 }
 
 // Behind the last tick every assigned signal takes its value, if a tick was made.
-fn finish(
-    m: &CheckedModel,
-    order: &[u32],
-    late: bool,
-    bytes: &mut [u8],
-    values: &mut [u8],
-    work_exprs: &mut [u8],
-)
-    requires { Room m.now.signals.now m.now.exprs.now bytes.old values.old × (m.now.expr_count ≤ length work_exprs.old) × Ordered (model_in m.now.signals.now m.now.exprs.now m.now.stmts.now) m.now.expr_count order.now × (looped (model_in m.now.signals.now m.now.exprs.now m.now.stmts.now) ≡ None) × Filled (widths_in m.now.exprs.now) values.old }
-    ensures { Finishes m.now.signals.now m.now.exprs.now m.now.stmts.now late bytes.old bytes.new }
+fn finish(m: &CheckedModel, order: &[u32], late: bool, bytes: &mut [u8], works: &mut Works)
+    requires { Room m.now.signals.now m.now.exprs.now bytes.old works.old.bits.now × (m.now.expr_count ≤ length works.old.exprs.now) × Ordered (model_in m.now.signals.now m.now.exprs.now m.now.stmts.now) m.now.expr_count order.now × (looped (model_in m.now.signals.now m.now.exprs.now m.now.stmts.now) ≡ None) × Filled (widths_in m.now.exprs.now) works.old.bits.now }
+    ensures finishes { Finishes m.now.signals.now m.now.exprs.now m.now.stmts.now late bytes.old bytes.new }
+    ensures same { SameWorks works.old works.new }
 {
     if !late {
         return;
     }
-    settle(m, order, bytes, values, work_exprs);
+    settle(m, order, bytes, works.bits, works.exprs);
 }
 
 // All ticks of a list.
@@ -138,14 +122,13 @@ pub fn run_ticks(
     inputs: usize,
     list: TickList,
     bytes: &mut [u8],
-    values: &mut [u8],
-    work_exprs: &mut [u8],
-    work_signals: &mut [u8],
+    works: &mut Works,
     answers: &mut [u64],
     shown: &mut [u8],
 )
-    requires { Room m.now.signals.now m.now.exprs.now bytes.old values.old × (m.now.expr_count ≤ length work_exprs.old) × (m.now.signal_count ≤ length work_signals.old) × Ordered (model_in m.now.signals.now m.now.exprs.now m.now.stmts.now) m.now.expr_count order.now × (looped (model_in m.now.signals.now m.now.exprs.now m.now.stmts.now) ≡ None) × Filled (widths_in m.now.exprs.now) values.old × Filled (widths_in m.now.signals.now) bytes.old × (inputs ≡ total input_width (signals_in m.now.signals.now)) × (2 * (length list.heads.now / 3) ≤ length answers.old) × (total output_width (signals_in m.now.signals.now) * (length list.heads.now / 3) ≤ length shown.old) × (malformed largest (lists m.now.signals.now m.now.exprs.now m.now.stmts.now) ≡ None) × IfSome code (λ c. Planned m.now.signals.now m.now.exprs.now m.now.stmts.now m.now.expr_count m.now.signal_count c order.now values.old) }
-    ensures { RunsTicks (lists m.now.signals.now m.now.exprs.now m.now.stmts.now) list.entry.heads.now list.entry.bits.now bytes.old bytes.new answers.old answers.new shown.old shown.new }
+    requires { Room m.now.signals.now m.now.exprs.now bytes.old works.old.bits.now × (m.now.expr_count ≤ length works.old.exprs.now) × (m.now.signal_count ≤ length works.old.signals.now) × Ordered (model_in m.now.signals.now m.now.exprs.now m.now.stmts.now) m.now.expr_count order.now × (looped (model_in m.now.signals.now m.now.exprs.now m.now.stmts.now) ≡ None) × Filled (widths_in m.now.exprs.now) works.old.bits.now × Filled (widths_in m.now.signals.now) bytes.old × (inputs ≡ total input_width (signals_in m.now.signals.now)) × (2 * (length list.heads.now / 3) ≤ length answers.old) × (total output_width (signals_in m.now.signals.now) * (length list.heads.now / 3) ≤ length shown.old) × (malformed largest (lists m.now.signals.now m.now.exprs.now m.now.stmts.now) ≡ None) × IfSome code (λ c. Planned m.now.signals.now m.now.exprs.now m.now.stmts.now m.now.expr_count m.now.signal_count c order.now works.old.bits.now) }
+    ensures runs { RunsTicks (lists m.now.signals.now m.now.exprs.now m.now.stmts.now) list.entry.heads.now list.entry.bits.now bytes.old bytes.new answers.old answers.new shown.old shown.new }
+    ensures same { SameWorks works.old works.new }
 {
     let mut at: usize = 0;
     let mut pos: usize = 0;
@@ -165,9 +148,7 @@ pub fn run_ticks(
             &list.bits[pos..end],
             fired,
             bytes,
-            values,
-            work_exprs,
-            work_signals,
+            works,
         );
         late = late | r.is_ok();
         put_answer(answers, 2 * i, r);
@@ -175,5 +156,5 @@ pub fn run_ticks(
         at += 3;
         pos = end;
     }
-    finish(m, order, late, bytes, values, work_exprs);
+    finish(m, order, late, bytes, works);
 }

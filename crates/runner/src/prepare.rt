@@ -1,6 +1,5 @@
-// What is prepared once for a model without a fault: tables, an order of its expressions, and whether it has a loop.
+// What is prepared once for a model without a fault: an order of its expressions, and whether it has a loop.
 ghost use Rattle.std.specs.Prelude.{◌≡◌, ◌≤◌, Some, None, IfOk, IfErr, length, take};
-ghost use Rattle.simulation.specs.Index.{widths_in, Indexed, Starts, Driven};
 ghost use Rattle.simulation.specs.Tick.{looped};
 ghost use Rattle.evaluation.specs.Ready.{model_in};
 ghost use Rattle.evaluation.specs.Ticks.{Ordered};
@@ -8,26 +7,6 @@ ghost use Rattle.evaluation.specs.Ticks.{Ordered};
 use crate::loops::lowest_on_loop;
 use crate::sort::sort;
 use crate::tables::CheckedModel;
-use simulation::Model;
-use simulation::index::{fill_drivers, fill_offsets, fill_starts};
-
-pub fn fill_tables(
-    m: Model,
-    starts: &mut [u32],
-    expr_table: &mut [u32],
-    signal_table: &mut [u32],
-    driver_table: &mut [u32],
-)
-    ensures started { Starts m.entry.exprs.now starts.new }
-    ensures expr_offsets { Indexed (widths_in m.entry.exprs.now) expr_table.new }
-    ensures signal_offsets { Indexed (widths_in m.entry.signals.now) signal_table.new }
-    ensures driven { Driven m.entry.stmts.now driver_table.new }
-{
-    fill_starts(m.exprs, starts);
-    fill_offsets(m.exprs, expr_table);
-    fill_offsets(m.signals, signal_table);
-    fill_drivers(m.stmts, driver_table);
-}
 
 // Fills the order: how many expressions it has, all or none, or the lowest signal on a loop.
 pub fn prepare(m: &CheckedModel, order: &mut [u32], marks: &mut [u8]) -> Result<usize, usize>

@@ -4,18 +4,19 @@ ghost use Rattle.std.specs.Prelude.{None};
 ghost use Rattle.recorder.specs.Read.{model_of};
 ghost use Rattle.recorder.specs.Words.{raw_of};
 ghost use Rattle.simulation.specs.Wellformed.{largest, malformed};
-ghost use Rattle.simulation.specs.Index.{records_in};
 ghost use Rattle.simulation.specs.Model.{lists_of};
-ghost use Rattle.simulation.specs.Run.{answer_of, fired_of, total, input_width, signal_bytes};
+ghost use Rattle.simulation.specs.Run.{answer_of, fired_of, total, signal_bytes};
 ghost use Rattle.evaluation.specs.Ticks.{signals_in};
 ghost use Rattle.runner.specs.Calls.{output_width, handed};
 ghost use Rattle.runner.specs.Parts.{tick_causes, RunsTicks};
 ghost use Rattle.runner.specs.Whole.{among, Stopped};
 
+use crate::fired_by;
 use crate::list::{TickList, head_fault};
-use crate::show::{end_of, fired_by, ports_end, put_answer, show};
+use crate::show::{end_of, ports_end, put_answer, show};
+use model_check::call::input_total;
 use refusal::Refusal;
-use simulation::index::wide;
+use simulation::index::{count, wide};
 use simulation::{Edge, Model};
 
 // What refuses a tick: what stands ahead of its own causes, those, or what stands behind them.
@@ -41,15 +42,15 @@ pub fn refuse_ticks(
     list: TickList,
     bytes: &[u8],
     ahead: Result<(), Refusal>,
-    count: usize,
-    inputs: usize,
     behind: Result<(), Refusal>,
     answers: &mut [u64],
     shown: &mut [u8],
 )
-    requires { (malformed largest (lists_of m) ≡ None) × (signal_bytes (model_of (raw_of (lists_of m))) ≤ length bytes.now) × (2 * (length list.heads.now / 3) ≤ length answers.old) × (total output_width (signals_in m.signals.now) * (length list.heads.now / 3) ≤ length shown.old) × (count ≡ length (records_in m.signals.now)) × (inputs ≡ total input_width (signals_in m.signals.now)) × Stopped (lists_of m) bytes.now (answer_of ahead) (answer_of behind) }
+    requires { (malformed largest (lists_of m) ≡ None) × (signal_bytes (model_of (raw_of (lists_of m))) ≤ length bytes.now) × (2 * (length list.heads.now / 3) ≤ length answers.old) × (total output_width (signals_in m.signals.now) * (length list.heads.now / 3) ≤ length shown.old) × Stopped (lists_of m) bytes.now (answer_of ahead) (answer_of behind) }
     ensures { RunsTicks (lists_of m.entry) list.entry.heads.now list.entry.bits.now bytes.now bytes.now answers.old answers.new shown.old shown.new }
 {
+    let count = count(m.signals);
+    let inputs = input_total(m.signals);
     let ports = ports_end(m.signals);
     let mut at: usize = 0;
     let mut pos: usize = 0;

@@ -2,17 +2,15 @@
 ghost use Rattle.std.specs.Prelude.{◌≡◌, ◌+◌, ◌*◌, ◌≤◌, min, length};
 ghost use Rattle.recorder.specs.Lists.{over};
 ghost use Rattle.simulation.specs.Index.{records_in, widths_in, offset as sum_to};
-ghost use Rattle.simulation.specs.Run.{answer_of, fired_of, total, flat};
+ghost use Rattle.simulation.specs.Run.{answer_of, total, flat};
 ghost use Rattle.simulation.specs.Shown.{shown_bytes};
 ghost use Rattle.evaluation.specs.Late.{PortsBefore};
 ghost use Rattle.evaluation.specs.Ticks.{ReadSignals, signals_in};
-ghost use Rattle.runner.specs.Calls.{fired_by, output_width, answer_words};
+ghost use Rattle.runner.specs.Calls.{output_width, answer_words};
 
 use crate::bytes::copy;
 use crate::kinds::OUTPUT;
-use recorder::SignalId;
 use refusal::Refusal;
-use simulation::Edge;
 use simulation::index::wide;
 use simulation::records::Records;
 
@@ -68,20 +66,6 @@ pub fn show(signals: &[u32], bytes: &[u8], shown: &mut [u8], from: usize, until:
         at += fields.len() + 1;
     }
     to
-}
-
-// What fires: nothing (0), or an edge (1 rises, 2 falls) of signal s.
-pub fn fired_by(fires: u32, s: u32) -> Option<Edge>
-    ensures { fired_of result ≡ fired_by fires s }
-{
-    if fires == 0 {
-        None
-    } else {
-        Some(Edge {
-            signal: SignalId(s),
-            edge: fires - 1,
-        })
-    }
 }
 
 // A tick's answer as two numbers, from an index on.

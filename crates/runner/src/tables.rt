@@ -1,4 +1,4 @@
-// A model without a fault, in words, with tables of where its records and values stand and of what is assigned to a signal. What a
+// The tables of a run, which are lent and are work; and a model without a fault, in words, with tables of where its records and values stand and of what is assigned to a signal. What a
 // table has no room for is found by walking the lists. All ports begin before word `ports`.
 ghost use Rattle.std.specs.Prelude.{◌≡◌, ◌≤◌, ◌<◌, None, length};
 ghost use Rattle.std.proofs.Props.{props};
@@ -6,10 +6,45 @@ ghost use Rattle.recorder.specs.Lists.{lists};
 ghost use Rattle.recorder.specs.Words.{raw_of};
 ghost use Rattle.simulation.specs.Wellformed.{largest, first_fault};
 ghost use Rattle.simulation.specs.Index.{records_in, widths_in, offset as sum_to, start_of, Indexed, Starts, stmts_in, Driven};
+ghost use Rattle.simulation.specs.Model.{lists_of};
 ghost use Rattle.simulation.specs.Tick.{given, assigns as by_assign};
 ghost use Rattle.evaluation.specs.Late.{PortsBefore};
+ghost use Rattle.runner.specs.Tables.{SameTables, TablesOf, ZeroedTables};
 
-use simulation::index;
+use crate::show::ports_end;
+use simulation::index::{count, fill_drivers, fill_offsets, fill_starts};
+use simulation::{Model, index};
+
+// (The order stands apart: it is written while a `CheckedModel` reads these, and a borrow of one field takes the whole struct.)
+#[derive(Drop)]
+pub struct Tables<'a> {
+    pub starts: &'a mut [u32],
+    pub expr_table: &'a mut [u32],
+    pub signal_table: &'a mut [u32],
+    pub driver_table: &'a mut [u32],
+}
+
+impl Tables<'_> {
+    pub fn fill_for(&mut self, m: Model)
+        ensures filled { TablesOf m.entry self.new }
+        ensures same { SameTables self.old self.new }
+    {
+        fill_starts(m.exprs, self.starts);
+        fill_offsets(m.exprs, self.expr_table);
+        fill_offsets(m.signals, self.signal_table);
+        fill_drivers(m.stmts, self.driver_table);
+    }
+
+    pub fn clear(&mut self)
+        ensures cleared { ZeroedTables self.old self.new }
+        ensures same { SameTables self.old self.new }
+    {
+        self.starts.fill(0);
+        self.expr_table.fill(0);
+        self.signal_table.fill(0);
+        self.driver_table.fill(0);
+    }
+}
 
 #[derive(Clone, Copy)]
 pub struct CheckedModel<'a> {
@@ -31,6 +66,27 @@ pub struct CheckedModel<'a> {
     pub ghost expr_counted: { expr_count ≡ length (records_in exprs.now) },
     pub ghost signal_counted: { signal_count ≡ length (records_in signals.now) },
     pub ghost ports_before: { PortsBefore signals.now ports },
+}
+
+impl<'a> CheckedModel<'a> {
+    // Of a model without a fault, by the tables that were filled for it.
+    pub fn new(m: Model<'a>, tables: &'a Tables) -> CheckedModel<'a>
+        requires { (first_fault largest (raw_of (lists_of m)) ≡ None) × TablesOf m tables.now }
+        ensures { lists result.signals.now result.exprs.now result.stmts.now ≡ lists_of m.entry }
+    {
+        CheckedModel {
+            signals: m.signals,
+            exprs: m.exprs,
+            stmts: m.stmts,
+            starts: tables.starts,
+            expr_table: tables.expr_table,
+            signal_table: tables.signal_table,
+            driver_table: tables.driver_table,
+            expr_count: count(m.exprs),
+            signal_count: count(m.signals),
+            ports: ports_end(m.signals),
+        }
+    }
 }
 
 impl CheckedModel<'_> {

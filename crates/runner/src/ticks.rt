@@ -15,6 +15,7 @@ use simulation::Edge;
 
 // Inputs, settle, commit, settle.
 // The model and its order are two parameters: an invariant of one type for both would have to be a proposition, and `Ordered` is none.
+// The works stand one by one: `commit` reads one while it writes another, and of a struct behind a reference the borrow checker covers no such loan.
 pub fn tick(
     m: &CheckedModel,
     order: &[u32],

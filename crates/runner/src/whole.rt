@@ -5,46 +5,22 @@ ghost use Rattle.simulation.specs.Index.{records_in, widths_in, offset as sum_to
 ghost use Rattle.simulation.specs.Model.{lists_of};
 ghost use Rattle.simulation.specs.Run.{answer_of, first_of, zeroed};
 ghost use Rattle.evaluation.specs.Ticks.{ReadSignals};
+ghost use Rattle.model_check.specs.Works.{SameWorks, OthersKept};
+ghost use Rattle.runner.specs.Tables.{SameTables};
 ghost use Rattle.runner.specs.Calls.{list_answer};
 ghost use Rattle.runner.specs.Whole.{list_call, shown_causes, fault_causes, ListFits, ListUnrefused, Leaves};
 ghost use Rattle.runner.specs.Parts.{RunsTicks};
 
-use crate::WIDEST;
 use crate::code::encode;
 use crate::cut::malformed;
 use crate::list::{TickList, run_ticks};
-use crate::prepare::{fill_tables, prepare};
+use crate::prepare::prepare;
 use crate::refused::refuse_ticks;
-use crate::show::{output_total, ports_end};
-use crate::tables::CheckedModel;
-use model_check::call::{byte_fault, call_lengths, input_total};
+use crate::show::output_total;
+use crate::tables::{CheckedModel, Tables};
+use model_check::call::{Works, byte_fault, call_lengths, input_total};
 use refusal::Refusal;
 use simulation::Model;
-use simulation::index::count;
-
-pub fn zero_works(work_bits: &mut [u8], work_exprs: &mut [u8], work_signals: &mut [u8])
-    ensures { (work_bits.new ≡ zeroed work_bits.old) × (work_exprs.new ≡ zeroed work_exprs.old) × (work_signals.new ≡ zeroed work_signals.old) }
-{
-    work_bits.fill(0);
-    work_exprs.fill(0);
-    work_signals.fill(0);
-}
-
-pub fn zero_tables(
-    starts: &mut [u32],
-    expr_table: &mut [u32],
-    signal_table: &mut [u32],
-    driver_table: &mut [u32],
-    order: &mut [u32],
-)
-    ensures { (starts.new ≡ zeroed starts.old) × (expr_table.new ≡ zeroed expr_table.old) × (signal_table.new ≡ zeroed signal_table.old) × (driver_table.new ≡ zeroed driver_table.old) × (order.new ≡ zeroed order.old) }
-{
-    starts.fill(0);
-    expr_table.fill(0);
-    signal_table.fill(0);
-    driver_table.fill(0);
-    order.fill(0);
-}
 
 // 1 for the two buffers of what is shown.
 fn shown_lengths(
@@ -72,47 +48,36 @@ fn list_fault(
     m: Model,
     heads: &[u32],
     bytes: &[u8],
-    work_bits: &[u8],
-    work_exprs: &[u8],
-    work_signals: &[u8],
+    works: &Works,
     answers: &[u64],
     shown: &[u8],
 ) -> Result<(), Refusal>
     requires { ReadSignals m.signals.now }
-    ensures { answer_of result ≡ fault_causes (list_call (lists_of m.entry) heads.now [] bytes.now work_bits.now work_exprs.now work_signals.now answers.now shown.now) }
+    ensures { answer_of result ≡ fault_causes (list_call (lists_of m.entry) heads.now [] bytes.now works.now.bits.now works.now.exprs.now works.now.signals.now answers.now shown.now) }
 {
-    call_lengths(m, bytes, work_bits, work_exprs, work_signals)?;
+    call_lengths(m, bytes, works)?;
     shown_lengths(m.signals, heads, answers, shown)
 }
 
 // 12 and 1. The tables and the work on signals are left as they come.
 fn check_list(
     m: Model,
-    signal_table: &mut [u32],
-    expr_table: &mut [u32],
+    tables: &mut Tables,
     list: TickList,
     bytes: &[u8],
-    work_bits: &[u8],
-    work_exprs: &[u8],
-    work_signals: &mut [u8],
+    works: &mut Works,
     answers: &[u64],
     shown: &[u8],
 ) -> Result<(), Refusal>
-    ensures { answer_of result ≡ list_answer largest (list_call (lists_of m.entry) list.entry.heads.now list.entry.bits.now bytes.now work_bits.now work_exprs.now work_signals.old answers.now shown.now) }
+    ensures answer { answer_of result ≡ list_answer largest (list_call (lists_of m.entry) list.entry.heads.now list.entry.bits.now bytes.now works.old.bits.now works.old.exprs.now works.old.signals.now answers.now shown.now) }
+    ensures zeros { works.new.signals.now ≡ zeroed works.old.signals.now }
+    ensures kept { OthersKept works.old works.new }
+    ensures same { SameWorks works.old works.new }
+    ensures same_tables { SameTables tables.old tables.new }
 {
-    let f = malformed(m, signal_table, expr_table, work_signals, WIDEST);
-    match f {
+    match malformed(m, tables.signal_table, tables.expr_table, works.signals) {
         Some(n) => Err(Refusal::MalformedModel(n)),
-        None => list_fault(
-            m,
-            list.heads,
-            bytes,
-            work_bits,
-            work_exprs,
-            work_signals,
-            answers,
-            shown,
-        ),
+        None => list_fault(m, list.heads, bytes, works, answers, shown),
     }
 }
 
@@ -121,42 +86,25 @@ fn run_unrefused(
     m: Model,
     list: TickList,
     bytes: &mut [u8],
-    work_bits: &mut [u8],
-    work_exprs: &mut [u8],
-    work_signals: &mut [u8],
-    starts: &mut [u32],
-    expr_table: &mut [u32],
-    signal_table: &mut [u32],
-    driver_table: &mut [u32],
+    works: &mut Works,
+    tables: &mut Tables,
     order: &mut [u32],
     answers: &mut [u64],
     shown: &mut [u8],
 )
-    requires { ListUnrefused (lists_of m) list.heads.now bytes.old work_bits.old work_exprs.old work_signals.old answers.old shown.old }
-    ensures { RunsTicks (lists_of m.entry) list.entry.heads.now list.entry.bits.now bytes.old bytes.new answers.old answers.new shown.old shown.new }
+    requires { ListUnrefused (lists_of m) list.heads.now bytes.old works.old.bits.now works.old.exprs.now works.old.signals.now answers.old shown.old }
+    ensures runs { RunsTicks (lists_of m.entry) list.entry.heads.now list.entry.bits.now bytes.old bytes.new answers.old answers.new shown.old shown.new }
+    ensures same { SameWorks works.old works.new }
+    ensures same_tables { SameTables tables.old tables.new }
 {
-    fill_tables(m, starts, expr_table, signal_table, driver_table);
-    let checked = CheckedModel {
-        signals: m.signals,
-        exprs: m.exprs,
-        stmts: m.stmts,
-        starts: &*starts,
-        expr_table: &*expr_table,
-        signal_table: &*signal_table,
-        driver_table: &*driver_table,
-        expr_count: count(m.exprs),
-        signal_count: count(m.signals),
-        ports: ports_end(m.signals),
-    };
-    let inputs = input_total(m.signals);
-    match prepare(&checked, order, work_exprs) {
+    tables.fill_for(m);
+    let checked = CheckedModel::new(m, tables);
+    match prepare(&checked, order, works.exprs) {
         Err(s) => refuse_ticks(
             m,
             list,
             bytes,
             Ok(()),
-            checked.signal_count,
-            inputs,
             Err(Refusal::CombinationalLoop(s)),
             answers,
             shown,
@@ -166,12 +114,13 @@ fn run_unrefused(
                 &checked,
                 ordered,
                 order,
-                work_bits,
-                work_exprs,
-                work_signals,
+                works.bits,
+                works.exprs,
+                works.signals,
             );
             let used = plan.used;
-            work_bits.fill(0);
+            let inputs = input_total(checked.signals);
+            works.bits.fill(0);
             run_ticks(
                 &checked,
                 &order[..used],
@@ -179,9 +128,7 @@ fn run_unrefused(
                 inputs,
                 list,
                 bytes,
-                work_bits,
-                work_exprs,
-                work_signals,
+                works,
                 answers,
                 shown,
             );
@@ -194,53 +141,24 @@ fn run_fitting(
     m: Model,
     list: TickList,
     bytes: &mut [u8],
-    work_bits: &mut [u8],
-    work_exprs: &mut [u8],
-    work_signals: &mut [u8],
-    starts: &mut [u32],
-    expr_table: &mut [u32],
-    signal_table: &mut [u32],
-    driver_table: &mut [u32],
+    works: &mut Works,
+    tables: &mut Tables,
     order: &mut [u32],
     answers: &mut [u64],
     shown: &mut [u8],
 )
-    requires { ListFits (lists_of m) list.heads.now bytes.old work_bits.old work_exprs.old work_signals.old answers.old shown.old }
-    ensures { RunsTicks (lists_of m.entry) list.entry.heads.now list.entry.bits.now bytes.old bytes.new answers.old answers.new shown.old shown.new }
+    requires { ListFits (lists_of m) list.heads.now bytes.old works.old.bits.now works.old.exprs.now works.old.signals.now answers.old shown.old }
+    ensures runs { RunsTicks (lists_of m.entry) list.entry.heads.now list.entry.bits.now bytes.old bytes.new answers.old answers.new shown.old shown.new }
+    ensures same { SameWorks works.old works.new }
+    ensures same_tables { SameTables tables.old tables.new }
 {
     let stopped = byte_fault(m.signals, bytes);
     match stopped {
         Err(x) => {
-            let count = count(m.signals);
-            let inputs = input_total(m.signals);
-            refuse_ticks(
-                m,
-                list,
-                bytes,
-                Err(x),
-                count,
-                inputs,
-                Ok(()),
-                answers,
-                shown,
-            );
+            refuse_ticks(m, list, bytes, Err(x), Ok(()), answers, shown);
         }
         Ok(()) => {
-            run_unrefused(
-                m,
-                list,
-                bytes,
-                work_bits,
-                work_exprs,
-                work_signals,
-                starts,
-                expr_table,
-                signal_table,
-                driver_table,
-                order,
-                answers,
-                shown,
-            );
+            run_unrefused(m, list, bytes, works, tables, order, answers, shown);
         }
     }
 }
@@ -250,45 +168,17 @@ pub fn run_list_with(
     m: Model,
     list: TickList,
     bytes: &mut [u8],
-    work_bits: &mut [u8],
-    work_exprs: &mut [u8],
-    work_signals: &mut [u8],
-    starts: &mut [u32],
-    expr_table: &mut [u32],
-    signal_table: &mut [u32],
-    driver_table: &mut [u32],
+    works: &mut Works,
+    tables: &mut Tables,
     order: &mut [u32],
     answers: &mut [u64],
     shown: &mut [u8],
 ) -> Result<(), Refusal>
-    ensures { Leaves (list_call (lists_of m.entry) list.entry.heads.now list.entry.bits.now bytes.old work_bits.old work_exprs.old work_signals.old answers.old shown.old) (list_answer largest (list_call (lists_of m.entry) list.entry.heads.now list.entry.bits.now bytes.old work_bits.old work_exprs.old work_signals.old answers.old shown.old)) result bytes.new answers.new shown.new }
+    ensures leaves { Leaves (list_call (lists_of m.entry) list.entry.heads.now list.entry.bits.now bytes.old works.old.bits.now works.old.exprs.now works.old.signals.now answers.old shown.old) (list_answer largest (list_call (lists_of m.entry) list.entry.heads.now list.entry.bits.now bytes.old works.old.bits.now works.old.exprs.now works.old.signals.now answers.old shown.old)) result bytes.new answers.new shown.new }
+    ensures same { SameWorks works.old works.new }
+    ensures same_tables { SameTables tables.old tables.new }
 {
-    check_list(
-        m,
-        signal_table,
-        expr_table,
-        list,
-        bytes,
-        work_bits,
-        work_exprs,
-        work_signals,
-        answers,
-        shown,
-    )?;
-    run_fitting(
-        m,
-        list,
-        bytes,
-        work_bits,
-        work_exprs,
-        work_signals,
-        starts,
-        expr_table,
-        signal_table,
-        driver_table,
-        order,
-        answers,
-        shown,
-    );
+    check_list(m, tables, list, bytes, works, answers, shown)?;
+    run_fitting(m, list, bytes, works, tables, order, answers, shown);
     Ok(())
 }

@@ -2,7 +2,6 @@
 // each buffer.
 use crate::print::Printer;
 use crate::run::run;
-use std::io;
 use std::io::{Read, Write};
 use words::{read_full, read_words, words_of};
 
@@ -80,14 +79,14 @@ impl<R: Read, W: Write> Session<'_, R, W> {
     }
 
     // One list, the whole input.
-    pub fn run_one(&mut self, vcd: bool) -> io::Result<()> {
+    pub fn run_one(&mut self, vcd: bool) {
         match self.read_one() {
             Some(filled) => self.run(filled, vcd),
             None => self.refuse(),
         }
     }
 
-    pub fn run(&mut self, filled: Filled, vcd: bool) -> io::Result<()> {
+    pub fn run(&mut self, filled: Filled, vcd: bool) {
         run(
             &mut self.printer,
             self.words,
@@ -95,11 +94,11 @@ impl<R: Read, W: Write> Session<'_, R, W> {
             self.bits,
             filled,
             vcd,
-        )
+        );
     }
 
     // Input that is too long, too short or not in whole words.
-    pub fn refuse(&mut self) -> io::Result<()> {
-        self.printer.print_refusal(3, 0)
+    pub fn refuse(&mut self) {
+        self.printer.print_refusal(3, 0);
     }
 }

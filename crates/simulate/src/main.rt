@@ -39,10 +39,9 @@ fn main(rt: HostRuntime) {
         heads: &mut heads,
         bits: &mut bits,
     };
-    // Output that cannot be written is not reported.
-    let _ = if asked(&rt, b"--batch") {
-        session.replay_all()
+    if asked(&rt, b"--batch") {
+        session.replay_all();
     } else {
-        session.run_one(asked(&rt, b"--vcd"))
-    };
+        session.run_one(asked(&rt, b"--vcd"));
+    }
 }

@@ -5,7 +5,6 @@ use listing::{put_refused_line, written};
 use recorder::Tapes;
 use recorder::records::Records;
 use refusal::Refusal;
-use std::io;
 use std::io::Write;
 use text::Text;
 
@@ -56,78 +55,78 @@ pub struct Printer<'a, W> {
 }
 
 impl<W: Write> Printer<'_, W> {
-    // Makes room for n bytes, if the buffer has that.
-    fn reserve(&mut self, n: usize) -> io::Result<()> {
+    // Writes out what the buffer holds, and begins anew. Output that cannot be written is not reported, and the program goes on to
+    // what follows: no `?`, which would end it there.
+    fn flush(&mut self) {
+        let _ = self.text.flush(&mut self.to);
+        self.text.clear();
+    }
+
+    // Makes room for n bytes, if the buffer has that: what is put behind has at most so many, and so is never `Full`.
+    fn reserve(&mut self, n: usize) {
         if self.text.room() < n {
-            self.text.flush(&mut self.to)
-        } else {
-            Ok(())
+            self.flush();
         }
     }
 
-    fn byte(&mut self, byte: u8) -> io::Result<()> {
-        self.reserve(1)?;
-        self.text.put_byte(byte)?;
-        Ok(())
+    fn byte(&mut self, byte: u8) {
+        self.reserve(1);
+        let _ = self.text.put_byte(byte);
     }
 
-    fn bytes(&mut self, bytes: &[u8]) -> io::Result<()> {
-        self.reserve(bytes.len())?;
-        self.text.put(bytes)?;
-        Ok(())
+    fn bytes(&mut self, bytes: &[u8]) {
+        self.reserve(bytes.len());
+        let _ = self.text.put(bytes);
     }
 
-    fn number(&mut self, n: u64) -> io::Result<()> {
-        self.reserve(20)?;
-        self.text.put_decimal(n)?;
-        Ok(())
+    fn number(&mut self, n: u64) {
+        self.reserve(20);
+        let _ = self.text.put_decimal(n);
     }
 
     // Bits from an index on, the highest first.
-    fn digits(&mut self, bits: &[u8], from: usize, width: usize) -> io::Result<()> {
+    fn digits(&mut self, bits: &[u8], from: usize, width: usize) {
         for i in (0..width).rev() {
-            self.byte(digit(bits, from.saturating_add(i)))?;
+            self.byte(digit(bits, from.saturating_add(i)));
         }
-        Ok(())
     }
 
     // A refusal as a line of its own.
-    fn refusal(&mut self, number: usize, place: usize) -> io::Result<()> {
-        self.reserve(64)?;
-        put_refused_line(&mut self.text, number, place)?;
-        Ok(())
+    fn refusal(&mut self, number: usize, place: usize) {
+        self.reserve(64);
+        let _ = put_refused_line(&mut self.text, number, place);
     }
 
     // The output ports after one tick, as a line; what they show begins at `from`, and ends where the answer says.
-    fn ports(&mut self, outcome: Outcome<'_>, from: usize) -> io::Result<usize> {
+    fn ports(&mut self, outcome: Outcome<'_>, from: usize) -> usize {
         let mut next = from;
         for fields in Records::new(outcome.signals) {
             if let [1, width, _] = fields {
                 if next != from {
-                    self.byte(b' ')?;
+                    self.byte(b' ');
                 }
-                self.digits(outcome.shown, next, *width as usize)?;
+                self.digits(outcome.shown, next, *width as usize);
                 next = next.saturating_add(*width as usize);
             }
         }
-        self.byte(b'\n')?;
-        Ok(next)
+        self.byte(b'\n');
+        next
     }
 
     // All ticks, a line each: what the ports show, or the tick's refusal.
-    pub fn print_ticks(&mut self, outcome: Outcome<'_>) -> io::Result<()> {
+    pub fn print_ticks(&mut self, outcome: Outcome<'_>) {
         let outputs = outcome.outputs();
         let mut next: usize = 0;
         for i in 0..outcome.heads.len() / 3 {
             let (number, place) = outcome.answer(i);
             if number == 0 {
-                next = self.ports(outcome, next)?;
+                next = self.ports(outcome, next);
             } else {
-                self.refusal(number as usize, place as usize)?;
+                self.refusal(number as usize, place as usize);
                 next = next.saturating_add(outputs);
             }
         }
-        self.text.flush(&mut self.to)
+        self.flush();
     }
 
     // What is shown, as lines or as a VCD file, or one line for the refusal.
@@ -136,7 +135,7 @@ impl<W: Write> Printer<'_, W> {
         answer: Result<Tapes, Refusal>,
         outcome: Outcome<'_>,
         vcd: bool,
-    ) -> io::Result<()> {
+    ) {
         match answer {
             Ok(tapes) => {
                 let outcome = Outcome {
@@ -154,8 +153,8 @@ impl<W: Write> Printer<'_, W> {
     }
 
     // A refusal of the whole, as a line.
-    pub fn print_refusal(&mut self, number: usize, place: usize) -> io::Result<()> {
-        self.refusal(number, place)?;
-        self.text.flush(&mut self.to)
+    pub fn print_refusal(&mut self, number: usize, place: usize) {
+        self.refusal(number, place);
+        self.flush();
     }
 }

@@ -2,7 +2,6 @@
 use crate::input::Filled;
 use crate::print::{Outcome, Printer};
 use simulator::simulate;
-use std::io;
 use std::io::Write;
 
 // The start of a list, as far as it goes.
@@ -19,7 +18,7 @@ pub fn run<W: Write>(
     bits: &mut [u8],
     filled: Filled,
     vcd: bool,
-) -> io::Result<()> {
+) {
     let words = start(words, filled.words);
     let heads = start(heads, filled.heads);
     let bits = start(bits, filled.bits);
@@ -63,5 +62,5 @@ pub fn run<W: Write>(
         answers: &answers,
         shown: &shown,
     };
-    printer.print_answer(answer, outcome, vcd)
+    printer.print_answer(answer, outcome, vcd);
 }

@@ -32,12 +32,6 @@ pub or_else_none : {A : Type 0} (o : Option A) → or_else o None ≡ o
 or_else_none None = refl
 or_else_none (Some a) = refl
 
-pub three : {a b c x y : Option (ℕ × ℕ)} (a' b' c' : Option (ℕ × ℕ)) → a ≡ a' → b ≡ b' → c ≡ c' → x ≡ or_else b c → y ≡ or_else a x → y ≡ first_of (a' ∷ b' ∷ c' ∷ [])
-three a' b' c' qa qb qc qx qy = qy ∙ ap₂ or_else qa (qx ∙ ap₂ or_else qb (qc ∙ sym (or_else_none c')))
-
-pub four : {a b c d x y z : Option (ℕ × ℕ)} (a' b' c' d' : Option (ℕ × ℕ)) → a ≡ a' → b ≡ b' → c ≡ c' → d ≡ d' → x ≡ or_else c d → y ≡ or_else b x → z ≡ or_else a y → z ≡ first_of (a' ∷ b' ∷ c' ∷ d' ∷ [])
-four a' b' c' d' qa qb qc qd qx qy qz = qz ∙ ap₂ or_else qa (three b' c' d' qb qc qd qx qy)
-
 pub firsts_append : (xs ys : List (Option (ℕ × ℕ))) → first_of (xs ++ ys) ≡ or_else (first_of xs) (first_of ys)
 firsts_append [] ys = refl
 firsts_append (None ∷ xs) ys = firsts_append xs ys

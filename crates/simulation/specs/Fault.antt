@@ -5,7 +5,7 @@ use Rattle.bits.specs.Bits.{pick}
 use Rattle.recorder.specs.Read.{read_signal, read_expr, read_stmt}
 use Rattle.recorder.specs.Record.{Model}
 use Rattle.recorder.specs.Lists.{Lists}
-use Rattle.simulation.specs.Index.{records_in, widths_in, Listed}
+use Rattle.simulation.specs.Index.{records_in}
 use Rattle.simulation.specs.Wellformed.{widths, count_of, drives, wide, in_range, earlier, width_sum, broad, suits, fits, first_failing, signal_fits, expr_fits, stmt_fits, or_else, malformed}
 use Rattle.simulation.specs.Run.{Call, call_model, total, short, no_bit, wrong_count, wrong_fired, first_of, causes}
 
@@ -54,13 +54,6 @@ eq_test ew n r = eqb (length r) 4 && (eqb (get_or r 1 0) 1 && (ltb (get_or r 2 0
 
 abbrev pub expr_fault_of : ℕ → List (List ℕ) → List (List ℕ) → Option ℕ
 expr_fault_of widest ss es = first_failing (expr_test widest (widths ss) (widths es)) 0 es
-
--- tables of widths and the numbers of signals and of expressions, as the code hands them on
-pub record Widths (signals signal_table : List ℕ) (count : ℕ) (exprs expr_table : List ℕ) (n : ℕ) : Type 0 where
-  pub signals_listed : Listed (widths_in signals) signal_table
-  pub signals_counted : count ≡ length (records_in signals)
-  pub exprs_listed : Listed (widths_in exprs) expr_table
-  pub exprs_counted : n ≡ length (records_in exprs)
 
 -- the test of a statement, and the same for each kind
 abbrev pub stmt_test : List ℕ → List ℕ → List ℕ → Bool

@@ -90,6 +90,7 @@ pub fn fill_starts(list: &[u32], table: &mut [u32])
 }
 
 // The sum of the first k widths, from the table, or else from the list.
+// (`start` with another walk; one function for both would take the walk as a closure, and be longer than this one.)
 pub fn offset(list: &[u32], table: &[u32], k: usize) -> usize
     ensures { result ≡ offset_by list.now table.now k }
 {

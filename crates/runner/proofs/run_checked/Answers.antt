@@ -1,23 +1,21 @@
 use Rattle.std.proofs.Common.{refl, sym, arith}
-use Rattle.runner.proofs.Call.{fine, signals_read_in, exprs_fit, signals_fit, values_fill, room, bytes_fill, ticks_good, tried_looped, tried_made}
+use Rattle.runner.proofs.Call.{fine, same_lists, exprs_fit, signals_fit, values_fill, room, bytes_fill, ticks_good, tried_looped, tried_made, tried_same}
 use Rattle.runner.proofs.run_checked.Goals as goal
 
-pub invariant_of-checked : goal.invariant_of-checked
-invariant_of-checked c = let t = c.fill_tables.ensures in record { faultless = fine c.requires; started = t.started; expr_offsets = t.expr_offsets; signal_offsets = t.signal_offsets; driven = t.driven; expr_counted = c.count.ensures; signal_counted = c.count-2.ensures; ports_before = c.ports_end.ensures }
-
-pub ports_end-requires : goal.ports_end-requires
-ports_end-requires c = signals_read_in c.requires
+pub new-checked-requires : goal.new-checked-requires
+new-checked-requires c = (fine c.requires, c.fill_for.ensures.filled)
 
 pub prepare-requires : goal.prepare-requires
-prepare-requires c = exprs_fit c.requires c.count.ensures
+prepare-requires c = exprs_fit (same_lists c.new-checked.ensures c.requires) c.new-checked.result.expr_counted
 
 pub tick-requires : goal.tick-requires
 tick-requires c =
-    let u = c.requires in
-    (room u c.fill.auto.self, omega (arith, exprs_fit u c.count.ensures, c.prepare.auto.marks), signals_fit u c.count-2.ensures, c.in-Ok.ensures.ordered, c.in-Ok.ensures.unlooped, values_fill u (c.fill.ensures.after (λ _ e. e)), ticks_good u, bytes_fill u)
+    let k = c.new-checked in
+    let u = same_lists k.ensures c.requires in
+    (room u c.fill.auto.self, omega (arith, exprs_fit u k.result.expr_counted, c.prepare.auto.marks), signals_fit u k.result.signal_counted, c.in-Ok.ensures.ordered, c.in-Ok.ensures.unlooped, values_fill u (c.fill.ensures.after (λ _ e. e)), ticks_good u, bytes_fill u)
 
-pub returns-in-Err : goal.returns-in-Err
-returns-in-Err c = tried_looped c.requires _ refl (sym c.in-Err.ensures.looped) _ refl
+pub returns-in-Err-clause-tries : goal.returns-in-Err-clause-tries
+returns-in-Err-clause-tries c = let k = c.new-checked in tried_same k.ensures (tried_looped (same_lists k.ensures c.requires) _ refl (sym c.in-Err.ensures.looped) _ refl)
 
-pub returns-in-Ok : goal.returns-in-Ok
-returns-in-Ok c = tried_made c.requires c.in-Ok.ensures.unlooped c.tick.ensures.ticked _ refl
+pub returns-in-Ok-clause-tries : goal.returns-in-Ok-clause-tries
+returns-in-Ok-clause-tries c = let k = c.new-checked in tried_same k.ensures (tried_made (same_lists k.ensures c.requires) c.in-Ok.ensures.unlooped c.tick.ensures.ticked _ refl)

@@ -8,10 +8,10 @@ use Rattle.runner.proofs.Call.{checked_none, answers_refused, answers_tried, sam
 use Rattle.runner.proofs.run_with.Goals as goal
 
 pub run_checked-requires : goal.run_checked-requires
-run_checked-requires c = let a = c.args in let c₀ = call_of (lists_of a.m) a.bytes.now a.ticks.now (fired_of a.fired) a.work_bits.now a.work_exprs.now a.work_signals.now in same_works c₀ c.check_call.auto.work_signals (checked_none c₀ (sym c.in_ok-check_call.ensures.answer))
+run_checked-requires c = let a = c.args in let c₀ = call_of (lists_of a.m) a.bytes.now a.ticks.now (fired_of a.fired) a.works.now.bits.now a.works.now.exprs.now a.works.now.signals.now in let k = c.check_call.ensures in same_works c₀ k.kept.bits k.kept.exprs k.zeros (checked_none c₀ (sym c.in_ok-check_call.ensures.answer))
 
-pub returns-in_err-check_call : goal.returns-in_err-check_call
-returns-in_err-check_call c = let a = c.args in let p = err_from_is_err_and c.from_residual.result c.from_residual.ensures.1 in rw (p.1, p.2) (answers_refused (call_of (lists_of a.m) a.bytes.now a.ticks.now (fired_of a.fired) a.work_bits.now a.work_exprs.now a.work_signals.now) _ (Err c.in_err-check_call.field-0.0) refl c.in_err-check_call.ensures.answer)
+pub returns-in_err-check_call-clause-answers : goal.returns-in_err-check_call-clause-answers
+returns-in_err-check_call-clause-answers c = let a = c.args in let p = err_from_is_err_and c.from_residual.result c.from_residual.ensures.1 in rw (p.1, p.2) (answers_refused (call_of (lists_of a.m) a.bytes.now a.ticks.now (fired_of a.fired) a.works.now.bits.now a.works.now.exprs.now a.works.now.signals.now) _ (Err c.in_err-check_call.field-0.0) refl c.in_err-check_call.ensures.answer)
 
-pub returns : goal.returns
-returns c = let a = c.args in answers_tried (call_of (lists_of a.m) a.bytes.now a.ticks.now (fired_of a.fired) a.work_bits.now a.work_exprs.now a.work_signals.now) c.in_ok-check_call.ensures.answer c.run_checked.ensures
+pub returns-clause-answers : goal.returns-clause-answers
+returns-clause-answers c = let a = c.args in answers_tried (call_of (lists_of a.m) a.bytes.now a.ticks.now (fired_of a.fired) a.works.now.bits.now a.works.now.exprs.now a.works.now.signals.now) c.in_ok-check_call.ensures.answer c.run_checked.ensures.tries

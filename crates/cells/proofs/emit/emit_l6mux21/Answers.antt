@@ -8,17 +8,25 @@ pub returns-in_err-select : goal.returns-in_err-select
 unfolding emit_l6mux21
 returns-in_err-select c =
     let q0 = map_begun c.begin.ensures in
-    record { start = c.begin.new.self; begins = c.begin.ensures; does =
-    once_err _ c.from_residual.result _ c.from_residual.ensures.1 (bit_on q0 _ c.in_err-select.ensures) _; }
+    record {
+      start = c.begin.new.self;
+      begins = c.begin.ensures;
+      does =
+          once_err _ c.from_residual.result _ c.from_residual.ensures.1 (bit_on q0 _ c.in_err-select.ensures) _;
+    }
 
 pub returns-in_err-zero : goal.returns-in_err-zero
 unfolding emit_l6mux21
 returns-in_err-zero c =
     let q0 = map_begun c.begin.ensures in
     let q1 = map_on q0 c.in_ok-select.ensures.same in
-    record { start = c.begin.new.self; begins = c.begin.ensures; does =
-    once_then (bit_on q0 _ c.in_ok-select.ensures) _
-    (once_err _ c.from_residual-in_err-zero.result _ c.from_residual-in_err-zero.ensures.1 (bit_on q1 _ c.in_err-zero.ensures) _); }
+    record {
+      start = c.begin.new.self;
+      begins = c.begin.ensures;
+      does =
+          once_then (bit_on q0 _ c.in_ok-select.ensures) _
+          (once_err _ c.from_residual-in_err-zero.result _ c.from_residual-in_err-zero.ensures.1 (bit_on q1 _ c.in_err-zero.ensures) _);
+    }
 
 pub returns-in_err-one : goal.returns-in_err-one
 unfolding emit_l6mux21
@@ -26,10 +34,14 @@ returns-in_err-one c =
     let q0 = map_begun c.begin.ensures in
     let q1 = map_on q0 c.in_ok-select.ensures.same in
     let q2 = map_on q1 c.in_ok-zero.ensures.same in
-    record { start = c.begin.new.self; begins = c.begin.ensures; does =
-    once_then (bit_on q0 _ c.in_ok-select.ensures) _
-    (once_then (bit_on q1 _ c.in_ok-zero.ensures) _
-    (once_err _ c.from_residual-in_err-one.result _ c.from_residual-in_err-one.ensures.1 (bit_on q2 _ c.in_err-one.ensures) _)); }
+    record {
+      start = c.begin.new.self;
+      begins = c.begin.ensures;
+      does =
+          once_then (bit_on q0 _ c.in_ok-select.ensures) _
+          (once_then (bit_on q1 _ c.in_ok-zero.ensures) _
+          (once_err _ c.from_residual-in_err-one.result _ c.from_residual-in_err-one.ensures.1 (bit_on q2 _ c.in_err-one.ensures) _));
+    }
 
 pub returns-in_err-value : goal.returns-in_err-value
 unfolding emit_l6mux21
@@ -38,11 +50,15 @@ returns-in_err-value c =
     let q1 = map_on q0 c.in_ok-select.ensures.same in
     let q2 = map_on q1 c.in_ok-zero.ensures.same in
     let q3 = map_on q2 c.in_ok-one.ensures.same in
-    record { start = c.begin.new.self; begins = c.begin.ensures; does =
-    once_then (bit_on q0 _ c.in_ok-select.ensures) _
-    (once_then (bit_on q1 _ c.in_ok-zero.ensures) _
-    (once_then (bit_on q2 _ c.in_ok-one.ensures) _
-    (plain_err _ c.from_residual-in_err-value.result _ c.from_residual-in_err-value.ensures.1 c.in_err-value.ensures _))); }
+    record {
+      start = c.begin.new.self;
+      begins = c.begin.ensures;
+      does =
+          once_then (bit_on q0 _ c.in_ok-select.ensures) _
+          (once_then (bit_on q1 _ c.in_ok-zero.ensures) _
+          (once_then (bit_on q2 _ c.in_ok-one.ensures) _
+          (plain_err _ c.from_residual-in_err-value.result _ c.from_residual-in_err-value.ensures.1 c.in_err-value.ensures _)));
+    }
 
 pub returns : goal.returns
 unfolding emit_l6mux21
@@ -52,9 +68,13 @@ returns c =
     let q2 = map_on q1 c.in_ok-zero.ensures.same in
     let q3 = map_on q2 c.in_ok-one.ensures.same in
     let q4 = map_on q3 c.in_ok-value.ensures.same in
-    record { start = c.begin.new.self; begins = c.begin.ensures; does =
-    once_then (bit_on q0 _ c.in_ok-select.ensures) _
-    (once_then (bit_on q1 _ c.in_ok-zero.ensures) _
-    (once_then (bit_on q2 _ c.in_ok-one.ensures) _
-    (plain_then c.in_ok-value.ensures _
-    (plain_keep (sym (seen_plain c.in_ok-value.ensures)) (assign_on q4 _ _ c.assign_wire.ensures))))); }
+    record {
+      start = c.begin.new.self;
+      begins = c.begin.ensures;
+      does =
+          once_then (bit_on q0 _ c.in_ok-select.ensures) _
+          (once_then (bit_on q1 _ c.in_ok-zero.ensures) _
+          (once_then (bit_on q2 _ c.in_ok-one.ensures) _
+          (plain_then c.in_ok-value.ensures _
+          (plain_keep (sym (seen_plain c.in_ok-value.ensures)) (assign_on q4 _ _ c.assign_wire.ensures)))));
+    }
