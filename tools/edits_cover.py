@@ -4,14 +4,24 @@
   tools/edits_cover.py          prints each function with fewer than two and the edits that it has; nothing, and status 0, when all have two
   tools/edits_cover.py --all    prints every callable function with its edits
 
-An edit aims at a function if a line that it changes stands in the function, in its contract, in a function of the same crate that is not callable
-and that it leads to, or in a definition of specs/, of any crate, that its contract names.
+Callable: a `pub fn` of a module that public modules lead to, or, wherever it stands, of an `impl` of a type that such a module declares; and what
+such a type has of a trait, where the `impl` or a trait of this repository promises something of it.
+
+An edit aims at a function if a line that it changes stands in the function, in its contract, in what its `impl` of a trait promises, in a function
+or constant of the same crate that is not callable and that it leads to, or in a definition of specs/, of any crate, that its contract names. A call
+leads to what has its name: by `Kind::from(` to a function of `Kind`, by `x.from(` to a method, by `from(` to a function of no type.
 """
 import collections, pathlib, re, sys
 
 root = pathlib.Path(__file__).resolve().parent.parent
 DECLARES = re.compile(r'(\s*)(?:abbrev |unfoldable )?(?:pub )?(?:abbrev |unfoldable )?(?:record |data )?([^\s:(){}]*)')
 WORD = re.compile(r"[^\s(){}\[\];,.«»⌜⌝|&*+\-]+")
+IMPL = re.compile(r'(?m)^impl(?:<[^>]*>)? (?:([\w:]+)(?:<[^>]*>)? for )?(?:\w+::)*(\w+)[^{]*\{')
+TRAIT = re.compile(r'(?m)^(?:pub )?(trait) (\w+)[^{]*\{')
+TYPE = re.compile(r'(?m)^(pub )?(?:struct|enum) (\w+)')
+FUNCTION = re.compile(r'(?m)^[ ]*(pub )?(?:pub\(\w+\) )?(?:extern "C" )?fn (\w+)\s*(?:<[^>]*>)?\(')
+CONSTANT = re.compile(r'(?m)^[ ]*(?:pub )?(?:const|static) (\w+): ')
+PROMISE = re.compile(r'(?m)^ *ghost \w+ = [^;]*;')
 
 
 def closing(text, at):
@@ -31,17 +41,32 @@ def source_files(file, path, public):
         yield from source_files(folder / f'{name}.rt', f'{path}::{name}', public and bool(pub))
 
 
-class Function:
-    def __init__(self, file, path, name, callable, text, start, body, end, imports):
-        self.file, self.name, self.callable = file, name, callable
-        self.path = f'{path}::{name}'
-        self.lines = range(text.count('\n', 0, start) + 1, text.count('\n', 0, end) + 2)
-        clauses = re.search(r'(?s)\b(?:requires|ensures)\b.*', text[start:body])
-        self.cited = {imports[w] for w in WORD.findall(clauses[0] if clauses else '') if w in imports}
-        self.calls = set(re.findall(r'\b(\w+)\(', text[body:end]))
+class Item:
+    """A function, or a constant, with the type that it is of and the trait."""
+
+    def __init__(self, file, path, trait, owner, name):
+        self.file, self.path, self.trait, self.owner, self.name = file, path, trait, owner, name
+        self.lines, self.cited, self.callable, self.promises, self.calls, self.constants = set(), set(), False, False, set(), set()
+
+    def __str__(self):
+        owner = f'<{self.owner} as {self.trait}>::' if self.trait else f'{self.owner}::' if self.owner else ''
+        return f'{self.path}::{owner}{self.name}'
 
 
-def functions(file, path, public):
+def line_numbers(text, start, end):
+    return set(range(text.count('\n', 0, start) + 1, text.count('\n', 0, end) + 2))
+
+
+def calls_in(body):
+    """The calls of a body: whose (a type's or module's name, 'self', 'a value' or none), and the name."""
+    for m in re.finditer(r'(\b\w+(?:::<[^>]*>)?::|\bself\.|\.)?\b(\w+)(?:::<[^>]*>)?\(', body):
+        before = m[1] or ''
+        whose = 'self' if before == 'self.' else 'a value' if before == '.' else re.match(r'\w*', before)[0]
+        yield whose, m[2]
+
+
+def items(file, path, public):
+    """The functions and constants of a file."""
     text = re.sub(r'(?m)//.*$', '', file.read_text())
     imports = {}
     for module, names in re.findall(r'ghost use ([^;{]+)\.\{([^}]*)\};', text):
@@ -51,15 +76,95 @@ def functions(file, path, public):
             for one in names.split(','):
                 name, _, alias = one.strip().partition(' as ')
                 imports[alias or name] = (spec, name.split('.')[0])
-    owners = [(m.start(), closing(text, m.end() - 1), m[1]) for m in re.finditer(r'(?m)^impl(?:<[^>]*>)? (\w+)[^{]*\{', text)]
-    for m in re.finditer(r'(?m)^[ ]*(pub )?(?:extern "C" )?fn (\w+)\s*(?:<[^>]*>)?\(', text):
+    cited = lambda said: {imports[w] for w in WORD.findall(said) if w in imports}
+    owners = [(m.start(), closing(text, m.end() - 1), m[1], m[2]) for m in (*IMPL.finditer(text), *TRAIT.finditer(text))]
+
+    def item(name, at):
+        for start, end, trait, owner in owners:
+            if start <= at < end:
+                found = Item(file, path, trait and trait.split('::')[-1], owner, name)
+                for m in PROMISE.finditer(text, start, end) if trait and trait != 'trait' else ():
+                    found.promises = True
+                    found.lines |= line_numbers(text, m.start(), m.end())
+                    found.cited |= cited(m[0])
+                return found
+        return Item(file, path, None, None, name)
+
+    for m in FUNCTION.finditer(text):
         at = closing(text, m.end() - 1)
-        at += re.match(r'\s*(->[^{]*?)?(?=\s*(?:requires|ensures|\{))', text[at:]).end()
+        at += re.match(r'\s*(->[^{]*?)?(?=\s*(?:requires|ensures|\{|;\n))', text[at:]).end()
+        clauses = at
         while clause := re.match(r'\s*(?:requires|ensures)\b[^{]*', text[at:]):
             at = closing(text, at + clause.end())
-        body = text.index('{', at)
-        owner = ''.join(f'{name}::' for a, b, name in owners if a <= m.start() < b)
-        yield Function(file, path, owner + m[2], public and bool(m[1]), text, m.start(), body, closing(text, body), imports)
+        f = item(m[2], m.start())
+        f.public = bool(m[1])
+        body = text[at:].lstrip()
+        end = closing(text, text.index('{', at)) if body.startswith('{') else at
+        f.lines |= line_numbers(text, m.start(), end)
+        f.cited |= cited(text[clauses:at])
+        f.promises |= bool(re.search(r'\bensures\b', text[clauses:at]))
+        f.calls = set(calls_in(text[at:end]))
+        f.constants = set(re.findall(r'(?:\b(\w+)::)?\b([A-Z][A-Z0-9_]*)\b', text[at:end]))
+        yield f
+    for m in CONSTANT.finditer(text):
+        end, depth = m.end(), 0
+        while text[end] != ';' or depth:
+            depth += {'[': 1, '(': 1, '{': 1, ']': -1, ')': -1, '}': -1}.get(text[end], 0)
+            end += 1
+        c = item(m[1], m.start())
+        c.public, c.constant = False, True
+        c.lines = line_numbers(text, m.start(), end)
+        c.calls = set(calls_in(text[m.end():end]))
+        c.constants = set(re.findall(r'(?:\b(\w+)::)?\b([A-Z][A-Z0-9_]*)\b', text[m.end():end]))
+        yield c
+
+
+def crate_of(lib):
+    """The functions and constants of a crate, and of the functions whether another crate can call them."""
+    found, types, traits = [], {}, {}
+    files = list(source_files(lib, lib.parts[-3], True))
+    for file, path, public in files:
+        for pub, name in TYPE.findall(file.read_text()):
+            types[name] = public and bool(pub)
+    for file, path, public in files:
+        found += items(file, path, public)
+    for f in found:
+        if f.trait == 'trait':
+            traits[f.owner, f.name] = f
+    for f in found:
+        public = dict((file, public) for file, path, public in files)[f.file]
+        if getattr(f, 'constant', False) or f.trait == 'trait':
+            continue
+        if f.trait:
+            if law := traits.get((f.trait, f.name)):
+                f.promises |= law.promises
+            f.callable = f.promises and types.get(f.owner, True)
+        elif f.owner:
+            f.callable = f.public and types.get(f.owner, False)
+        else:
+            f.callable = f.public and public
+    return found
+
+
+def led_to(f, found):
+    """What is not callable and what a function or constant of a crate leads to by a call or a name."""
+    for whose, name in f.calls:
+        named = [h for h in found if h.name == name and not getattr(h, 'constant', False) and h.trait != 'trait']
+        if whose in ('self', 'a value'):
+            named = [h for h in named if h.owner]
+            if whose == 'self':
+                named = [h for h in named if h.owner == f.owner] or named
+        elif whose == 'Self':
+            named = [h for h in named if h.owner == f.owner]
+        elif whose:
+            named = [h for h in named if h.owner == whose or not h.owner and (h.path.split('::')[-1] == whose or whose in ('self', 'super', 'crate'))]
+        else:
+            named = [h for h in named if not h.owner]
+        named = [h for h in named if not h.callable]
+        yield from [h for h in named if h.file == f.file] or named
+    for whose, name in f.constants:
+        named = [h for h in found if h.name == name and getattr(h, 'constant', False) and h.owner == ((f.owner if whose == 'Self' else whose) or None)]
+        yield from [h for h in named if h.file == f.file] or named
 
 
 def definitions(file):
@@ -107,23 +212,19 @@ for edit, changed in edits():
 
 short = 0
 for lib in sorted(root.glob('crates/*/src/lib.rt')):
-    crate = [f for file, path, public in source_files(lib, lib.parts[-3], True) for f in functions(file, path, public)]
-    private = collections.defaultdict(list)
-    for f in crate:
-        if not f.callable:
-            private[f.name.split('::')[-1]].append(f)
-    for f in crate:
+    found = crate_of(lib)
+    for f in found:
         if not f.callable:
             continue
         reached, left = {f}, [f]
         while left:
             g = left.pop()
-            for called in g.calls:
-                near = [h for h in private[called] if h.file == g.file] or private[called]
-                left += [h for h in near if h not in reached]
-                reached.update(near)
+            for h in led_to(g, found):
+                if h not in reached:
+                    reached.add(h)
+                    left.append(h)
         aimed = set().union(*(by_line[g.file, n] for g in reached for n in g.lines), *(by_definition[d] for d in f.cited))
         short += len(aimed) < 2
         if len(aimed) < 2 or '--all' in sys.argv:
-            print(f'{f.path}: {len(aimed)}' + ''.join(f' {e}' for e in sorted(aimed)))
+            print(f'{f}: {len(aimed)}' + ''.join(f' {e}' for e in sorted(aimed)))
 sys.exit(short > 0)

@@ -9,7 +9,7 @@ use words::read_words;
 
 // Number and place of the check's refusal.
 fn checked(words: &[u32]) -> (usize, usize) {
-    match reader::check(Limits::BASE, words) {
+    match reader::check(Limits::base(), words) {
         Ok(_) => (0, 0),
         Err(x) => (x.number(), x.place()),
     }

@@ -2,8 +2,9 @@
 
 #![tactic(auto)]
 
-ghost use Rattle.std.specs.Prelude.{◌≡◌, ◌-◌, ◌<◌, ◌≤◌, [], ◌∷◌, IsErr, IsOk, length, drop, take};
+ghost use Rattle.std.specs.Prelude.{◌≡◌, ◌-◌, ◌<◌, ◌≤◌, [], ◌∷◌, IsErr, IsOk, is_ok, length, drop, take};
 ghost use Rattle.std.specs.Io.KnownBytes.{Appends};
+ghost use Rattle.text.specs.Text.{Flushed};
 ghost use Rattle.text.specs.Decimal.{decimal};
 
 use std::io::Write;
@@ -21,6 +22,11 @@ impl fmt::Display for Full {
 
 // Where text is put and then written, one `?` passes on both errors.
 impl From<Full> for io::Error {
+    ghost use Rattle.std.specs.IoError.{error_kind};
+    ghost use Rattle.std.specs.declared.io.ErrorKind.TheVariants.{WriteZero};
+
+    ghost from_gives = { λ _ error. error_kind error ≡ WriteZero };
+
     fn from(_full: Full) -> io::Error {
         io::Error::from(io::ErrorKind::WriteZero)
     }
@@ -94,6 +100,12 @@ impl<'a> Text<'a> {
         &self.out[..self.used.min(self.out.len())]
     }
 
+    fn buffer(&self) -> &[u8]
+        ensures { result.now ≡ self.now.out.now }
+    {
+        self.out
+    }
+
     pub fn clear(&mut self)
         ensures same_reference { self.new.out.ghost_name ≡ self.old.out.ghost_name }
         ensures same_bytes { self.new.out.now ≡ self.old.out.now }
@@ -113,13 +125,23 @@ impl<'a> Text<'a> {
         ensures refused { length self.old.out.now < self.old.used → IsErr result }
         ensures unwritten { length self.old.out.now < self.old.used → W.contents to.new ≡ W.contents to.old }
     {
-        if self.out.len() < self.used {
-            return Err(io::Error::from(Full));
-        }
-        to.write_all(self.bytes())?;
+        let used = self.used;
+        flush(to, self.buffer(), used)?;
         self.clear();
         Ok(())
     }
+}
+
+// Writes the bytes before a place to a writer, as the standard output. Of a place past the end none are, and that is refused.
+pub fn flush<W: Write>(to: &mut W, out: &[u8], at: usize) -> io::Result<()>
+    ensures said { Flushed out.now at (is_ok result) }
+    ensures written { IsOk result → Appends (W.contents to.old) (W.contents to.new) (take at out.now) }
+    ensures kept { length out.now < at → W.contents to.new ≡ W.contents to.old }
+{
+    if out.len() < at {
+        return Err(io::Error::from(Full));
+    }
+    to.write_all(&out[..at])
 }
 
 // Puts a number's decimal digits at the end of figures, and answers where they begin.
