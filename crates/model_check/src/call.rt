@@ -33,6 +33,45 @@ impl Works<'_> {
         self.exprs.fill(0);
         self.signals.fill(0);
     }
+
+    // `call_lengths` with these works.
+    pub fn lengths(&self, m: Model, bytes: &[u8]) -> Result<(), Refusal>
+        ensures { answer_of result ≡ first_of (length_causes m.entry.signals.now m.entry.exprs.now bytes.now self.now.bits.now self.now.exprs.now self.now.signals.now) }
+    {
+        call_lengths(m, bytes, self.bits, self.exprs, self.signals)
+    }
+
+    // `check_call` with these works.
+    pub fn check(
+        &mut self,
+        m: Model,
+        signal_table: &mut [u32],
+        expr_table: &mut [u32],
+        bytes: &[u8],
+        ticks: &[u8],
+        fired: Option<Edge>,
+        widest: u32,
+    ) -> Result<(), Refusal>
+        ensures answer { answer_of result ≡ checked_by widest (call_of (lists_of m.entry) bytes.now ticks.now (fired_of fired) self.old.bits.now self.old.exprs.now self.old.signals.now) }
+        ensures zeros { (signal_table.new ≡ zeroed signal_table.old) × (expr_table.new ≡ zeroed expr_table.old) × (self.new.signals.now ≡ zeroed self.old.signals.now) }
+        ensures kept { OthersKept self.old self.new }
+        ensures same { SameWorks self.old self.new }
+    {
+        let bits: &mut [u8] = self.bits;
+        let exprs: &mut [u8] = self.exprs;
+        check_call(
+            m,
+            signal_table,
+            expr_table,
+            bytes,
+            ticks,
+            fired,
+            bits,
+            exprs,
+            self.signals,
+            widest,
+        )
+    }
 }
 
 fn too_short(n: usize, buffer: &[u8]) -> Result<(), Refusal>
@@ -52,13 +91,19 @@ fn width_total(list: &[u32]) -> usize
 }
 
 // Refusal 1: the first buffer that is too short.
-pub fn call_lengths(m: Model, bytes: &[u8], works: &Works) -> Result<(), Refusal>
-    ensures { answer_of result ≡ first_of (length_causes m.entry.signals.now m.entry.exprs.now bytes.now works.now.bits.now works.now.exprs.now works.now.signals.now) }
+pub fn call_lengths(
+    m: Model,
+    bytes: &[u8],
+    work_bits: &[u8],
+    work_exprs: &[u8],
+    work_signals: &[u8],
+) -> Result<(), Refusal>
+    ensures { answer_of result ≡ first_of (length_causes m.entry.signals.now m.entry.exprs.now bytes.now work_bits.now work_exprs.now work_signals.now) }
 {
     too_short(width_total(m.signals), bytes)?;
-    too_short(width_total(m.exprs), works.bits)?;
-    too_short(count(m.exprs), works.exprs)?;
-    too_short(count(m.signals), works.signals)
+    too_short(width_total(m.exprs), work_bits)?;
+    too_short(count(m.exprs), work_exprs)?;
+    too_short(count(m.signals), work_signals)
 }
 
 // The first byte that is no bit.
@@ -161,11 +206,13 @@ fn call_fault(
     bytes: &[u8],
     ticks: &[u8],
     fired: Option<Edge>,
-    works: &Works,
+    work_bits: &[u8],
+    work_exprs: &[u8],
+    work_signals: &[u8],
 ) -> Result<(), Refusal>
-    ensures { answer_of result ≡ call_causes (call_of (lists_of m.entry) bytes.now ticks.now (fired_of fired) works.now.bits.now works.now.exprs.now works.now.signals.now) }
+    ensures { answer_of result ≡ call_causes (call_of (lists_of m.entry) bytes.now ticks.now (fired_of fired) work_bits.now work_exprs.now work_signals.now) }
 {
-    call_lengths(m, bytes, works)?;
+    call_lengths(m, bytes, work_bits, work_exprs, work_signals)?;
     bits(m.signals, bytes, ticks, fired)
 }
 
@@ -177,16 +224,16 @@ pub fn check_call(
     bytes: &[u8],
     ticks: &[u8],
     fired: Option<Edge>,
-    works: &mut Works,
+    work_bits: &[u8],
+    work_exprs: &[u8],
+    work_signals: &mut [u8],
     widest: u32,
 ) -> Result<(), Refusal>
-    ensures answer { answer_of result ≡ checked_by widest (call_of (lists_of m.entry) bytes.now ticks.now (fired_of fired) works.old.bits.now works.old.exprs.now works.old.signals.now) }
-    ensures zeros { (signal_table.new ≡ zeroed signal_table.old) × (expr_table.new ≡ zeroed expr_table.old) × (works.new.signals.now ≡ zeroed works.old.signals.now) }
-    ensures kept { OthersKept works.old works.new }
-    ensures same { SameWorks works.old works.new }
+    ensures answer { answer_of result ≡ checked_by widest (call_of (lists_of m.entry) bytes.now ticks.now (fired_of fired) work_bits.now work_exprs.now work_signals.old) }
+    ensures zeros { (signal_table.new ≡ zeroed signal_table.old) × (expr_table.new ≡ zeroed expr_table.old) × (work_signals.new ≡ zeroed work_signals.old) }
 {
-    match malformed(m, signal_table, expr_table, works.signals, widest) {
+    match malformed(m, signal_table, expr_table, work_signals, widest) {
         Some(n) => Err(Refusal::MalformedModel(n)),
-        None => call_fault(m, bytes, ticks, fired, works),
+        None => call_fault(m, bytes, ticks, fired, work_bits, work_exprs, work_signals),
     }
 }

@@ -8,7 +8,7 @@ ghost use Rattle.model_check.specs.Works.{SameWorks, OthersKept};
 
 use crate::WIDEST;
 use model_check::call::Works;
-use model_check::{call, check};
+use model_check::check;
 use refusal::Refusal;
 use simulation::{Edge, Model};
 
@@ -50,14 +50,13 @@ pub fn check_call(
 {
     let s = m.signals.len().min(signal_table.len());
     let e = m.exprs.len().min(expr_table.len());
-    call::check_call(
+    works.check(
         m,
         &mut signal_table[..s],
         &mut expr_table[..e],
         bytes,
         ticks,
         fired,
-        works,
         WIDEST,
     )
 }

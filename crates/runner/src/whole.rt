@@ -18,7 +18,7 @@ use crate::prepare::prepare;
 use crate::refused::refuse_ticks;
 use crate::show::output_total;
 use crate::tables::{CheckedModel, Tables};
-use model_check::call::{Works, byte_fault, call_lengths, input_total};
+use model_check::call::{Works, byte_fault, input_total};
 use refusal::Refusal;
 use simulation::Model;
 
@@ -55,7 +55,7 @@ fn list_fault(
     requires { ReadSignals m.signals.now }
     ensures { answer_of result ≡ fault_causes (list_call (lists_of m.entry) heads.now [] bytes.now works.now.bits.now works.now.exprs.now works.now.signals.now answers.now shown.now) }
 {
-    call_lengths(m, bytes, works)?;
+    works.lengths(m, bytes)?;
     shown_lengths(m.signals, heads, answers, shown)
 }
 

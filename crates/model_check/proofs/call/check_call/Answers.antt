@@ -6,7 +6,7 @@ use Rattle.simulation.specs.Model.{lists_of}
 use Rattle.model_check.proofs.call.check_call.Goals as goal
 
 pub returns-in-Some-clause-answer : goal.returns-in-Some-clause-answer
-returns-in-Some-clause-answer c = checked_fault c.args.widest (call_of (lists_of c.args.m) c.args.bytes.now c.args.ticks.now (fired_of c.args.fired) c.args.works.now.bits.now c.args.works.now.exprs.now c.args.works.now.signals.now) _ c.in-Some.ensures.fault
+returns-in-Some-clause-answer c = checked_fault c.args.widest (call_of (lists_of c.args.m) c.args.bytes.now c.args.ticks.now (fired_of c.args.fired) c.args.work_bits.now c.args.work_exprs.now c.args.work_signals.now) _ c.in-Some.ensures.fault
 
 pub returns-in-None-clause-answer : goal.returns-in-None-clause-answer
-returns-in-None-clause-answer c = checked_fine c.args.widest (call_of (lists_of c.args.m) c.args.bytes.now c.args.ticks.now (fired_of c.args.fired) c.args.works.now.bits.now c.args.works.now.exprs.now c.args.works.now.signals.now) c.in-None.ensures.fault (c.call_fault.ensures ∙ work_same (lists_of c.args.m) c.args.bytes.now c.args.ticks.now (fired_of c.args.fired) c.args.works.now.bits.now c.args.works.now.exprs.now c.args.works.now.signals.now c.malformed.new.bytes c.malformed.auto.bytes)
+returns-in-None-clause-answer c = checked_fine c.args.widest (call_of (lists_of c.args.m) c.args.bytes.now c.args.ticks.now (fired_of c.args.fired) c.args.work_bits.now c.args.work_exprs.now c.args.work_signals.now) c.in-None.ensures.fault (c.call_fault.ensures ∙ work_same (lists_of c.args.m) c.args.bytes.now c.args.ticks.now (fired_of c.args.fired) c.args.work_bits.now c.args.work_exprs.now c.args.work_signals.now c.malformed.new.bytes c.malformed.auto.bytes)
