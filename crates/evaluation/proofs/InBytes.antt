@@ -16,6 +16,7 @@ use lib.Seq.{sets, get_or-take, get_or-drop, get_or-set_other, drop-cons, length
 use borrow.Author.Tests.{eq-eqb, ne_eqb, leb-true}
 use Rattle.bits.specs.Bits.{pick, Bits, digit, number, binary, same, same_bits, differ}
 use Rattle.recorder.specs.Lists.{over}
+use Rattle.recorder.proofs.Room.{copy_step, copy_end}
 use Rattle.simulation.specs.Run.{is_one, no_bit}
 use Rattle.evaluation.specs.Bytes.{part, same_bytes, gate_of}
 
@@ -28,6 +29,16 @@ pub part_length : (l : List ℕ) (s n : ℕ) → s + n ≤ length l → length (
 part_length l s n h = length-take-le n (drop s l) (omega (arith, length-drop s l))
 
 -- COPIES
+
+module _ (from : List ℕ) (start n : ℕ) (h : start + n ≤ length from) where
+  pub copied_step : (l l₀ : List ℕ) (at i : ℕ) (x : ℕ) → i < n → x ≡ get_or from (start + i) 0 → over l (at + i) (drop i (part from start n)) ≡ over l₀ at (part from start n) → over (set l (at + i) x) (at + (i + 1)) (drop (i + 1) (part from start n)) ≡ over l₀ at (part from start n)
+  copied_step l l₀ at i x q e p =
+      ap (λ (y : ℕ). over (set l (at + i) y) (at + (i + 1)) (drop (i + 1) (part from start n))) (e ∙ sym (part_at from start n i q))
+      ∙ copy_step l at (part from start n) i (omega (arith, part_length from start n h))
+      ∙ p
+
+  pub copied_end : (l l₀ : List ℕ) (at i : ℕ) → n ≤ i → over l (at + i) (drop i (part from start n)) ≡ over l₀ at (part from start n) → l ≡ over l₀ at (part from start n)
+  copied_end l l₀ at i q p = sym (copy_end l at (part from start n) i (omega (arith, part_length from start n h))) ∙ p
 
 -- one byte
 pub copied_one : (l from : List ℕ) (at start n : ℕ) → n ≡ 1 → start + n ≤ length from → set l at (get_or from start 0) ≡ over l at (part from start n)

@@ -1,5 +1,5 @@
 // Numbers, each behind a space and its mark.
-ghost use Rattle.std.specs.Prelude.{◌++◌};
+ghost use Rattle.std.specs.Prelude.{◌∷◌, ◌++◌};
 ghost use Rattle.text.specs.Text.{Appended};
 ghost use Rattle.text.specs.Decimal.{decimal};
 ghost use Rattle.lines.specs.Lines.{field, fields_text};
@@ -14,13 +14,22 @@ pub fn put_number(text: &mut Text<'_>, lead: &[u8], n: u64) -> Result<(), Full>
     text.put_decimal(n)
 }
 
+// A number behind one byte: most are, and a byte is put faster than a text of one.
+pub fn put_marked(text: &mut Text<'_>, mark: u8, n: u64) -> Result<(), Full>
+    ensures { Appended text.old (mark ∷ decimal n) result text.new }
+{
+    text.put_byte(mark)?;
+    text.put_decimal(n)
+}
+
 fn put_field(text: &mut Text<'_>, mark: u8, n: u32) -> Result<(), Full>
     ensures { Appended text.old (field mark n) result text.new }
 {
     if mark == b'-' {
-        put_number(text, b" ", n as u64)
+        put_marked(text, b' ', n as u64)
     } else {
-        put_number(text, &[b' ', mark], n as u64)
+        text.put_byte(b' ')?;
+        put_marked(text, mark, n as u64)
     }
 }
 

@@ -6,7 +6,7 @@ ghost use Rattle.lines.specs.Ascii.{space, s, e, t};
 ghost use Rattle.lines.specs.Names.{labels, kinds, statements, named};
 ghost use Rattle.lines.specs.Lines.{owner_mark, owned, signal_fields, expr_fields, reg_marks, stmt_fields, record_text, counts_text, refused_text};
 
-use crate::fields::{put_fields, put_number};
+use crate::fields::{put_fields, put_marked, put_number};
 use crate::names::{put_kind, put_label, put_verb};
 use recorder::read::word;
 use text::{Full, Text};
@@ -77,7 +77,7 @@ impl Record for Signal {
     ghost rest = { signal_fields };
 
     fn put_head(text: &mut Text<'_>, number: u64) -> Result<(), Full> {
-        put_number(text, b"s", number)
+        put_marked(text, b's', number)
     }
 
     fn put_name(text: &mut Text<'_>, label: u32) -> Result<(), Full> {
@@ -102,7 +102,7 @@ impl Record for Expression {
     ghost rest = { expr_fields };
 
     fn put_head(text: &mut Text<'_>, number: u64) -> Result<(), Full> {
-        put_number(text, b"e", number)
+        put_marked(text, b'e', number)
     }
 
     fn put_name(text: &mut Text<'_>, kind: u32) -> Result<(), Full> {
@@ -147,7 +147,7 @@ impl Record for Statement {
     ghost rest = { stmt_fields };
 
     fn put_head(text: &mut Text<'_>, number: u64) -> Result<(), Full> {
-        put_number(text, b"t", number)
+        put_marked(text, b't', number)
     }
 
     fn put_name(text: &mut Text<'_>, kind: u32) -> Result<(), Full> {

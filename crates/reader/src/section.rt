@@ -16,8 +16,10 @@ pub struct Section<'a> {
     pub end: usize,
 }
 
+// Called for each field, so each is put into its caller: as calls they make the check of flip-flops half as long again.
 impl Section<'_> {
     // One word, which may have its value if `ok`.
+    #[inline(always)]
     pub fn word(&self, at: usize, ok: bool) -> Result<usize, Refusal>
         ensures { Passed (Reader.word base self.now.words.now self.now.end (λ x. ok)) at result }
     {
@@ -30,12 +32,14 @@ impl Section<'_> {
         }
     }
 
+    #[inline(always)]
     pub fn below(&self, at: usize, bound: usize) -> Result<usize, Refusal>
         ensures { Passed (Reader.below base self.now.words.now self.now.end bound) at result }
     {
         self.word(at, (word(self.words, at) as usize) < bound)
     }
 
+    #[inline(always)]
     pub fn within(&self, at: usize, least: u32, most: u32) -> Result<usize, Refusal>
         ensures { Passed (Reader.within base self.now.words.now self.now.end least most) at result }
     {
@@ -61,6 +65,7 @@ impl Section<'_> {
         Ok(at)
     }
 
+    #[inline(always)]
     pub fn wire(&self, at: usize) -> Result<usize, Refusal>
         ensures { Passed (Reader.wire self.now.limits self.now.words.now self.now.end) at result }
     {
@@ -73,6 +78,7 @@ impl Section<'_> {
         self.all_below(at, count, self.limits.wires as usize)
     }
 
+    #[inline(always)]
     pub fn bit(&self, at: usize) -> Result<usize, Refusal>
         ensures { Passed (Reader.bit self.now.limits self.now.words.now self.now.end) at result }
     {
@@ -85,6 +91,7 @@ impl Section<'_> {
         self.all_below(at, count, 2 + self.limits.wires as usize)
     }
 
+    #[inline(always)]
     pub fn control(&self, at: usize) -> Result<usize, Refusal>
         ensures { Passed (Reader.control self.now.limits self.now.words.now self.now.end) at result }
     {
@@ -92,6 +99,7 @@ impl Section<'_> {
         self.below(at, 2)
     }
 
+    #[inline(always)]
     pub fn optional_control(&self, at: usize) -> Result<usize, Refusal>
         ensures { Passed (Reader.optional_control self.now.limits self.now.words.now self.now.end) at result }
     {
@@ -104,6 +112,7 @@ impl Section<'_> {
         self.control(at)
     }
 
+    #[inline(always)]
     pub fn optional_reset(&self, at: usize) -> Result<usize, Refusal>
         ensures { Passed (Reader.optional_reset self.now.limits self.now.words.now self.now.end) at result }
     {

@@ -8,8 +8,8 @@ use native.Mathlib.Numerals.{add-one}
 use native.Mathlib.Omega.{arith}
 use denote.MutBor.{MutBor}
 use lib.Dec.{leb}
-use lib.ListN.{length, take, drop, set, length-append}
-use lib.Seq.{sets, sets-eq, drop-drop}
+use lib.ListN.{length, take, drop, get_or, set, length-append, drop_of_length-le}
+use lib.Seq.{sets, sets-eq, drop-cons, drop-drop}
 use borrow.Rule.Slice.PartMut.{put_mid}
 use borrow.Author.Tests.{le-leb, lt-leb}
 use Rattle.recorder.specs.declared.Tape.{Tape}
@@ -30,6 +30,18 @@ pub over_over : (vs ws l : List ℕ) (i : ℕ) → over (over l i vs) (i + lengt
 unfolding over
 over_over [] ws l i = ap (λ (k : ℕ). over l k ws) (add-zero i)
 over_over (v ∷ vs) ws l i = ap (λ (k : ℕ). sets (sets (set l i v) (suc i) vs) k ws) (add-suc i (length vs) ∙ sym (suc-add i (length vs))) ∙ over_over vs ws (set l i v) (suc i)
+
+-- a loop that copies: what is left to lay over the list
+pub copy_start : (l : List ℕ) (at : ℕ) (ws : List ℕ) → over l (at + 0) (drop 0 ws) ≡ over l at ws
+copy_start l at ws = ap (λ (k : ℕ). over l k ws) (add-zero at)
+
+pub copy_step : (l : List ℕ) (at : ℕ) (ws : List ℕ) (i : ℕ) → i < length ws → over (set l (at + i) (get_or ws i 0)) (at + (i + 1)) (drop (i + 1) ws) ≡ over l (at + i) (drop i ws)
+unfolding over
+copy_step l at ws i h = rw (add-one i, add-suc at i) (ap (λ (r : List ℕ). sets l (at + i) r) (sym (drop-cons ws i 0 h)))
+
+pub copy_end : (l : List ℕ) (at : ℕ) (ws : List ℕ) (i : ℕ) → length ws ≤ i → over l (at + i) (drop i ws) ≡ l
+unfolding over
+copy_end l at ws i h = ap (λ (r : List ℕ). sets l (at + i) r) (drop_of_length-le ws h)
 
 -- a part of a list that is written anew
 pub pasted : (l ws new : List ℕ) (at k : ℕ) → at + length ws ≤ length l → k ≡ length ws → new ≡ ws → put_mid at k l new ≡ over l at ws

@@ -11,7 +11,10 @@ fn copy_in(list: &mut [u32], at: usize, words: &[u32])
     requires { at + length words.now ≤ length list.old }
     ensures { list.new ≡ over list.old at words.now }
 {
-    list[at..at + words.len()].copy_from_slice(words);
+    // Not by `copy_from_slice`: an archive for C would need memmove from outside, and a record has few words.
+    for i in 0..words.len() {
+        list[at + i] = words[i];
+    }
 }
 
 // Writes a record behind those that stand in a list: its length, its fields, and more of them. The tape behind it, or None if the list is full.

@@ -17,7 +17,10 @@ pub fn copy(to: &mut [u8], at: usize, from: &[u8], start: usize, n: usize)
         to[at] = from[start];
         return;
     }
-    to[at..at + n].copy_from_slice(&from[start..start + n]);
+    // Not by `copy_from_slice`: an archive for C would need memmove from outside.
+    for i in 0..n {
+        to[at + i] = from[start + i];
+    }
 }
 
 // Copies n bytes within a slice.

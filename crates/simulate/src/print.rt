@@ -39,6 +39,19 @@ impl Outcome<'_> {
     }
 }
 
+// The signals up to the last port's: each tick goes through them, and there may be many behind them.
+fn ports(signals: &[u32]) -> &[u32] {
+    let mut at: usize = 0;
+    let mut end: usize = 0;
+    for fields in Records::new(signals) {
+        at = at.saturating_add(fields.len()).saturating_add(1);
+        if let [0 | 1, _, _] = fields {
+            end = at;
+        }
+    }
+    signals.get(..end).unwrap_or(signals)
+}
+
 // A bit of a list as a digit; none that is missing is one.
 fn digit(bits: &[u8], i: usize) -> u8 {
     match bits.get(i) {
@@ -139,7 +152,7 @@ impl<W: Write> Printer<'_, W> {
         match answer {
             Ok(tapes) => {
                 let outcome = Outcome {
-                    signals: written(outcome.signals, tapes.signals),
+                    signals: ports(written(outcome.signals, tapes.signals)),
                     ..outcome
                 };
                 if vcd {
