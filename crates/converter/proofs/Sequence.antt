@@ -172,7 +172,7 @@ module _ (r : Recorder) (wires places : List ℕ) (works : Works) (ports : Field
   module _ {r₁ : Recorder} {wires₁ places₁ : List ℕ} (h : ReservesNetlist r wires places ports n b (Ok tt) r₁ wires₁ places₁) where
     wrote_both : {e : End (Unit {0})} {r₂ : Recorder} → EmitsNetlist r₁ works wires₁ places₁ ports n b shared e r₂ → shared ≤ 16384 → (limits : Limits) → Ordered limits ports n b → Unmapped wires places → Work works.parts.now → Work works.values.now
         → Writes r (lower_netlist shared (netlist_of ports n b)) e r₂
-    unfolding lower_netlist
+    unfolding lower_netlist emit_netlist
     wrote_both g few limits o u a c = writes_then (h.so limits o u) emitted_from refl (g.so few limits o a c)
 
     pub emit_refused : (x : Refusal) {r₂ : Recorder} → EmitsNetlist r₁ works wires₁ places₁ ports n b shared (no (number_of x) (place_of x)) r₂ → (q : Result Tapes Refusal) → IsErrAnd q (λ y. y ≡ x) → RecordsParts r wires places works ports n b shared q r₂

@@ -1,11 +1,13 @@
 -- What the methods of a `Reserver` promise.
-use Rattle.std.specs.Prelude.{◌≡◌, List, ℕ, ◌<◌, ◌≤◌, length, Result}
+use Rattle.std.specs.Prelude.{◌≡◌, List, ℕ, ◌<◌, ◌≤◌, length, Result, Ok, Err}
 use Rattle.netlist.specs.declared.Limits.{Limits}
 use Rattle.netlist.specs.declared.Bit.{Bit}
 use Rattle.netlist.specs.declared.Bit.TheVariants.{Wire}
 use Rattle.netlist.specs.Fields.{records_at, after, word_at, bit_at}
 use Rattle.refusal.specs.declared.Refusal.{Refusal}
-use Rattle.recorder.specs.Writer.{Writer, End, declare, ◌>>=◌}
+use Rattle.refusal.specs.Refusal.{number_of, place_of}
+use Rattle.recorder.specs.declared.SignalId.{SignalId}
+use Rattle.recorder.specs.Writer.{Writer, End, End.ok, End.no, declare, ◌>>=◌}
 use Rattle.recorder.specs.Record.{Signal}
 use Rattle.recorder.specs.Calls.{SameLists, Writes, ended}
 use Rattle.wires.specs.declared.WireRef.{WireRef}
@@ -42,6 +44,11 @@ mapped q m = ended (λ (u : Unit {0}). m) q
 pub record Reserves (P : Limits → Type 0) (r : Reserver) (w : Writer Wires) (q : Result (Unit {0}) Refusal) (r' : Reserver) : Type 0 where
   pub same : SameTables r r'
   pub so : (limits : Limits) → Room limits r → P limits → Writes r.recorder.now w (mapped q (map_in r')) r'.recorder.now
+
+-- the signal's number, or the refusal, handed on
+abbrev pub signalled : Result SignalId Refusal → End ℕ
+signalled (Ok s) = ok s.0
+signalled (Err x) = no (number_of x) (place_of x)
 
 -- a signal was declared, and the tables hold the map that they held
 pub record Declares (r : Reserver) (x : Signal) (e : End ℕ) (r' : Reserver) : Type 0 where

@@ -37,7 +37,7 @@ pub const WORK: usize = 16384;
 
 // The wire map as it is filled, and where the signals are recorded.
 #[derive(Drop)]
-pub struct Reserver<'a, 'b> {
+struct Reserver<'a, 'b> {
     pub recorder: &'a mut Recorder<'b>,
     pub wires: &'a mut [u32],
     pub places: &'a mut [u32],
@@ -45,14 +45,14 @@ pub struct Reserver<'a, 'b> {
 
 // What the fields of a record hold, one in each word.
 #[derive(Clone, Copy, Debug, PartialEq, Eq)]
-pub enum Content {
+enum Content {
     Bits,
     Wires,
 }
 
 // The work that lowering is lent: the wire map's two tables, the parts and values of records, and the number of each cell's bank.
 #[derive(Drop)]
-pub struct Buffers<'a> {
+struct Buffers<'a> {
     pub wires: &'a mut [u32],
     pub places: &'a mut [u32],
     pub parts: &'a mut [u32],

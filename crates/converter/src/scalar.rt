@@ -2,9 +2,9 @@
 ghost use Rattle.std.specs.Prelude.{◌≡◌, ◌<◌, get_or};
 ghost use Rattle.netlist.specs.Fields.{wires_at};
 ghost use Rattle.netlist.specs.Shape.{Each, FitsBit, FitsWire};
-ghost use Rattle.recorder.specs.Calls.{declared, label_of};
+ghost use Rattle.recorder.specs.Calls.{label_of};
 ghost use Rattle.lowering.specs.Reserve.{signal_of, reserve_scalar, reserve_scalars, reserve_unless, reserve_absent};
-ghost use Rattle.converter.specs.Tables.{map_in, Reserves, held_bits, reserve_bits, Declares};
+ghost use Rattle.converter.specs.Tables.{map_in, Reserves, held_bits, reserve_bits, signalled, Declares};
 
 use crate::{Content, Reserver};
 use netlist::fields::{Fields, word};
@@ -15,7 +15,7 @@ use wires::WireRef;
 impl Reserver<'_, '_> {
     // The next signal. It holds no wires yet.
     pub fn signal(&mut self, label: Label, width: u32, owner: u32) -> Result<SignalId, Refusal>
-        ensures { Declares self.old (signal_of (label_of label) width owner) (declared result) self.new }
+        ensures { Declares self.old (signal_of (label_of label) width owner) (signalled result) self.new }
     {
         self.recorder.signal(label as u32, width, owner)
     }

@@ -1,9 +1,10 @@
 -- What a cell has read, in a table by wire; and what a call that may read writes and leaves there.
-use Rattle.std.specs.Prelude.{List, [], ◌∷◌, ◌≡◌, ◌⊎◌, ◌<◌, ◌≤◌, ◌-◌, ℕ, leb, get_or, length, Bool, cond}
+use Rattle.std.specs.Prelude.{List, [], ◌∷◌, ◌≡◌, ◌⊎◌, ◌<◌, ◌≤◌, ◌-◌, ℕ, leb, min, get_or, length, Bool, cond}
 use Rattle.std.specs.Prelude.{Option, None, Some}
 use Rattle.bits.specs.Bits.{pick}
 use Rattle.wires.specs.declared.Emitter.{Emitter}
 use Rattle.std.proofs.Math.ListN.{set}
+use Rattle.recorder.specs.declared.Tapes.{Tapes}
 use Rattle.recorder.specs.Writer.{Writer, End, End.ok, End.no}
 use Rattle.recorder.specs.Calls.{Writes}
 use Rattle.recorder.specs.Words.{zeroed}
@@ -16,6 +17,10 @@ seen_by first x = pick (leb x first) None (Some (x - 1))
 unfoldable pub seen_of : ℕ → List ℕ → Seen
 seen_of first [] = []
 seen_of first (x ∷ xs) = seen_by first x ∷ seen_of first xs
+
+-- the number of the cell's first expression, or of the next one if there are not so many yet
+abbrev pub begun : ℕ → Tapes → ℕ
+begun first t = min first t.exprs.count
 
 -- what the cell has read by now
 abbrev pub seen_in : Emitter → Seen

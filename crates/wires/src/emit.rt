@@ -15,7 +15,7 @@ use optimize::optimizer::{mux, xor};
 use recorder::ExprId;
 use refusal::Refusal;
 
-impl Emitter<'_, '_> {
+impl Emitter<'_, '_, '_, '_> {
     // A truth table of four inputs, the first the lowest.
     pub fn lut_expression(&mut self, inputs: [ExprId; 4], table: u16) -> Result<ExprId, Refusal>
         ensures { Plain self.old (lut_cofactor (numbers inputs) table) (emitted result) self.new }

@@ -32,10 +32,10 @@ pub fn concat_parts(recorder: &mut Recorder, parts: &[u32], n: u32) -> Result<Ex
 }
 
 // The vector of the n bits that a record has from a field on, widened by zeros, outside of cells: nothing is shared. The work is cleared again.
-pub fn bits_expression<'a, 'b>(
-    recorder: &'a mut Recorder<'b>,
+pub fn bits_expression(
+    recorder: &mut Recorder,
     parts: &mut [u32],
-    map: WireMap<'a>,
+    map: WireMap,
     fields: Fields,
     n: usize,
     width: u32,

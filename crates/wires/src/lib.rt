@@ -9,6 +9,7 @@ pub mod map; // map.rt: what the wire map holds, read outside of cells
 
 ghost use Rattle.std.specs.Prelude.{◌≡◌, ◌≤◌, min};
 
+use crate::once::begun;
 use recorder::{Recorder, SignalId};
 
 // Where a wire's bit is.
@@ -37,22 +38,23 @@ pub struct WireMap<'a> {
 // What a cell is recorded with. The table `seen` holds for each wire the number plus 1 of the expression that read it last; it counts
 // if it is above `first`, the number of the cell's first expression, so that nothing has to be cleared between cells.
 #[derive(Drop)]
-pub struct Emitter<'a, 'b> {
+pub struct Emitter<'a, 'b, 'c, 'd> {
     pub recorder: &'a mut Recorder<'b>,
-    pub seen: &'a mut [u32],
+    pub seen: &'c mut [u32],
     pub first: u32,
-    pub map: WireMap<'a>,
+    pub map: WireMap<'d>,
     ghost begun: { first ≤ recorder.now.tapes.exprs.count },
 }
 
-impl<'a, 'b> Emitter<'a, 'b> {
-    // For whatever number stands as the cell's first expression: one that is not recorded yet counts as the next.
+impl<'a, 'b, 'c, 'd> Emitter<'a, 'b, 'c, 'd> {
+    // For whatever number stands as the cell's first expression: one that is not recorded yet counts as the next. Who made the recorder's
+    // reference learns what it holds in the end only of an `Emitter` written out, with `begun` as its `first`.
     pub fn new(
         recorder: &'a mut Recorder<'b>,
-        seen: &'a mut [u32],
+        seen: &'c mut [u32],
         first: u32,
-        map: WireMap<'a>,
-    ) -> Emitter<'a, 'b>
+        map: WireMap<'d>,
+    ) -> Emitter<'a, 'b, 'c, 'd>
         ensures same_recorder { result.recorder.ghost_name ≡ recorder.entry.ghost_name }
         ensures same_seen { result.seen.ghost_name ≡ seen.entry.ghost_name }
         ensures recorder { result.recorder.now ≡ recorder.old }
@@ -60,7 +62,7 @@ impl<'a, 'b> Emitter<'a, 'b> {
         ensures first { result.first ≡ min first recorder.old.tapes.exprs.count }
         ensures map { result.map ≡ map.entry }
     {
-        let first = first.min(recorder.tapes.exprs.count);
+        let first = begun(first, recorder.tapes);
         Emitter {
             recorder,
             seen,

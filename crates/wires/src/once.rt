@@ -5,15 +5,22 @@ ghost use Rattle.netlist.specs.declared.Bit.TheVariants.{Wire};
 ghost use Rattle.recorder.specs.Calls.{emitted};
 ghost use Rattle.recorder.specs.Words.{zeroed};
 ghost use Rattle.wires.specs.Wires.{wires_in};
-ghost use Rattle.wires.specs.Once.{seen_in, Once, Plain, Sweeps, Begins, Notes};
+ghost use Rattle.wires.specs.Once.{begun, seen_in, Once, Plain, Sweeps, Begins, Notes};
 ghost use Rattle.wires.specs.Expressions.{bit_expression, bit_once, asserted_once, vector_bit, vector_once, roomy};
 
 use crate::Emitter;
 use crate::expressions::{concat_parts, levelled};
 use netlist::fields::{Fields, word};
 use netlist::{Bit, Control};
-use recorder::ExprId;
+use recorder::{ExprId, Tapes};
 use refusal::Refusal;
+
+// The number of the cell's first expression, or of the next one if there are not so many yet.
+pub fn begun(first: u32, t: Tapes) -> u32
+    ensures { result ≡ begun first t }
+{
+    first.min(t.exprs.count)
+}
 
 // Bit i of the n bits that a record has from a field on; zeros behind them.
 fn vector_bit(fields: Fields, n: usize, i: usize) -> Bit
@@ -22,7 +29,7 @@ fn vector_bit(fields: Fields, n: usize, i: usize) -> Bit
     if i < n { fields.bit(i) } else { Bit::Zero }
 }
 
-impl Emitter<'_, '_> {
+impl Emitter<'_, '_, '_, '_> {
     // A cell begins: what was read before does not count.
     pub fn begin(&mut self)
         ensures { Begins self.old self.new }
