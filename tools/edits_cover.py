@@ -46,7 +46,8 @@ class Item:
 
     def __init__(self, file, path, trait, owner, name):
         self.file, self.path, self.trait, self.owner, self.name = file, path, trait, owner, name
-        self.lines, self.cited, self.callable, self.promises, self.calls, self.constants = set(), set(), False, False, set(), set()
+        self.lines, self.cited, self.calls, self.constants = set(), set(), set(), set()
+        self.public = self.constant = self.promises = self.callable = False
 
     def __str__(self):
         owner = f'<{self.owner} as {self.trait}>::' if self.trait else f'{self.owner}::' if self.owner else ''
@@ -65,7 +66,7 @@ def calls_in(body):
         yield whose, m[2]
 
 
-def items(file, path, public):
+def items(file, path):
     """The functions and constants of a file."""
     text = re.sub(r'(?m)//.*$', '', file.read_text())
     imports = {}
@@ -112,7 +113,7 @@ def items(file, path, public):
             depth += {'[': 1, '(': 1, '{': 1, ']': -1, ')': -1, '}': -1}.get(text[end], 0)
             end += 1
         c = item(m[1], m.start())
-        c.public, c.constant = False, True
+        c.constant = True
         c.lines = line_numbers(text, m.start(), end)
         c.calls = set(calls_in(text[m.end():end]))
         c.constants = set(re.findall(r'(?:\b(\w+)::)?\b([A-Z][A-Z0-9_]*)\b', text[m.end():end]))
@@ -123,17 +124,17 @@ def crate_of(lib):
     """The functions and constants of a crate, and of the functions whether another crate can call them."""
     found, types, traits = [], {}, {}
     files = list(source_files(lib, lib.parts[-3], True))
+    reachable = {file: public for file, path, public in files}
     for file, path, public in files:
         for pub, name in TYPE.findall(file.read_text()):
-            types[name] = public and bool(pub)
+            types[name] = types.get(name, False) or public and bool(pub)
     for file, path, public in files:
-        found += items(file, path, public)
+        found += items(file, path)
     for f in found:
         if f.trait == 'trait':
             traits[f.owner, f.name] = f
     for f in found:
-        public = dict((file, public) for file, path, public in files)[f.file]
-        if getattr(f, 'constant', False) or f.trait == 'trait':
+        if f.constant or f.trait == 'trait':
             continue
         if f.trait:
             if law := traits.get((f.trait, f.name)):
@@ -142,14 +143,14 @@ def crate_of(lib):
         elif f.owner:
             f.callable = f.public and types.get(f.owner, False)
         else:
-            f.callable = f.public and public
+            f.callable = f.public and reachable[f.file]
     return found
 
 
 def led_to(f, found):
     """What is not callable and what a function or constant of a crate leads to by a call or a name."""
     for whose, name in f.calls:
-        named = [h for h in found if h.name == name and not getattr(h, 'constant', False) and h.trait != 'trait']
+        named = [h for h in found if h.name == name and not h.constant and h.trait != 'trait']
         if whose in ('self', 'a value'):
             named = [h for h in named if h.owner]
             if whose == 'self':
@@ -163,7 +164,7 @@ def led_to(f, found):
         named = [h for h in named if not h.callable]
         yield from [h for h in named if h.file == f.file] or named
     for whose, name in f.constants:
-        named = [h for h in found if h.name == name and getattr(h, 'constant', False) and h.owner == ((f.owner if whose == 'Self' else whose) or None)]
+        named = [h for h in found if h.name == name and h.constant and h.owner == ((f.owner if whose == 'Self' else whose) or None)]
         yield from [h for h in named if h.file == f.file] or named
 
 
