@@ -156,7 +156,9 @@ pub fn run(
         stmts,
     };
     let r = run_with(m, bytes, ticks, fired, &mut works, &mut tables, &mut order);
-    works.clear();
+    works.bits.fill(0);
+    works.exprs.fill(0);
+    works.signals.fill(0);
     r
 }
 
